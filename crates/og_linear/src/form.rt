@@ -1,0 +1,225 @@
+//! Linear forms.
+
+ghost use Rattle.std.specs.Prelude.{◌≡◌, [], ◌<◌, ◌≤◌, ◌↔◌, IsTrue, IfOk, OnErr, All, length, slice_get};
+ghost use Rattle.og_linear.specs.Linear.{form_value, is_term, val, IsSmall, IsTidy};
+ghost use Rattle.og_linear.specs.Arith as arith;
+ghost use Rattle.og_linear.specs.Answer.{IsAnswer, checked};
+ghost use Rattle.og_linear.specs.declared.fault.FormFault.TheVariants as faults;
+
+use crate::fault::{FormError, FormFault};
+use crate::map::Map;
+use crate::state::State;
+use crate::terms::{ceil_div, multiples, others, product_of, quotients, sum_of, sums, weighed};
+use std::alloc::{AllocError, Global};
+use std::marker::Model;
+
+/// A sum of variables with nonzero coefficients, and a constant.
+///
+/// Contracts see the variables, rising, each with its coefficient, and the constant: whole numbers within `i128`.
+#[derive(Debug, Drop)]
+pub struct Form {
+    terms: Vec<(u32, i128)>,
+    constant: i128,
+}
+
+impl Model for Form {
+    ghost use Rattle.std.specs.Prelude.{◌≡◌, true};
+    ghost use Rattle.og_linear.specs.Linear.{FormValue, form_value, IsTidy};
+    ghost use Rattle.og_linear.specs.Arith.{fits_terms};
+
+    ghost Value = { FormValue };
+
+    ghost view = { λ f. form_value f.terms.items f.constant };
+
+    ghost invariant = { λ f. IsTidy f.terms.items × (fits_terms f.terms.items ≡ true) };
+}
+
+impl Form {
+    /// The form without variables. Takes no memory.
+    pub fn constant(alloc: Global, c: i128) -> Form
+        ensures { result ≡ form_value [] c }
+    {
+        Form {
+            terms: Vec::new(alloc),
+            constant: c,
+        }
+    }
+
+    /// The form that is the variable itself.
+    pub fn variable(alloc: Global, var: u32) -> Result<Form, AllocError>
+        ensures { IfOk result (λ f. f ≡ arith.variable var) }
+    {
+        let mut terms = Vec::new(alloc);
+        terms.push((var, 1))?;
+        Ok(Form { terms, constant: 0 })
+    }
+
+    /// An equal form.
+    pub fn copy(&self) -> Result<Form, AllocError>
+        ensures { IfOk result (λ f. f ≡ self.now) }
+    {
+        Ok(Form {
+            terms: self.terms.clone()?,
+            constant: self.constant,
+        })
+    }
+
+    /// The constant.
+    pub fn offset(&self) -> i128
+        ensures { result ≡ self.now.constant }
+    {
+        self.constant
+    }
+
+    /// The i-th variable and its coefficient, counted from 0. The variables rise, and no coefficient is 0.
+    pub fn term(&self, i: usize) -> Option<(u32, i128)>
+        ensures found { result ≡ slice_get self.now.terms i }
+        ensures tidy { IsTidy self.now.terms }
+    {
+        self.terms.get(i).copied()
+    }
+
+    /// Whether the variable occurs in the form.
+    pub fn mentions(&self, var: u32) -> bool
+        ensures { result ≡ is_term var self.now.terms }
+    {
+        for t in &self.terms {
+            if var == t.0 {
+                return true;
+            }
+        }
+        false
+    }
+
+    // k times the form.
+    fn scaled(&self, k: i128) -> Result<Form, FormError>
+        ensures { IsAnswer (λ f. f) faults.TooLarge result (checked (arith.scaled k self.now)) }
+    {
+        let terms = multiples(*self.terms.allocator(), k, &self.terms)?;
+        let constant = product_of(k, self.constant)?;
+        Ok(Form { terms, constant })
+    }
+
+    // The sum of two forms.
+    fn plus(&self, other: &Form) -> Result<Form, FormError>
+        ensures { IsAnswer (λ f. f) faults.TooLarge result (checked (arith.plus self.now other.now)) }
+    {
+        let terms = sums(*self.terms.allocator(), &self.terms, &other.terms)?;
+        let constant = sum_of(self.constant, other.constant)?;
+        Ok(Form { terms, constant })
+    }
+
+    /// Adds k times the other form.
+    ///
+    /// `TooLarge` where a product of k and a number of the other form, or a sum of such a product and a number of
+    /// this form, leaves `i128`. An error leaves the form as it was.
+    pub fn add_scaled(&mut self, k: i128, other: &Form) -> Result<(), FormError>
+        ensures answer { IsAnswer (λ _. self.new) faults.TooLarge result (arith.add_scaled self.old k other.now) }
+        ensures unchanged { OnErr result (self.new ≡ self.old) }
+    {
+        let sum = self.plus(&other.scaled(k)?)?;
+        *self = sum;
+        Ok(())
+    }
+
+    // The coefficient of the variable, 0 where it doesn't occur.
+    fn coefficient(&self, var: u32) -> i128
+        ensures { result ≡ arith.coefficient var self.now.terms }
+    {
+        for t in &self.terms {
+            if var == t.0 {
+                return t.1;
+            }
+        }
+        0
+    }
+
+    // The form without the variable.
+    fn without(&self, var: u32) -> Result<Form, AllocError>
+        ensures { IfOk result (λ f. f ≡ arith.without var self.now) }
+    {
+        Ok(Form {
+            terms: others(*self.terms.allocator(), var, &self.terms)?,
+            constant: self.constant,
+        })
+    }
+
+    /// The form with the other one in place of the variable: the form without it, and then once its coefficient times
+    /// the other form added.
+    ///
+    /// `TooLarge` where that addition leaves `i128`, as in `add_scaled`.
+    pub fn replace(&self, var: u32, form: &Form) -> Result<Form, FormError>
+        ensures { IsAnswer (λ f. f) faults.TooLarge result (arith.replace var form.now self.now) }
+    {
+        let mut sum = self.without(var)?;
+        sum.add_scaled(self.coefficient(var), form)?;
+        Ok(sum)
+    }
+
+    // Adds k times the form that stands for the variable.
+    fn add_image(&mut self, k: i128, map: &Map, var: u32) -> Result<(), FormError>
+        ensures { IsAnswer (λ _. self.new) faults.TooLarge result (arith.add_scaled self.old k (arith.image map.now var)) }
+    {
+        match map.named(var) {
+            Some(form) => self.add_scaled(k, form),
+            None => {
+                let own = Form::variable(*self.terms.allocator(), var)?;
+                self.add_scaled(k, &own)
+            }
+        }
+    }
+
+    /// The form with the map's forms in place of the variables, all at once: the constant, and then for each rising
+    /// variable its coefficient times its form added.
+    ///
+    /// `TooLarge` where one of these additions leaves `i128`, as in `add_scaled`.
+    pub fn apply(&self, map: &Map) -> Result<Form, FormError>
+        ensures { IsAnswer (λ f. f) faults.TooLarge result (arith.apply map.now self.now) }
+    {
+        let mut sum = Form::constant(*self.terms.allocator(), self.constant);
+        for t in &self.terms {
+            sum.add_image(t.1, map, t.0)?;
+        }
+        Ok(sum)
+    }
+
+    /// The form cut by d: each coefficient divided by d, and the constant divided and rounded up. Over whole numbers
+    /// it is at most 0 exactly where the form is.
+    ///
+    /// `NotDivisible` where d is below 1 or doesn't divide some coefficient.
+    pub fn cut(&self, d: i128) -> Result<Form, FormError>
+        ensures { IsAnswer (λ f. f) faults.NotDivisible result (arith.cut self.now d) }
+    {
+        if d < 1 {
+            return Err(FormError::Fault(FormFault::NotDivisible));
+        }
+        let terms = quotients(*self.terms.allocator(), d, &self.terms)?;
+        let constant = ceil_div(self.constant, d);
+        Ok(Form { terms, constant })
+    }
+
+    /// Whether the form is within the limits of a source: coefficients of magnitude at most 2147483648, and a
+    /// constant in the range of `i64`.
+    pub fn is_small(&self) -> bool
+        ensures { IsTrue result ↔ IsSmall self.now }
+    {
+        let constant = i128::from(i64::MIN) <= self.constant
+            && self.constant <= i128::from(i64::MAX);
+        constant && self.terms.iter().all(|t| t.1.unsigned_abs() <= 1 << 31)
+    }
+
+    /// The value of the form at the state. Takes no memory.
+    pub fn value(&self, state: &State) -> i128
+        requires small { IsSmall self.now }
+        requires few { length self.now.terms ≤ 256 }
+        requires within { All (λ t. t.0 < length state.now) self.now.terms }
+        ensures { result ≡ val self.now state.now }
+    {
+        let values = state.as_slice();
+        let mut sum = 0;
+        for t in &self.terms {
+            sum += weighed(t.1, values[t.0 as usize]);
+        }
+        sum + self.constant
+    }
+}
