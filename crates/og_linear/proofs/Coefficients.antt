@@ -1,11 +1,11 @@
 -- Terms as a finite map from variables to coefficients.
-use Rattle.std.proofs.Common.{◌≡◌, ◌≢◌, ℕ, ◌+◌, ◌<◌, ◌≤◌, ℤ, pos, ◌+ℤ◌, ◌*ℤ◌, [], ◌∷◌, Bool, true, false, ◌&&◌, cond, if◌then◌else◌, Option, Some, None, refl, sym, ap, ap₂, ◌∙◌, subst, arith, length, drop, get_or, drop-cons}
+use Rattle.std.proofs.Common.{◌≡◌, ℕ, ◌+◌, ◌<◌, ℤ, pos, ◌+ℤ◌, ◌*ℤ◌, [], ◌∷◌, Bool, true, false, ◌&&◌, cond, if◌then◌else◌, Some, None, refl, sym, ap, ap₂, ◌∙◌, subst, arith, length, drop, get_or, drop-cons}
 use Rattle.std.specs.Prelude.{nat_lt, ◌==◌, not, filter, IsSome, ◌↔◌}
 use Rattle.std.specs.Ordering.{int_eq}
 use Rattle.std.proofs.lemmas.Int.{ints}
 use Rattle.std.proofs.lemmas.Bool.{cond_both, cond-true, cond-false, ne_eqb, eq-eqb, ltb-true, ltb-false, eqb-true, eqb-false, and_parts, both_ways}
 use Rattle.std.proofs.lemmas.Bool.Decides.{Decides-int_eq}
-use Rattle.std.proofs.Math.IntN.{*ℤ-zero, +ℤ_idl, +ℤ_idr}
+use Rattle.std.proofs.Math.IntN.{*ℤ-zero, +ℤ_idl}
 use Rattle.og_linear.specs.Linear.{Terms, FormValue, IsTidyFrom, IsTidy}
 use Rattle.og_linear.specs.Arith.{with_term, scale_terms, merge_in, merge, scaled, plus, coefficient, without, fits_i128, fits_terms, fits_form, add_scaled, EachFits}
 use Rattle.og_linear.proofs.Steps.{tidy_scale, tidy_merge}

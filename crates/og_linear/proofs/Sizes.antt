@@ -1,5 +1,5 @@
 -- How large products and sums get.
-use Rattle.std.proofs.Common.{◌≡◌, ℕ, suc, ◌+◌, ◌*◌, ◌≤◌, ◌<◌, ◌^◌, ℤ, pos, negsuc, ◌+ℤ◌, ◌*ℤ◌, List, length, drop, get_or, FitsSigned, arith, ap}
+use Rattle.std.proofs.Common.{◌≡◌, ℕ, ◌+◌, ◌*◌, ◌≤◌, ◌<◌, ◌^◌, ℤ, pos, negsuc, ◌+ℤ◌, ◌*ℤ◌, List, length, drop, get_or, FitsSigned, arith, ap}
 use mir.Syntax.{w64, w128}
 use Rattle.std.specs.Prelude.{nat_abs}
 use Rattle.std.proofs.Math.Nat.{mul-le-mul}

@@ -1,6 +1,6 @@
 -- Forms, states, and the value of a form at a state.
-use Rattle.std.specs.Prelude.{◌≢◌, ℕ, zero, suc, ◌+◌, ◌<◌, ℤ, pos, ◌+ℤ◌, ◌*ℤ◌, List, [], ◌∷◌, All, get_or, FitsSigned, ⊤, Bool, ◌==◌, ◌≤◌, ◌^◌, nat_abs}
-use Rattle.std.specs.List.{list_any}
+use Rattle.std.specs.Prelude.{◌≢◌, ℕ, zero, suc, ◌+◌, ◌<◌, ℤ, pos, negsuc, ◌+ℤ◌, ◌*ℤ◌, List, [], ◌∷◌, All, get_or, FitsSigned, ⊤, Bool, ◌==◌, ◌&&◌, nat_lt, nat_le, ◌^◌, nat_abs}
+use Rattle.std.specs.List.{list_any, list_all}
 use mir.Syntax.{w64}
 
 -- variables, each with its coefficient
@@ -27,9 +27,13 @@ IsTidy = IsTidyFrom 0
 abbrev pub is_term : ℕ → Terms → Bool
 is_term x = list_any (λ t. x == t.0)
 
+abbrev pub fits_i64 : ℤ → Bool
+fits_i64 (pos n) = nat_lt n (2 ^ 63)
+fits_i64 (negsuc n) = nat_lt n (2 ^ 63)
+
 -- the limits of a source: coefficients up to 2 ^ 31 in magnitude, and a constant that is an i64
-abbrev pub IsSmall : FormValue → Type 0
-IsSmall f = All (λ t. nat_abs t.1 ≤ 2 ^ 31) f.terms × FitsSigned w64 f.constant
+abbrev pub is_small : FormValue → Bool
+is_small f = list_all (λ t. nat_le (nat_abs t.1) (2 ^ 31)) f.terms && fits_i64 f.constant
 
 -- ---- states
 

@@ -1,7 +1,7 @@
 //! Linear forms.
 
-ghost use Rattle.std.specs.Prelude.{◌≡◌, [], ◌<◌, ◌≤◌, ◌↔◌, IsTrue, IfOk, OnErr, All, length, slice_get};
-ghost use Rattle.og_linear.specs.Linear.{form_value, is_term, val, IsSmall, IsTidy};
+ghost use Rattle.std.specs.Prelude.{◌≡◌, [], ◌<◌, ◌≤◌, true, IfOk, OnErr, All, length, slice_get};
+ghost use Rattle.og_linear.specs.Linear.{form_value, is_term, val, is_small, IsTidy};
 ghost use Rattle.og_linear.specs.Arith as arith;
 ghost use Rattle.og_linear.specs.Answer.{IsAnswer, checked};
 ghost use Rattle.og_linear.specs.declared.fault.FormFault.TheVariants as faults;
@@ -9,13 +9,16 @@ ghost use Rattle.og_linear.specs.declared.fault.FormFault.TheVariants as faults;
 use crate::fault::{FormError, FormFault};
 use crate::map::Map;
 use crate::state::State;
-use crate::terms::{ceil_div, multiples, others, product_of, quotients, sum_of, sums, weighed};
+use crate::terms::{
+    are_small, ceil_div, fits_i64, multiples, others, product_of, quotients, sum_of, sums, weighed,
+};
 use std::alloc::{AllocError, Global};
 use std::marker::Model;
 
 /// A sum of variables with nonzero coefficients, and a constant.
 ///
-/// Contracts see the variables, rising, each with its coefficient, and the constant: whole numbers within `i128`.
+/// Contracts see the variables, rising, each with its coefficient, and the constant: whole numbers
+/// within `i128`.
 #[derive(Debug, Drop)]
 pub struct Form {
     terms: Vec<(u32, i128)>,
@@ -71,7 +74,8 @@ impl Form {
         self.constant
     }
 
-    /// The i-th variable and its coefficient, counted from 0. The variables rise, and no coefficient is 0.
+    /// The i-th variable and its coefficient, counted from 0. The variables rise, and no
+    /// coefficient is 0.
     pub fn term(&self, i: usize) -> Option<(u32, i128)>
         ensures found { result ≡ slice_get self.now.terms i }
         ensures tidy { IsTidy self.now.terms }
@@ -111,8 +115,8 @@ impl Form {
 
     /// Adds k times the other form.
     ///
-    /// `TooLarge` where a product of k and a number of the other form, or a sum of such a product and a number of
-    /// this form, leaves `i128`. An error leaves the form as it was.
+    /// `TooLarge` where a product of k and a number of the other form, or a sum of such a product
+    /// and a number of this form, leaves `i128`. An error leaves the form as it was.
     pub fn add_scaled(&mut self, k: i128, other: &Form) -> Result<(), FormError>
         ensures answer { IsAnswer (λ _. self.new) faults.TooLarge result (arith.add_scaled self.old k other.now) }
         ensures unchanged { OnErr result (self.new ≡ self.old) }
@@ -144,8 +148,8 @@ impl Form {
         })
     }
 
-    /// The form with the other one in place of the variable: the form without it, and then once its coefficient times
-    /// the other form added.
+    /// The form with the other one in place of the variable: the form without it, and then once its
+    /// coefficient times the other form added.
     ///
     /// `TooLarge` where that addition leaves `i128`, as in `add_scaled`.
     pub fn replace(&self, var: u32, form: &Form) -> Result<Form, FormError>
@@ -158,7 +162,8 @@ impl Form {
 
     // Adds k times the form that stands for the variable.
     fn add_image(&mut self, k: i128, map: &Map, var: u32) -> Result<(), FormError>
-        ensures { IsAnswer (λ _. self.new) faults.TooLarge result (arith.add_scaled self.old k (arith.image map.now var)) }
+        ensures { IsAnswer (λ _. self.new) faults.TooLarge result
+            (arith.add_scaled self.old k (arith.image map.now var)) }
     {
         match map.named(var) {
             Some(form) => self.add_scaled(k, form),
@@ -169,8 +174,8 @@ impl Form {
         }
     }
 
-    /// The form with the map's forms in place of the variables, all at once: the constant, and then for each rising
-    /// variable its coefficient times its form added.
+    /// The form with the map's forms in place of the variables, all at once: the constant, and then
+    /// for each rising variable its coefficient times its form added.
     ///
     /// `TooLarge` where one of these additions leaves `i128`, as in `add_scaled`.
     pub fn apply(&self, map: &Map) -> Result<Form, FormError>
@@ -183,8 +188,8 @@ impl Form {
         Ok(sum)
     }
 
-    /// The form cut by d: each coefficient divided by d, and the constant divided and rounded up. Over whole numbers
-    /// it is at most 0 exactly where the form is.
+    /// The form cut by d: each coefficient divided by d, and the constant divided and rounded up.
+    /// Over whole numbers it is at most 0 exactly where the form is.
     ///
     /// `NotDivisible` where d is below 1 or doesn't divide some coefficient.
     pub fn cut(&self, d: i128) -> Result<Form, FormError>
@@ -198,19 +203,17 @@ impl Form {
         Ok(Form { terms, constant })
     }
 
-    /// Whether the form is within the limits of a source: coefficients of magnitude at most 2147483648, and a
-    /// constant in the range of `i64`.
+    /// Whether the form is within the limits of a source: coefficients of magnitude at most
+    /// 2147483648, and a constant in the range of `i64`.
     pub fn is_small(&self) -> bool
-        ensures { IsTrue result ↔ IsSmall self.now }
+        ensures { result ≡ is_small self.now }
     {
-        let constant = i128::from(i64::MIN) <= self.constant
-            && self.constant <= i128::from(i64::MAX);
-        constant && self.terms.iter().all(|t| t.1.unsigned_abs() <= 1 << 31)
+        are_small(&self.terms) && fits_i64(self.constant)
     }
 
     /// The value of the form at the state. Takes no memory.
     pub fn value(&self, state: &State) -> i128
-        requires small { IsSmall self.now }
+        requires small { is_small self.now ≡ true }
         requires few { length self.now.terms ≤ 256 }
         requires within { All (λ t. t.0 < length state.now) self.now.terms }
         ensures { result ≡ val self.now state.now }

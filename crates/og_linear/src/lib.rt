@@ -1,4 +1,5 @@
-//! Linear forms over numbered variables with exact refusals, maps from variables to forms, and states.
+//! Linear forms over numbered variables with exact refusals, maps from variables to forms, and
+//! states.
 #![tactic(auto)]
 
 mod fault;

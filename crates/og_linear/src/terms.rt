@@ -1,6 +1,8 @@
 //! Arithmetic on lists of terms: rising variables, each with its nonzero coefficient.
 
-ghost use Rattle.std.specs.Prelude.{◌≡◌, ◌++◌, [], ℤ, pos, ◌+ℤ◌, ◌*ℤ◌, ◌≤ℤ◌, ◌^◌, ◌≤◌, nat_abs, true, IfOk, IfErr, OnOk};
+ghost use Rattle.std.specs.Prelude.{◌≡◌, ◌++◌, [], ℤ, pos, ◌+ℤ◌, ◌*ℤ◌, ◌≤ℤ◌, ◌^◌, ◌≤◌, nat_abs, nat_le, true, IfOk, IfErr, OnOk};
+ghost use Rattle.std.specs.List.{list_all};
+ghost use Rattle.og_linear.specs.Linear.{fits_i64};
 ghost use Rattle.og_linear.specs.Arith.{with_term, scale_terms, merge, fits_terms};
 ghost use Rattle.og_linear.specs.Arith as arith;
 ghost use Rattle.og_linear.specs.Answer.{IsAnswer, checked_terms, checked_int, divided_int, divided_terms};
@@ -22,6 +24,20 @@ pub(crate) fn sum_of(c: i128, d: i128) -> Result<i128, FormError>
 {
     c.checked_add(d)
         .ok_or(FormError::Fault(FormFault::TooLarge))
+}
+
+// Whether the number is an `i64`.
+pub(crate) fn fits_i64(c: i128) -> bool
+    ensures { result ≡ fits_i64 c }
+{
+    i128::from(i64::MIN) <= c && c <= i128::from(i64::MAX)
+}
+
+// Whether each coefficient is within the limits of a source.
+pub(crate) fn are_small(terms: &[(u32, i128)]) -> bool
+    ensures { result ≡ list_all (λ t. nat_le (nat_abs t.1) (2 ^ 31)) terms.now }
+{
+    terms.iter().all(|t| t.1.unsigned_abs() <= 1 << 31)
 }
 
 // The least whole number that is not below c / d.

@@ -1,4 +1,4 @@
-use Rattle.std.proofs.Common.{pos, get_or, rules, FitsSigned, ◌∙◌, ◌<◌, length, ap, arith}
+use Rattle.std.proofs.Common.{pos, get_or, rules, FitsSigned, ◌∙◌, ap}
 use mir.Syntax.{w128}
 use Rattle.std.proofs.lemmas.Int.{to_z-of_z}
 use Rattle.og_linear.specs.Arith.{coefficient}

@@ -1,4 +1,4 @@
-use Rattle.std.proofs.Common.{ℕ, ◌<◌, ℤ, pos, length, get_or, FitsSigned, arith, rules, subst, below_more, sym, ap}
+use Rattle.std.proofs.Common.{ℕ, ℤ, pos, length, get_or, FitsSigned, arith, rules, subst, below_more, ap}
 use mir.Syntax.{w64}
 use Rattle.std.proofs.lemmas.List.{get_or_default}
 use Rattle.og_linear.proofs.state.State.new.Goals as goal
