@@ -1,4 +1,4 @@
 pub mod Linear
 pub mod Arith
 pub mod Answer
-pub mod Fault
+pub mod Faults

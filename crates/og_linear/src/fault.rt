@@ -2,7 +2,7 @@
 
 ghost use Rattle.std.specs.Prelude.{◌≡◌};
 ghost use Rattle.og_linear.specs.declared.fault.FormError.TheVariants.{Memory};
-ghost use Rattle.og_linear.specs.Fault.{number_of, name_of};
+ghost use Rattle.og_linear.specs.Faults.{number_of_fault, name_of_fault};
 
 use std::alloc::{AllocError, AllocFailed};
 use thiserror::Error;
@@ -21,7 +21,7 @@ pub enum FormFault {
 impl FormFault {
     /// The number of the refusal: 5 TooLarge, 6 NotDivisible.
     pub fn number(&self) -> u8
-        ensures { result ≡ number_of self.now }
+        ensures { result ≡ number_of_fault self.now }
     {
         match self {
             FormFault::TooLarge => 5,
@@ -31,7 +31,7 @@ impl FormFault {
 
     /// The name of the refusal.
     pub fn name(&self) -> &'static str
-        ensures { result.now ≡ name_of self.now }
+        ensures { result.now ≡ name_of_fault self.now }
     {
         match self {
             FormFault::TooLarge => "TooLarge",

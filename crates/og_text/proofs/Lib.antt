@@ -1,0 +1,7 @@
+pub mod Values
+pub mod Pieces
+pub mod Cuts
+pub mod Found
+pub mod Symbols
+pub mod Starts
+pub mod OneCut
