@@ -1,0 +1,6 @@
+pub mod Laws
+pub mod More
+pub mod Wider
+pub mod Loops
+pub mod Bundle
+pub mod Whole

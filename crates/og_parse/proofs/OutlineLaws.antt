@@ -1,0 +1,70 @@
+-- The laws of reading outlines.
+use Rattle.std.proofs.Common.{ℕ, ◌≤◌, ◌<◌, Bool, true, false, List, [], refl, arith}
+use Rattle.std.specs.Prelude.{unwrap_or}
+use Rattle.og_text.specs.declared.token.TokenKind.TheVariants as kinds
+use Rattle.og_grammar.specs.Language.{Language, One, Separated}
+use Rattle.og_grammar.specs.Reading.{Reader, nothing, is_a, or}
+use Rattle.og_grammar.proofs.Laws.{Laws}
+use Rattle.og_grammar.proofs.More.{then_avoids}
+use Rattle.og_grammar.proofs.Bundle.{Reads, is_a_fails, avoids_by, symbol_avoids, then_avoids_both, if_symbol_avoids, symbol_reads, then_reads, next_reads, map_reads, separated_reads, if_symbol_reads}
+use Rattle.og_parse.specs.Words.{name_of}
+use Rattle.og_parse.specs.Grammar.{IsAux, IsListed, IsSeq, IsMain, IsOutline}
+use Rattle.og_parse.specs.Reads.{aux_at, names_at, auxes_at, listed_by, main_at, processes_at, outline_at}
+use Rattle.og_parse.proofs.TermLaws.{name_reads, int_reads}
+use Rattle.og_parse.proofs.AssertionLaws.{note_level, note_starts}
+use Rattle.og_parse.proofs.StatementLaws.{after_seq, rest_of_block_reads, seq_level}
+
+aux_reads : {More : Type 0} → Reads More aux_at aux_at IsAux IsAux nothing
+unfolding aux_at
+aux_reads = next_reads (name_reads nothing) (λ name. next_reads (symbol_reads kinds.Equal nothing) (λ at. map_reads (λ value. record { name = name; value = value }) int_reads))
+
+-- what goes on with a list
+abbrev after_list : ℕ → Bool
+after_list = or (is_a kinds.Comma) nothing
+
+names_reads : {More : Type 0} → Reads More names_at names_at (Separated kinds.Comma (One name_of)) (Separated kinds.Comma (One name_of)) after_list
+unfolding names_at
+names_reads = separated_reads kinds.Comma (name_reads nothing) refl
+
+auxes_reads : {More : Type 0} → Reads More auxes_at auxes_at (Separated kinds.Comma IsAux) (Separated kinds.Comma IsAux) after_list
+unfolding auxes_at
+auxes_reads = separated_reads kinds.Comma aux_reads refl
+
+listed_reads : {More : Type 0} {X : Type 0} {list : Reader (List X)} {each : Language X} → Reads More list list (Separated kinds.Comma each) (Separated kinds.Comma each) after_list → Reads More (listed_by list) (listed_by list) (IsListed each) (IsListed each) nothing
+unfolding listed_by
+listed_reads all = then_reads all (λ all. map_reads (λ at. all) (symbol_reads kinds.Semicolon nothing)) (λ all. symbol_avoids kinds.Semicolon after_list refl)
+
+module _ {More : Type 0} (n m : ℕ) (le : n ≤ m) (more : More → n < m) where
+  main_reads : Reads More (main_at n) (main_at m) (IsMain n) (IsMain m) (or (is_a kinds.Begin) nothing)
+  unfolding main_at
+  main_reads = if_symbol_reads kinds.Begin (rest_of_block_reads n m le more (seq_level false n m le more))
+
+  processes_reads : Reads More (processes_at n) (processes_at m) (Separated kinds.Parallel (IsSeq n true n)) (Separated kinds.Parallel (IsSeq m true m)) (or (is_a kinds.Parallel) after_seq)
+  unfolding processes_at
+  processes_reads = separated_reads kinds.Parallel (seq_level true n m le more) refl
+
+  pub outline_level : Reads More (outline_at n) (outline_at m) (IsOutline n) (IsOutline m) nothing
+  unfolding outline_at
+  outline_level =
+      then_reads (if_symbol_reads kinds.Var (listed_reads names_reads))
+      (λ vars. then_reads (if_symbol_reads kinds.Aux (listed_reads auxes_reads))
+      (λ auxes. next_reads (note_level n m le more)
+      (λ pre. then_reads main_reads
+      (λ prologue. next_reads (symbol_reads kinds.Cobegin nothing)
+      (λ cobegin. then_reads processes_reads
+      (λ processes. next_reads (symbol_reads kinds.Coend nothing)
+      (λ coend. then_reads main_reads
+      (λ epilogue. map_reads (λ post. record { vars = unwrap_or vars []; auxes = unwrap_or auxes []; pre = pre; prologue = prologue; cobegin = cobegin; processes = processes; epilogue = epilogue; post = post }) (note_level n m le more))
+      (λ epilogue. then_avoids (avoids_by (is_a_fails kinds.OpenBrace (or (is_a kinds.Begin) nothing) refl) (note_starts m)))))
+      (λ processes. symbol_avoids kinds.Coend (or (is_a kinds.Parallel) after_seq) refl)))
+      (λ prologue. symbol_avoids kinds.Cobegin (or (is_a kinds.Begin) nothing) refl)))
+      (λ auxes. then_avoids (avoids_by (is_a_fails kinds.OpenBrace (or (is_a kinds.Aux) nothing) refl) (note_starts m))))
+      (λ vars. then_avoids_both (if_symbol_avoids kinds.Aux (IsListed IsAux) (or (is_a kinds.Var) nothing) refl) (λ auxes. then_avoids (avoids_by (is_a_fails kinds.OpenBrace (or (is_a kinds.Var) nothing) refl) (note_starts m))))
+
+pub outline_reads : (n m : ℕ) → n < m → Reads (Unit {0}) (outline_at n) (outline_at m) (IsOutline n) (IsOutline m) nothing
+outline_reads n m lt = outline_level n m (omega arith) (λ p. lt)
+
+-- ---- the parts that loops read
+
+pub aux_laws : Laws aux_at IsAux nothing
+aux_laws = (aux_reads {More = ⊥}).laws

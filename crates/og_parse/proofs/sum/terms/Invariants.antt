@@ -1,0 +1,11 @@
+use Rattle.std.proofs.Common.{◌≡◌, length}
+use Rattle.og_grammar.specs.Reading.{many_at}
+use Rattle.og_grammar.proofs.Loops.{with_front}
+use Rattle.og_parse.specs.Reads.{a_sign, term_after_at, terms_at}
+use Rattle.og_parse.proofs.sum.terms.Given as goal
+
+abbrev pub invariant-more : goal.invariant-more
+invariant-more l = with_front l.all.items (many_at a_sign term_after_at l.rest) ≡ terms_at l.tokens
+
+abbrev pub decreases-more : goal.decreases-more
+decreases-more l = length l.rest

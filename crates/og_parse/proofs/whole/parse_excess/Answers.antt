@@ -1,0 +1,12 @@
+use Rattle.og_parse.specs.Trees.{tree_of}
+use Rattle.og_parse.specs.Faults.{level_limit, statement_limit}
+use Rattle.og_parse.proofs.Parsing.{excess_ok, excess_err}
+use Rattle.og_parse.proofs.whole.parse_excess.Goals as goal
+
+pub returns-in-Ok : goal.returns-in-Ok
+unfolding level_limit
+returns-in-Ok c = λ tokens x. excess_ok level_limit statement_limit tokens c.args.front.now c.args.span x (tree_of c.in-Ok.field-0.0) c.in-Ok.field-0.1.now c.in-Ok.ensures
+
+pub returns-in-Err : goal.returns-in-Err
+unfolding level_limit
+returns-in-Err c = λ tokens x. rw c.excess_error.ensures (excess_err level_limit statement_limit tokens c.args.front.now c.args.span x c.in-Err.refusal c.in-Err.ensures)

@@ -1,0 +1,9 @@
+pub mod Trees
+pub mod Words
+pub mod Grammar
+pub mod Reads
+pub mod Faults
+pub mod Answers
+pub mod Print
+pub mod Plain
+pub mod Again

@@ -1,0 +1,188 @@
+use super::*;
+use crate::raw::{
+    Raw, RawAssert, RawFactor, RawItem, RawName, RawNote, RawSeq, RawStmt, RawSum, RawTerm,
+    Relation, Sign,
+};
+use crate::whole::parse;
+use og_text::{Name, Span, lex};
+use std::alloc::{AllocError, Global};
+use std::test::Fail;
+
+fn parsed(alloc: Global, source: &str) -> Result<Raw, Fail> {
+    let tokens = lex(alloc, source.as_bytes())?;
+    Ok(parse(alloc, tokens.as_slice())?)
+}
+
+#[test]
+fn prints_outlines(rt: HostRuntime) -> Result<(), Fail> {
+    let rows = [
+        (
+            "var y; {y = 0} cobegin {y = 0} skip {y = 0} // {true} y := 1 {true} coend {true}",
+            "var y;\n{y = 0}\ncobegin\n  {y = 0}\n  skip\n  {y = 0}\n//\n  {true}\n  y := 1\n  {true}\ncoend\n{true}\n",
+        ),
+        (
+            "{(true and true) or true} cobegin {true -> (true -> true)} skip {(true -> true) -> true} coend {(true and true) and true}",
+            "{true and true or true}\ncobegin\n  {true -> true -> true}\n  skip\n  {(true -> true) -> true}\ncoend\n{(true and true) and true}\n",
+        ),
+        (
+            "{not (not (true))} cobegin {not ((true or false))} skip {(true or false) and true} coend {(true -> false) or (true and false)}",
+            "{not not true}\ncobegin\n  {not (true or false)}\n  skip\n  {(true or false) and true}\ncoend\n{(true -> false) or true and false}\n",
+        ),
+        (
+            "var x,y; aux a=0,b=-01; {-2*x-3+y<=-0} cobegin {x<>0} begin_ := - y {x>y} coend {true}",
+            "var x, y;\naux a = 0, b = -1;\n{-2*x - 3 + y <= -0}\ncobegin\n  {x <> 0}\n  begin_ := -y\n  {x > y}\ncoend\n{true}\n",
+        ),
+        (
+            "{true} begin {true} while x<1 do begin {true} skip {true} end {true} end cobegin {true} if x>=0 then begin {true} skip {true} end else begin {true} await true then begin skip end {true} end {true} await x<y then begin skip;x:=1 end {true} coend {true}",
+            "{true}\nbegin\n  {true}\n  while x < 1 do begin\n    {true}\n    skip\n    {true}\n  end\n  {true}\nend\ncobegin\n  {true}\n  if x >= 0 then begin\n    {true}\n    skip\n    {true}\n  end else begin\n    {true}\n    await true then skip\n    {true}\n  end\n  {true}\n  await x < y then begin skip; x := 1 end\n  {true}\ncoend\n{true}\n",
+        ),
+    ];
+    for (source, lines) in rows {
+        let raw = parsed(rt.alloc(), source)?;
+        assert_eq!(rt;
+            print_outline(rt.alloc(), &raw)?.as_slice(),
+            lines.as_bytes()
+        );
+        let again = parsed(rt.alloc(), lines)?;
+        assert_eq!(rt;
+            print_outline(rt.alloc(), &again)?.as_slice(),
+            lines.as_bytes()
+        );
+    }
+    Ok(())
+}
+
+#[test]
+fn prints_programs(rt: HostRuntime) -> Result<(), Fail> {
+    let rows = [
+        (
+            "var x; {x = 0} cobegin {true} await true then x := x + 1 {true} // {true} await true then x := x + 1 {true} coend {x = 2}",
+            "var x;\ncobegin\n  await true then x := x + 1\n//\n  await true then x := x + 1\ncoend\n",
+        ),
+        (
+            "var x; {true} begin {true} x := 0 {x = 0} end cobegin {x = 0} await true then x := x + 1 {x = 1} coend begin {x = 1} x := x + 1 {x = 2} end {x = 2}",
+            "var x;\nbegin\n  x := 0\nend\ncobegin\n  await true then x := x + 1\ncoend\nbegin\n  x := x + 1\nend\n",
+        ),
+        (
+            "{true} cobegin {true} if x = 0 then begin {true} skip {true} skip {true} end {true} while false do begin {true} skip {true} end {true} skip {true} coend {true}",
+            "cobegin\n  if x = 0 then begin\n    skip;\n    skip\n  end;\n  while false do begin\n    skip\n  end;\n  skip\ncoend\n",
+        ),
+    ];
+    for (source, lines) in rows {
+        let raw = parsed(rt.alloc(), source)?;
+        assert_eq!(rt;
+            print_program(rt.alloc(), &raw)?.as_slice(),
+            lines.as_bytes()
+        );
+    }
+    Ok(())
+}
+
+const NOWHERE: Span = Span { start: 0, end: 0 };
+
+fn truth() -> RawNote {
+    RawNote {
+        assertion: RawAssert::True,
+        span: NOWHERE,
+    }
+}
+
+fn name(alloc: Global, text: &str) -> Result<RawName, AllocError> {
+    let name = Name::new(Vec::from_slice(alloc, text.as_bytes())?);
+    Ok(RawName {
+        name,
+        span: NOWHERE,
+    })
+}
+
+fn sum(alloc: Global, factor: RawFactor) -> Result<RawSum, AllocError> {
+    let terms = vec![in alloc;
+        RawTerm {
+            sign: Sign::Plus,
+            factor
+        },
+    ]?;
+    Ok(RawSum {
+        terms,
+        span: NOWHERE,
+    })
+}
+
+// x = 0
+fn x_is_zero(alloc: Global) -> Result<RawAssert, AllocError> {
+    let left = sum(alloc, RawFactor::Variable(name(alloc, "x")?))?;
+    let right = sum(alloc, RawFactor::Number(0))?;
+    Ok(RawAssert::Compare(left, Relation::Equal, right))
+}
+
+fn none(alloc: Global) -> RawSeq {
+    RawSeq {
+        items: Vec::new(alloc),
+        last: truth(),
+    }
+}
+
+// {true} stmt {true}
+fn one(alloc: Global, stmt: RawStmt) -> Result<RawSeq, AllocError> {
+    let items = vec![in alloc;
+        RawItem {
+            before: truth(),
+            stmt,
+            span: NOWHERE
+        },
+    ]?;
+    Ok(RawSeq {
+        items,
+        last: truth(),
+    })
+}
+
+// The outline of these processes, and its program in print.
+fn program(
+    alloc: Global,
+    vars: Vec<RawName>,
+    processes: Vec<RawSeq>,
+) -> Result<Vec<u8>, AllocError> {
+    let raw = Raw {
+        vars,
+        auxes: Vec::new(alloc),
+        pre: truth(),
+        prologue: None,
+        cobegin: NOWHERE,
+        processes,
+        epilogue: None,
+        post: truth(),
+    };
+    print_program(alloc, &raw)
+}
+
+#[test]
+fn prints_an_await_without_a_body(rt: HostRuntime) -> Result<(), Fail> {
+    let alloc = rt.alloc();
+    let wait = RawStmt::Await(x_is_zero(alloc)?, Vec::new(alloc));
+    let processes = vec![in alloc; one(alloc, wait)?]?;
+    let text = program(alloc, vec![in alloc; name(alloc, "x")?]?, processes)?;
+    assert_eq!(rt;
+        text.as_slice(),
+        "var x;\ncobegin\n  await x = 0 then begin end\ncoend\n".as_bytes()
+    );
+    Ok(())
+}
+
+#[test]
+fn prints_empty_sequences(rt: HostRuntime) -> Result<(), Fail> {
+    let alloc = rt.alloc();
+    let text = program(
+        alloc,
+        Vec::new(alloc),
+        vec![in alloc; none(alloc), none(alloc)]?,
+    )?;
+    assert_eq!(rt; text.as_slice(), "cobegin\n//\ncoend\n".as_bytes());
+    let turns = one(alloc, RawStmt::While(RawAssert::True, none(alloc)))?;
+    let text = program(alloc, Vec::new(alloc), vec![in alloc; turns]?)?;
+    assert_eq!(rt;
+        text.as_slice(),
+        "cobegin\n  while true do begin\n  end\ncoend\n".as_bytes()
+    );
+    Ok(())
+}

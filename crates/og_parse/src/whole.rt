@@ -1,0 +1,152 @@
+//! Parsing a list of tokens, with the limit on statements.
+
+ghost use Rattle.std.specs.Prelude.{◌≡◌, ℕ, ◌<◌, ◌≤◌, ◌&&◌, List, Result, Ok, Err, IfOk, MatchOption, length};
+ghost use Rattle.og_text.specs.declared.token.Token.{Token};
+ghost use Rattle.og_parse.specs.declared.fault.ParseFault.{ParseFault};
+ghost use Rattle.og_parse.specs.Trees.{Outline, outline_count};
+ghost use Rattle.og_parse.specs.Grammar.{IsOutline, IsAnyOutline};
+ghost use Rattle.og_parse.specs.Faults.{level_limit, statement_limit, begins_statement, closes_note, statement_count, place_of, IsFault, IsParsed};
+ghost use Rattle.og_parse.specs.Answers.{IsExcess, error_of, excess_error};
+
+use crate::fault::{ParseError, ParseFault};
+use crate::outline::whole;
+use crate::raw::Raw;
+use og_grammar::{FaultKind, Refusal};
+use og_text::{Span, Token, TokenKind};
+use std::alloc::Global;
+
+const LEVELS: u32 = 100;
+
+const STATEMENTS: usize = 4096;
+
+// Whether a statement begins with this token, behind a `}` or not.
+fn begins_statement(closed: bool, kind: &TokenKind) -> bool
+    ensures { result ≡ (closed && begins_statement kind.now) }
+{
+    closed
+        && matches!(
+            kind,
+            TokenKind::Name(_)
+                | TokenKind::Skip
+                | TokenKind::If
+                | TokenKind::While
+                | TokenKind::Await
+        )
+}
+
+// Whether an assertion in braces ends so.
+fn closes_note(kind: &TokenKind) -> bool
+    ensures { result ≡ closes_note kind.now }
+{
+    matches!(kind, TokenKind::CloseBrace)
+}
+
+// The tokens up to the first statement above the limit, and the place of its first token.
+fn excess(tokens: &[Token], limit: usize) -> Option<(&[Token], Span)>
+    ensures { MatchOption result (statement_count tokens.now ≤ limit) (λ x. IsExcess limit tokens.now x.0.now x.1) }
+{
+    let mut count = 0;
+    let mut closed = false;
+    for (i, token) in tokens.iter().enumerate() {
+        if begins_statement(closed, &token.kind) {
+            if count == limit {
+                return Some((&tokens[..=i], token.span));
+            }
+            count += 1;
+        }
+        closed = closes_note(&token.kind);
+    }
+    None
+}
+
+// The place of the first token that is left, or the empty one at the last token's end.
+fn place(tokens: &[Token], rest: &[Token]) -> Span
+    ensures { result ≡ place_of tokens.now rest.now }
+{
+    match rest {
+        [token, ..] => token.span,
+        [] => {
+            let end = match tokens {
+                [] => 0,
+                [.., last] => last.span.end,
+            };
+            Span { start: end, end }
+        }
+    }
+}
+
+// The error, where there are not too many statements.
+fn error(tokens: &[Token], refusal: Refusal) -> ParseError
+    ensures { result ≡ error_of tokens.now refusal.entry }
+{
+    match refusal {
+        Refusal::Memory => ParseError::Memory,
+        Refusal::Fault(FaultKind::Expected, rest) => {
+            ParseError::Fault(ParseFault::Expected(place(tokens, rest)))
+        }
+        Refusal::Fault(FaultKind::TooDeep, rest) => {
+            ParseError::Fault(ParseFault::TooDeep(place(tokens, rest)))
+        }
+    }
+}
+
+// The error, where the last of the tokens that were read begins a statement too many, at `span`.
+fn excess_error(refusal: Refusal, span: Span) -> ParseError
+    ensures { result ≡ excess_error refusal.entry span }
+{
+    match refusal {
+        Refusal::Memory => ParseError::Memory,
+        Refusal::Fault(FaultKind::Expected, [token, ..]) => {
+            ParseError::Fault(ParseFault::Expected(token.span))
+        }
+        Refusal::Fault(FaultKind::TooDeep, [token, _, ..]) => {
+            ParseError::Fault(ParseFault::TooDeep(token.span))
+        }
+        _ => ParseError::Fault(ParseFault::TooManyStatements(span)),
+    }
+}
+
+// Parses tokens whose last one begins a statement too many, at `span`.
+fn parse_excess(alloc: Global, front: &[Token], span: Span) -> ParseError
+    ensures { (tokens : List Token) → IsExcess statement_limit tokens front.now span → IsParsed level_limit statement_limit tokens (Err result) }
+{
+    match whole(alloc, LEVELS, front) {
+        Ok(_) => return ParseError::Fault(ParseFault::TooManyStatements(span)),
+        Err(refusal) => return excess_error(refusal, span),
+    }
+}
+
+/// The outline that the tokens stand for.
+///
+/// An error is the first fault in token order, or `Memory`: `Expected` at the first token with
+/// which no outline goes on, `TooManyStatements` at the 4,097th statement outside the bodies of
+/// awaits, `TooDeep` at the token that opens the 101st level; at one token in this order. The time
+/// and the memory are in proportion to the number of tokens. A tree has at least one process.
+pub fn parse(alloc: Global, tokens: &[Token]) -> Result<Raw, ParseError>
+    ensures parsed { IsParsed level_limit statement_limit tokens.now result }
+    ensures some_process { IfOk result (λ raw. 0 < length raw.processes.items) }
+{
+    if let Some((front, span)) = excess(tokens, STATEMENTS) {
+        return Err(parse_excess(alloc, front, span));
+    }
+    match whole(alloc, LEVELS, tokens) {
+        Ok((raw, _)) => Ok(raw),
+        Err(refusal) => Err(error(tokens, refusal)),
+    }
+}
+
+/// A list of tokens stands for at most one outline.
+pub fn one_tree()
+    ensures { (one other : Outline) (tokens : List Token) → IsAnyOutline one tokens → IsAnyOutline other tokens → one ≡ other }
+{}
+
+/// Tokens have one answer: those of an outline within limits have no fault, and no tokens have two.
+pub fn one_answer()
+    ensures outline { (levels statements : ℕ) (tokens : List Token) (outline : Outline) (fault : ParseFault) → IsOutline levels outline tokens → statement_count tokens ≤ statements → IsFault levels statements tokens fault → ⊥ }
+    ensures fault { (levels statements : ℕ) (tokens : List Token) (one other : ParseFault) → IsFault levels statements tokens one → IsFault levels statements tokens other → one ≡ other }
+{}
+
+/// The statements of an outline, outside the bodies of awaits, are as many as its tokens begin.
+pub fn one_count()
+    ensures { (outline : Outline) (tokens : List Token) → IsAnyOutline outline tokens → statement_count tokens ≡ outline_count outline }
+{}
