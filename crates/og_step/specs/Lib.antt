@@ -1,0 +1,9 @@
+pub mod Readable
+pub mod Actions
+pub mod Stack
+pub mod Faults
+pub mod Turns
+pub mod Progress
+pub mod Starts
+pub mod After
+pub mod Inside

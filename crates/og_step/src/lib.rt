@@ -1,0 +1,17 @@
+//! The steps of an outline: truth at a state, and moments that step.
+#![tactic(auto)]
+
+mod depth;
+mod fault;
+mod moment;
+#[cfg(test)]
+mod tests;
+mod todo;
+mod truth;
+mod turn;
+mod values;
+
+pub use fault::{StartError, StartFault};
+pub use moment::{Moment, start};
+pub use truth::holds;
+pub use turn::Turn;

@@ -1,0 +1,53 @@
+//! Worked examples.
+
+ghost use Rattle.std.specs.Prelude.{◌≡◌, IfOk, length};
+
+use crate::{StartFault, holds};
+use og_linear::{Form, State};
+use og_typed::Assert;
+use std::alloc::{AllocError, Global};
+use std::test::Fail;
+
+// The state that gives the one variable this value.
+fn state(alloc: Global, value: i64) -> Result<State, AllocError>
+    ensures { IfOk result (λ s. length s ≡ 1) }
+{
+    Ok(State::new(Vec::from_slice(alloc, &[value])?))
+}
+
+// Truth of a relation of the variable to 0, and of its negation.
+#[test]
+fn relations(rt: HostRuntime) -> Result<(), Fail> {
+    let alloc = rt.alloc();
+    for (value, le, eq) in [
+        (-1, true, false),
+        (0, true, true),
+        (1, false, false),
+        (i64::MAX, false, false),
+        (i64::MIN, true, false),
+    ] {
+        let s = state(alloc, value)?;
+        let at_most = Assert::Le(Form::variable(alloc, 0)?);
+        let equal = Assert::Eq(Form::variable(alloc, 0)?);
+        let other = Assert::Ne(Form::variable(alloc, 0)?);
+        assert!(rt; holds(&at_most, &s) == le, "x <= 0 at {value}");
+        assert!(rt; holds(&equal, &s) == eq, "x = 0 at {value}");
+        assert!(rt; holds(&other, &s) != eq, "x != 0 at {value}");
+        let not = Assert::Not(Box::new(alloc, at_most)?);
+        assert!(rt; holds(&not, &s) != le, "not x <= 0 at {value}");
+        let imp = Assert::Imp(Box::new(alloc, equal)?, Box::new(alloc, Assert::False)?);
+        assert!(rt; holds(&imp, &s) != eq, "x = 0 => false at {value}");
+    }
+    Ok(())
+}
+
+#[test]
+fn refusals(rt: HostRuntime) {
+    for (fault, number, name) in [
+        (StartFault::WrongLength, 51, "WrongLength"),
+        (StartFault::NotPre, 50, "NotPre"),
+    ] {
+        assert_eq!(rt; fault.number(), number);
+        assert_eq!(rt; fault.name(), name);
+    }
+}

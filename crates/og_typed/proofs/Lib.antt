@@ -1,0 +1,16 @@
+pub mod Alone
+pub mod Turns
+pub mod Each
+pub mod Frame
+pub mod Lists
+pub mod Erasing
+pub mod Growth
+pub mod Naming
+pub mod Within
+pub mod SumSteps
+pub mod Behind
+pub mod RawTrees
+pub mod Counting
+pub mod Following
+pub mod Below
+pub mod Meets

@@ -1,0 +1,13 @@
+pub mod Syntax
+pub mod Plain
+pub mod Truth
+pub mod Machine
+pub mod Rule
+pub mod Erase
+pub mod Codes
+pub mod Outlined
+pub mod Faults
+pub mod Resolved
+pub mod Answer
+pub mod Bounds
+pub mod Scoped

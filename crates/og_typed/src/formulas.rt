@@ -1,0 +1,80 @@
+//! Resolving assertions.
+
+ghost use Rattle.std.specs.Prelude.{◌≡◌, map};
+ghost use Rattle.og_parse.specs.Trees.{assertion_of, listed, note_of};
+ghost use Rattle.og_typed.specs.Answer.{IsResolved};
+ghost use Rattle.og_typed.specs.Plain.{formula, noted};
+ghost use Rattle.og_typed.specs.Syntax.{formula_list};
+ghost use Rattle.og_typed.specs.Resolved as meaning;
+ghost use Rattle.og_typed.specs.Scoped.{scope_of, use_of};
+
+use crate::assertion::Assert;
+use crate::fault::TypeError;
+use crate::scope::{Scope, Use};
+use crate::statement::Note;
+use crate::sums::comparison;
+use og_parse::{RawAssert, RawNote};
+use std::alloc::Global;
+
+// The assertion that a tree stands for.
+#[cycle(assertions)]
+#[tactic(auto, using(crate::proofs::Lists::formula_and, crate::proofs::Lists::formula_or))]
+pub(crate) fn assertion(
+    alloc: Global,
+    scope: &Scope<'_>,
+    usage: Use,
+    raw: &RawAssert,
+) -> Result<Assert, TypeError>
+    ensures { IsResolved formula result (meaning.assertion (scope_of scope.now) (use_of usage) (assertion_of raw.now)) }
+{
+    match raw {
+        RawAssert::True => Ok(Assert::True),
+        RawAssert::False => Ok(Assert::False),
+        RawAssert::Compare(left, relation, right) => {
+            comparison(alloc, scope, usage, left, *relation, right)
+        }
+        RawAssert::Not(a) => {
+            let a = assertion(alloc, scope, usage, a)?;
+            Ok(Assert::Not(Box::new(alloc, a)?))
+        }
+        RawAssert::And(all) => Ok(Assert::And(assertions(alloc, scope, usage, all)?)),
+        RawAssert::Or(all) => Ok(Assert::Or(assertions(alloc, scope, usage, all)?)),
+        RawAssert::Implies(a, b) => {
+            let a = assertion(alloc, scope, usage, a)?;
+            let b = assertion(alloc, scope, usage, b)?;
+            Ok(Assert::Imp(Box::new(alloc, a)?, Box::new(alloc, b)?))
+        }
+    }
+}
+
+// The assertions of a list.
+#[cycle(assertions)]
+fn assertions(
+    alloc: Global,
+    scope: &Scope<'_>,
+    usage: Use,
+    all: &[RawAssert],
+) -> Result<Vec<Assert>, TypeError>
+    ensures { IsResolved (λ v. formula_list (map formula v.items)) result (meaning.assertions (scope_of scope.now) (use_of usage) (listed (map assertion_of all.now))) }
+{
+    let mut resolved = Vec::new(alloc);
+    for a in all {
+        resolved.push(assertion(alloc, scope, usage, a)?)?;
+    }
+    Ok(resolved)
+}
+
+// An assertion with its place.
+pub(crate) fn note(
+    alloc: Global,
+    scope: &Scope<'_>,
+    usage: Use,
+    raw: &RawNote,
+) -> Result<Note, TypeError>
+    ensures { IsResolved noted result (meaning.note (scope_of scope.now) (use_of usage) (note_of raw.now)) }
+{
+    Ok(Note {
+        assertion: assertion(alloc, scope, usage, &raw.assertion)?,
+        at: raw.span.start,
+    })
+}

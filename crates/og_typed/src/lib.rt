@@ -1,0 +1,21 @@
+//! Outlines: annotated parallel programs whose names are resolved.
+#![tactic(auto)]
+
+mod assertion;
+mod fault;
+mod formulas;
+mod names;
+mod outline;
+mod resolving;
+mod scope;
+mod sequences;
+mod statement;
+mod sums;
+#[cfg(test)]
+mod tests;
+
+pub use assertion::Assert;
+pub use fault::{TypeError, TypeFault};
+pub use outline::Outline;
+pub use resolving::resolve;
+pub use statement::{Basic, Item, Note, Seq, Stmt};
