@@ -19,4 +19,3 @@ mod CutParts
 mod CutTree
 mod PlainCounts
 mod ReadBack
-mod SomeProcess

@@ -17,6 +17,7 @@ use Rattle.og_parse.specs.declared.raw.RawNote.{RawNote}
 use Rattle.og_parse.specs.declared.raw.RawStmt.{RawStmt}
 use Rattle.og_parse.specs.declared.raw.RawItem.{RawItem}
 use Rattle.og_parse.specs.declared.raw.RawSeq.{RawSeq}
+use Rattle.og_parse.specs.declared.raw.RawProcesses.{RawProcesses}
 use Rattle.og_parse.specs.declared.raw.RawStmt.TheOpen.{RawStmt-F, RawItem-F, RawSeq-F}
 use Rattle.og_parse.specs.declared.raw.RawStmt.TheFolds.{fold-RawStmt, fold-RawSeq, fold-RawItem}
 use Rattle.og_parse.specs.declared.raw.Raw.{Raw}
@@ -163,6 +164,9 @@ item_of = fold-RawItem Stmt Item Seq stmt_step item_step seq_step
 abbrev pub seq_of : RawSeq → Seq
 seq_of = fold-RawSeq Stmt Item Seq stmt_step item_step seq_step
 
+abbrev pub seqs_of : RawProcesses → List Seq
+seqs_of processes = seq_of processes.first ∷ map seq_of processes.others.items
+
 abbrev pub tree_of : Raw → Outline
 tree_of raw = record {
   vars = raw.vars.items;
@@ -170,7 +174,7 @@ tree_of raw = record {
   pre = note_of raw.pre;
   prologue = option_map seq_of raw.prologue;
   cobegin = raw.cobegin;
-  processes = map seq_of raw.processes.items;
+  processes = seqs_of raw.processes;
   epilogue = option_map seq_of raw.epilogue;
   post = note_of raw.post;
 }

@@ -163,7 +163,7 @@ fn disjunction(
 /// Reads an assertion with at most `depth` levels.
 #[cycle(assertions)]
 #[tactic(auto, unfolding(crate::specs::Reads::assertion_by))]
-pub fn assertion(
+pub(crate) fn assertion(
     alloc: Global,
     depth: u32,
     tokens: &[Token],
@@ -179,7 +179,11 @@ pub fn assertion(
 
 /// Reads an assertion in braces.
 #[tactic(auto, unfolding(crate::specs::Reads::note_at, crate::specs::Reads::braced_at))]
-pub fn note(alloc: Global, depth: u32, tokens: &[Token]) -> Result<(RawNote, &[Token]), Refusal<'_>>
+pub(crate) fn note(
+    alloc: Global,
+    depth: u32,
+    tokens: &[Token],
+) -> Result<(RawNote, &[Token]), Refusal<'_>>
     ensures { IsRead (λ x. (note_of x.0, x.1.now)) result (note_at depth tokens.now) }
 {
     let span = first_span(tokens);

@@ -14,7 +14,7 @@ use std::alloc::Global;
 
 /// Reads a `skip` or an assignment.
 #[tactic(auto, unfolding(crate::specs::Reads::basic_at, crate::specs::Reads::skip_at, crate::specs::Reads::assignment_at))]
-pub fn basic(alloc: Global, tokens: &[Token]) -> Result<(RawBasic, &[Token]), Refusal<'_>>
+pub(crate) fn basic(alloc: Global, tokens: &[Token]) -> Result<(RawBasic, &[Token]), Refusal<'_>>
     ensures { IsRead (λ x. (basic_of x.0, x.1.now)) result (basic_at tokens.now) }
 {
     if starts(tokens, &TokenKind::Skip) {
@@ -54,7 +54,10 @@ fn elements(alloc: Global, tokens: &[Token]) -> Result<(Vec<RawElement>, &[Token
 
 /// Reads the body of an await: one statement, or several between `begin` and `end`.
 #[tactic(auto, unfolding(crate::specs::Reads::body_at, crate::specs::Reads::elements_at))]
-pub fn body(alloc: Global, tokens: &[Token]) -> Result<(Vec<RawElement>, &[Token]), Refusal<'_>>
+pub(crate) fn body(
+    alloc: Global,
+    tokens: &[Token],
+) -> Result<(Vec<RawElement>, &[Token]), Refusal<'_>>
     ensures { IsRead (λ x. (map element_of x.0.items, x.1.now)) result (body_at tokens.now) }
 {
     if starts(tokens, &TokenKind::Begin) {

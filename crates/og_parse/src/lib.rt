@@ -26,6 +26,6 @@ pub use fault::{ParseError, ParseFault};
 pub use print::{print_outline, print_program};
 pub use raw::{
     Raw, RawAssert, RawAux, RawBasic, RawElement, RawFactor, RawInt, RawItem, RawName, RawNote,
-    RawSeq, RawStmt, RawSum, RawTerm, Relation, Sign,
+    RawProcesses, RawSeq, RawStmt, RawSum, RawTerm, Relation, Sign,
 };
 pub use whole::{one_answer, one_count, one_tree, parse};

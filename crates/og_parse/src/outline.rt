@@ -1,14 +1,14 @@
 //! Reading outlines.
 
-ghost use Rattle.std.specs.Prelude.{◌≡◌, map, option_map, unwrap_or, []};
+ghost use Rattle.std.specs.Prelude.{◌≡◌, option_map, unwrap_or, []};
 ghost use Rattle.og_text.specs.declared.token.TokenKind.TheVariants.{Var, Aux};
 ghost use Rattle.og_grammar.specs.Gives.{IsRead};
 ghost use Rattle.og_grammar.specs.Reading.{if_symbol_at, whole_at};
-ghost use Rattle.og_parse.specs.Trees.{seq_of, tree_of};
+ghost use Rattle.og_parse.specs.Trees.{seq_of, seqs_of, tree_of};
 ghost use Rattle.og_parse.specs.Reads.{aux_at, names_at, auxes_at, listed_by, main_at, processes_at, outline_at};
 
 use crate::assertions::note;
-use crate::raw::{Raw, RawAux, RawName, RawSeq};
+use crate::raw::{Raw, RawAux, RawName, RawProcesses, RawSeq};
 use crate::statements::{rest_of_block, sequence};
 use crate::sum::int;
 use crate::word::name;
@@ -121,19 +121,18 @@ fn processes(
     alloc: Global,
     levels: u32,
     tokens: &[Token],
-) -> Result<(Vec<RawSeq>, &[Token]), Refusal<'_>>
-    ensures { IsRead (λ x. (map seq_of x.0.items, x.1.now)) result (processes_at levels tokens.now) }
+) -> Result<(RawProcesses, &[Token]), Refusal<'_>>
+    ensures { IsRead (λ x. (seqs_of x.0, x.1.now)) result (processes_at levels tokens.now) }
 {
     let (first, mut rest) = sequence(alloc, levels, true, levels, tokens)?;
-    let mut all = Vec::new(alloc);
-    all.push(first)?;
+    let mut others = Vec::new(alloc);
     'more: while starts(rest, &TokenKind::Parallel) {
         let (_, after) = symbol(rest, &TokenKind::Parallel)?;
         let (next, after) = sequence(alloc, levels, true, levels, after)?;
-        all.push(next)?;
+        others.push(next)?;
         rest = after;
     }
-    Ok((all, rest))
+    Ok((RawProcesses { first, others }, rest))
 }
 
 #[tactic(auto, unfolding(crate::specs::Reads::outline_at))]
@@ -164,7 +163,11 @@ fn outline(alloc: Global, levels: u32, tokens: &[Token]) -> Result<(Raw, &[Token
 
 /// Reads all of the tokens as an outline, with at most `levels` levels of assertions and of
 /// statements.
-pub fn whole(alloc: Global, levels: u32, tokens: &[Token]) -> Result<(Raw, &[Token]), Refusal<'_>>
+pub(crate) fn whole(
+    alloc: Global,
+    levels: u32,
+    tokens: &[Token],
+) -> Result<(Raw, &[Token]), Refusal<'_>>
     ensures { IsRead (λ x. (tree_of x.0, x.1.now)) result (whole_at (outline_at levels) tokens.now) }
 {
     let (raw, rest) = outline(alloc, levels, tokens)?;

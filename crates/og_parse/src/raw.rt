@@ -18,12 +18,20 @@ pub struct Raw {
     pub prologue: Option<RawSeq>,
     /// The place of `cobegin`.
     pub cobegin: Span,
-    /// The processes: at least one in a tree that was parsed. A process begins at its first note.
-    pub processes: Vec<RawSeq>,
+    /// The processes.
+    pub processes: RawProcesses,
     /// The statements after `coend`.
     pub epilogue: Option<RawSeq>,
     /// The assertion after everything.
     pub post: RawNote,
+}
+
+/// The processes: at least one. A process begins at its first note.
+#[derive(Debug, Drop)]
+pub struct RawProcesses {
+    pub first: RawSeq,
+    /// Those behind a `//`.
+    pub others: Vec<RawSeq>,
 }
 
 /// A name where it stands.

@@ -157,7 +157,7 @@ fn step(
 /// levels of statements, and with an await only where `awaits` is true.
 #[cycle(statements)]
 #[tactic(auto, unfolding(crate::specs::Reads::seq_by))]
-pub fn sequence(
+pub(crate) fn sequence(
     alloc: Global,
     levels: u32,
     awaits: bool,
@@ -197,7 +197,7 @@ pub fn sequence(
 /// Reads a sequence and the `end` behind it.
 #[cycle(statements)]
 #[tactic(auto, unfolding(crate::specs::Reads::rest_of_block_by))]
-pub fn rest_of_block(
+pub(crate) fn rest_of_block(
     alloc: Global,
     levels: u32,
     awaits: bool,

@@ -74,7 +74,7 @@ fn terms(alloc: Global, tokens: &[Token]) -> Result<(Vec<RawTerm>, &[Token]), Re
 
 /// Reads a sum.
 #[tactic(auto, unfolding(crate::specs::Reads::sum_at))]
-pub fn sum(alloc: Global, tokens: &[Token]) -> Result<(RawSum, &[Token]), Refusal<'_>>
+pub(crate) fn sum(alloc: Global, tokens: &[Token]) -> Result<(RawSum, &[Token]), Refusal<'_>>
     ensures { IsRead (λ x. (sum_of x.0, x.1.now)) result (sum_at tokens.now) }
 {
     let span = first_span(tokens);
@@ -84,7 +84,7 @@ pub fn sum(alloc: Global, tokens: &[Token]) -> Result<(RawSum, &[Token]), Refusa
 
 /// Reads an initial value.
 #[tactic(auto, unfolding(crate::specs::Reads::int_at, crate::specs::Reads::signed_at))]
-pub fn int(tokens: &[Token]) -> Result<(RawInt, &[Token]), Refusal<'_>>
+pub(crate) fn int(tokens: &[Token]) -> Result<(RawInt, &[Token]), Refusal<'_>>
     ensures { IsRead (λ x. (x.0, x.1.now)) result (int_at tokens.now) }
 {
     let span = first_span(tokens);
@@ -95,7 +95,10 @@ pub fn int(tokens: &[Token]) -> Result<(RawInt, &[Token]), Refusal<'_>>
 
 /// Reads two sums with a relation between them.
 #[tactic(auto, unfolding(crate::specs::Reads::comparison_at))]
-pub fn comparison(alloc: Global, tokens: &[Token]) -> Result<(RawAssert, &[Token]), Refusal<'_>>
+pub(crate) fn comparison(
+    alloc: Global,
+    tokens: &[Token],
+) -> Result<(RawAssert, &[Token]), Refusal<'_>>
     ensures { IsRead (λ x. (assertion_of x.0, x.1.now)) result (comparison_at tokens.now) }
 {
     let (left, rest) = sum(alloc, tokens)?;

@@ -281,7 +281,7 @@ fn keeps_signs_and_places(rt: HostRuntime) -> Result<(), Fail> {
         "Raw {{ vars: [], auxes: {auxes}, pre: {pre}, prologue: {prologue}, cobegin: {cobegin}, "
     )?;
     let after = format!(in rt.alloc();
-        "processes: [{first}, {second}], epilogue: None, post: {post} }}"
+        "processes: RawProcesses {{ first: {first}, others: [{second}] }}, epilogue: None, post: {post} }}"
     )?;
     let expected = text(rt.alloc(), before.as_str(), "", 0, after.as_str())?;
     assert_eq!(rt; got.as_str(), expected.as_str());

@@ -1,6 +1,6 @@
 //! Parsing a list of tokens, with the limit on statements.
 
-ghost use Rattle.std.specs.Prelude.{◌≡◌, ℕ, ◌<◌, ◌≤◌, ◌&&◌, List, Result, Ok, Err, IfOk, MatchOption, length};
+ghost use Rattle.std.specs.Prelude.{◌≡◌, ℕ, ◌<◌, ◌≤◌, ◌&&◌, List, Result, Ok, Err, MatchOption, length};
 ghost use Rattle.og_text.specs.declared.token.Token.{Token};
 ghost use Rattle.og_parse.specs.declared.fault.ParseFault.{ParseFault};
 ghost use Rattle.og_parse.specs.Trees.{Outline, outline_count};
@@ -121,10 +121,9 @@ fn parse_excess(alloc: Global, front: &[Token], span: Span) -> ParseError
 /// An error is the first fault in token order, or `Memory`: `Expected` at the first token with
 /// which no outline goes on, `TooManyStatements` at the 4,097th statement outside the bodies of
 /// awaits, `TooDeep` at the token that opens the 101st level; at one token in this order. The time
-/// and the memory are in proportion to the number of tokens. A tree has at least one process.
+/// and the memory are in proportion to the number of tokens.
 pub fn parse(alloc: Global, tokens: &[Token]) -> Result<Raw, ParseError>
-    ensures parsed { IsParsed level_limit statement_limit tokens.now result }
-    ensures some_process { IfOk result (λ raw. 0 < length raw.processes.items) }
+    ensures { IsParsed level_limit statement_limit tokens.now result }
 {
     if let Some((front, span)) = excess(tokens, STATEMENTS) {
         return Err(parse_excess(alloc, front, span));

@@ -12,7 +12,7 @@ use og_text::{Name, Span, Token, TokenKind};
 use std::alloc::{AllocError, Global};
 
 /// Whether the first token is a name.
-pub fn starts_name(tokens: &[Token]) -> bool
+pub(crate) fn starts_name(tokens: &[Token]) -> bool
     ensures { result ≡ starts a_name tokens.now }
 {
     match tokens {
@@ -22,7 +22,7 @@ pub fn starts_name(tokens: &[Token]) -> bool
 }
 
 /// Whether the first token stands between two terms.
-pub fn starts_sign(tokens: &[Token]) -> bool
+pub(crate) fn starts_sign(tokens: &[Token]) -> bool
     ensures { result ≡ starts a_sign tokens.now }
 {
     match tokens {
@@ -42,7 +42,7 @@ fn copied(alloc: Global, name: &Name, span: Span) -> Result<RawName, AllocError>
     })
 }
 
-pub fn name(alloc: Global, tokens: &[Token]) -> Result<(RawName, &[Token]), Refusal<'_>>
+pub(crate) fn name(alloc: Global, tokens: &[Token]) -> Result<(RawName, &[Token]), Refusal<'_>>
     ensures { IsRead (λ x. (x.0, x.1.now)) result (token_at name_of tokens.now) }
 {
     match tokens {
@@ -57,7 +57,7 @@ pub fn name(alloc: Global, tokens: &[Token]) -> Result<(RawName, &[Token]), Refu
     }
 }
 
-pub fn number(tokens: &[Token]) -> Result<(u64, &[Token]), Refusal<'_>>
+pub(crate) fn number(tokens: &[Token]) -> Result<(u64, &[Token]), Refusal<'_>>
     ensures { IsRead (λ x. (x.0, x.1.now)) result (token_at value_of tokens.now) }
 {
     match tokens {
@@ -69,7 +69,7 @@ pub fn number(tokens: &[Token]) -> Result<(u64, &[Token]), Refusal<'_>>
     }
 }
 
-pub fn sign(tokens: &[Token]) -> Result<(Sign, &[Token]), Refusal<'_>>
+pub(crate) fn sign(tokens: &[Token]) -> Result<(Sign, &[Token]), Refusal<'_>>
     ensures { IsRead (λ x. (x.0, x.1.now)) result (token_at sign_of tokens.now) }
 {
     match tokens {
@@ -82,7 +82,7 @@ pub fn sign(tokens: &[Token]) -> Result<(Sign, &[Token]), Refusal<'_>>
     }
 }
 
-pub fn relation(tokens: &[Token]) -> Result<(Relation, &[Token]), Refusal<'_>>
+pub(crate) fn relation(tokens: &[Token]) -> Result<(Relation, &[Token]), Refusal<'_>>
     ensures { IsRead (λ x. (x.0, x.1.now)) result (token_at relation_of tokens.now) }
 {
     match tokens {

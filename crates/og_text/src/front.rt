@@ -30,7 +30,7 @@ pub enum Front {
 }
 
 // The longest piece at the front. It looks at the bytes of that piece and at one behind it.
-pub fn front_of(alloc: Global, text: &[u8]) -> Result<Front, AllocError>
+pub(crate) fn front_of(alloc: Global, text: &[u8]) -> Result<Front, AllocError>
     requires { 0 < length text.now }
     ensures { IfOk result (λ f. IsFront text.now f) }
 {

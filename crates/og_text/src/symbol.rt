@@ -6,7 +6,7 @@ ghost use Rattle.og_text.specs.Fronts.{single_of, pair_of};
 use crate::token::TokenKind;
 
 // The symbol that two bytes are.
-pub fn pair(b: u8, c: u8) -> Option<TokenKind>
+pub(crate) fn pair(b: u8, c: u8) -> Option<TokenKind>
     ensures { result ≡ pair_of b c }
 {
     if b == b':' && c == b'=' {
@@ -27,7 +27,7 @@ pub fn pair(b: u8, c: u8) -> Option<TokenKind>
 }
 
 // The symbol that one byte is.
-pub fn single(b: u8) -> Option<TokenKind>
+pub(crate) fn single(b: u8) -> Option<TokenKind>
     ensures { result ≡ single_of b }
 {
     match b {

@@ -6,7 +6,7 @@ ghost use Rattle.og_text.specs.Lexemes.{keyword_of};
 use crate::token::TokenKind;
 
 // The keyword that a word is.
-pub fn keyword(word: &[u8]) -> Option<TokenKind>
+pub(crate) fn keyword(word: &[u8]) -> Option<TokenKind>
     ensures { result ≡ keyword_of word.now }
 {
     if word == b"var".as_slice() {

@@ -1,7 +1,7 @@
 //! Resolving outlines.
 
-ghost use Rattle.std.specs.Prelude.{◌≡◌, ◌<◌, List, [], length, map, option_map, IfOk};
-ghost use Rattle.og_parse.specs.Trees.{tree_of, seq_of};
+ghost use Rattle.std.specs.Prelude.{◌≡◌, List, [], map, option_map};
+ghost use Rattle.og_parse.specs.Trees.{tree_of, seq_of, seqs_of};
 ghost use Rattle.og_typed.specs.Answer.{IsResolved};
 ghost use Rattle.og_typed.specs.Plain as plain;
 ghost use Rattle.og_typed.specs.Resolved as meaning;
@@ -14,7 +14,7 @@ use crate::outline::Outline;
 use crate::scope::{Scope, Use};
 use crate::sequences::sequence;
 use crate::statement::Seq;
-use og_parse::{Raw, RawAux, RawInt, RawName, RawSeq, Sign};
+use og_parse::{Raw, RawAux, RawInt, RawName, RawProcesses, RawSeq, Sign};
 use std::alloc::{AllocError, Global};
 
 /// The greatest number of processes.
@@ -71,11 +71,12 @@ fn part(alloc: Global, scope: &Scope<'_>, raw: &Option<RawSeq>) -> Result<Option
 }
 
 // The processes.
-fn processes(alloc: Global, scope: &Scope<'_>, raw: &[RawSeq]) -> Result<Vec<Seq>, TypeError>
-    ensures { IsResolved (λ v. map plain.sequence v.items) result (meaning.processes (scope_of scope.now) (map seq_of raw.now)) }
+fn processes(alloc: Global, scope: &Scope<'_>, raw: &RawProcesses) -> Result<Vec<Seq>, TypeError>
+    ensures { IsResolved (λ v. map plain.sequence v.items) result (meaning.processes (scope_of scope.now) (seqs_of raw.now)) }
 {
     let mut processes = Vec::new(alloc);
-    for process in raw {
+    processes.push(sequence(alloc, scope, &raw.first)?)?;
+    for process in &raw.others {
         if processes.len() >= PROCESS_LIMIT {
             return Err(TypeError::Fault(TypeFault::TooManyProcesses(first_place(process))));
         }
@@ -109,7 +110,6 @@ fn first_place(raw: &RawSeq) -> u32
 ///
 /// `Memory` may stand in the place of any answer where an allocation was refused.
 pub fn resolve(alloc: Global, raw: Raw) -> Result<Outline, TypeError>
-    requires { 0 < length raw.processes.items }
     ensures { IsResolved (λ o. o) result (meaning.resolved (tree_of raw)) }
 {
     let mut names = Names::new(alloc);

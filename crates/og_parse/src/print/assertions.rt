@@ -50,7 +50,7 @@ fn put_comparison(
 }
 
 #[cycle(assertions)]
-pub fn put_assertion(text: &mut Vec<u8>, a: &RawAssert) -> Result<(), AllocError>
+pub(crate) fn put_assertion(text: &mut Vec<u8>, a: &RawAssert) -> Result<(), AllocError>
     ensures { OnOk result (text.new.items ≡ text.old.items ++ assertion_in written (assertion_of a.now)) }
 {
     match a {

@@ -1,13 +1,13 @@
 //! Printing outlines and programs.
 
-ghost use Rattle.std.specs.Prelude.{◌≡◌, ◌≤◌, ◌^◌, ◌++◌, ℕ, length, map, option_map, IfOk, OnOk};
+ghost use Rattle.std.specs.Prelude.{◌≡◌, ◌≤◌, ◌^◌, ◌++◌, ℕ, length, option_map, IfOk, OnOk};
 ghost use Rattle.og_parse.specs.Again.{IsRead, ReadsBack};
-ghost use Rattle.og_parse.specs.Trees.{tree_of, seq_of};
+ghost use Rattle.og_parse.specs.Trees.{tree_of, seq_of, seqs_of};
 ghost use Rattle.og_parse.specs.Print.{written, vars_in, aux_in, auxes_in, main_in, cobegin_in, processes_in, outline_in, outline_text, program_text};
 
 use crate::print::statements::{put_line, put_note, put_seq};
 use crate::print::terms::{put_leading, put_name, put_number};
-use crate::raw::{Raw, RawAux, RawName, RawSeq};
+use crate::raw::{Raw, RawAux, RawName, RawProcesses, RawSeq};
 use std::alloc::{AllocError, Global};
 
 /// The text of an outline, with all its assertions.
@@ -39,7 +39,7 @@ fn put_outline(text: &mut Vec<u8>, notes: bool, raw: &Raw) -> Result<(), AllocEr
     put_declarations(text, raw)?;
     put_note(text, notes, b"", &raw.pre)?;
     put_main(text, notes, &raw.prologue)?;
-    put_cobegin(text, notes, raw.processes.as_slice())?;
+    put_cobegin(text, notes, &raw.processes)?;
     put_main(text, notes, &raw.epilogue)?;
     put_note(text, notes, b"", &raw.post)
 }
@@ -103,22 +103,23 @@ fn put_main(text: &mut Vec<u8>, notes: bool, main: &Option<RawSeq>) -> Result<()
 }
 
 // From `cobegin` to `coend`.
-fn put_cobegin(text: &mut Vec<u8>, notes: bool, processes: &[RawSeq]) -> Result<(), AllocError>
-    ensures { OnOk result (text.new.items ≡ text.old.items ++ cobegin_in written notes (map seq_of processes.now)) }
+fn put_cobegin(text: &mut Vec<u8>, notes: bool, processes: &RawProcesses) -> Result<(), AllocError>
+    ensures { OnOk result (text.new.items ≡ text.old.items ++ cobegin_in written notes (seqs_of processes.now)) }
 {
     text.extend_from_slice(b"cobegin\n")?;
     put_processes(text, notes, processes)?;
     text.extend_from_slice(b"coend\n")
 }
 
-fn put_processes(text: &mut Vec<u8>, notes: bool, processes: &[RawSeq]) -> Result<(), AllocError>
-    ensures { OnOk result (text.new.items ≡ text.old.items ++ processes_in written notes (map seq_of processes.now)) }
+fn put_processes(
+    text: &mut Vec<u8>,
+    notes: bool,
+    processes: &RawProcesses,
+) -> Result<(), AllocError>
+    ensures { OnOk result (text.new.items ≡ text.old.items ++ processes_in written notes (seqs_of processes.now)) }
 {
-    let [first, later @ ..] = processes else {
-        return Ok(());
-    };
-    put_seq(text, notes, b"  ", first)?;
-    for process in later {
+    put_seq(text, notes, b"  ", &processes.first)?;
+    for process in &processes.others {
         text.extend_from_slice(b"//\n")?;
         put_seq(text, notes, b"  ", process)?;
     }

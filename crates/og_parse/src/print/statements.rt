@@ -42,7 +42,7 @@ fn put_body(text: &mut Vec<u8>, body: &[RawElement]) -> Result<(), AllocError>
 }
 
 /// The assertion on a line of its own, or nothing without `notes`.
-pub fn put_note(
+pub(crate) fn put_note(
     text: &mut Vec<u8>,
     notes: bool,
     indent: &[u8],
@@ -77,7 +77,7 @@ fn put_opening(
 }
 
 /// A line with a few words.
-pub fn put_line(text: &mut Vec<u8>, indent: &[u8], words: &[u8]) -> Result<(), AllocError>
+pub(crate) fn put_line(text: &mut Vec<u8>, indent: &[u8], words: &[u8]) -> Result<(), AllocError>
     ensures { OnOk result (text.new.items ≡ text.old.items ++ written.line indent.now words.now) }
 {
     text.extend_from_slice(indent)?;
@@ -183,7 +183,7 @@ fn put_block(text: &mut Vec<u8>, notes: bool, indent: &[u8], seq: &RawSeq) -> Re
 }
 
 #[cycle(sequences)]
-pub fn put_seq(
+pub(crate) fn put_seq(
     text: &mut Vec<u8>,
     notes: bool,
     indent: &[u8],

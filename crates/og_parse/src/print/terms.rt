@@ -8,13 +8,13 @@ ghost use Rattle.og_parse.specs.Print.{written, name_in, leading_in, sign_word, 
 use crate::raw::{RawFactor, RawName, RawSum, Sign};
 use std::alloc::AllocError;
 
-pub fn put_name(text: &mut Vec<u8>, name: &RawName) -> Result<(), AllocError>
+pub(crate) fn put_name(text: &mut Vec<u8>, name: &RawName) -> Result<(), AllocError>
     ensures { OnOk result (text.new.items ≡ text.old.items ++ name_in written name.now) }
 {
     text.extend_from_slice(name.name.as_slice())
 }
 
-pub fn put_number(text: &mut Vec<u8>, number: u64) -> Result<(), AllocError>
+pub(crate) fn put_number(text: &mut Vec<u8>, number: u64) -> Result<(), AllocError>
     ensures { OnOk result (text.new.items ≡ text.old.items ++ decimal number) }
 {
     let digits = number.to_string(*text.allocator())?;
@@ -22,7 +22,7 @@ pub fn put_number(text: &mut Vec<u8>, number: u64) -> Result<(), AllocError>
 }
 
 /// The sign before a number or a first term.
-pub fn put_leading(text: &mut Vec<u8>, sign: Sign) -> Result<(), AllocError>
+pub(crate) fn put_leading(text: &mut Vec<u8>, sign: Sign) -> Result<(), AllocError>
     ensures { OnOk result (text.new.items ≡ text.old.items ++ leading_in written sign) }
 {
     match sign {
@@ -45,7 +45,7 @@ fn put_factor(text: &mut Vec<u8>, factor: &RawFactor) -> Result<(), AllocError>
     }
 }
 
-pub fn put_sum(text: &mut Vec<u8>, sum: &RawSum) -> Result<(), AllocError>
+pub(crate) fn put_sum(text: &mut Vec<u8>, sum: &RawSum) -> Result<(), AllocError>
     ensures { OnOk result (text.new.items ≡ text.old.items ++ terms_in written sum.now.terms.items) }
 {
     let [first, later @ ..] = sum.terms.as_slice() else {

@@ -1,7 +1,7 @@
 use super::*;
 use crate::raw::{
-    Raw, RawAssert, RawFactor, RawItem, RawName, RawNote, RawSeq, RawStmt, RawSum, RawTerm,
-    Relation, Sign,
+    Raw, RawAssert, RawBasic, RawElement, RawFactor, RawItem, RawName, RawNote, RawProcesses,
+    RawSeq, RawStmt, RawSum, RawTerm, Relation, Sign,
 };
 use crate::whole::parse;
 use og_text::{Name, Span, lex};
@@ -141,7 +141,8 @@ fn one(alloc: Global, stmt: RawStmt) -> Result<RawSeq, AllocError> {
 fn program(
     alloc: Global,
     vars: Vec<RawName>,
-    processes: Vec<RawSeq>,
+    first: RawSeq,
+    others: Vec<RawSeq>,
 ) -> Result<Vec<u8>, AllocError> {
     let raw = Raw {
         vars,
@@ -149,19 +150,87 @@ fn program(
         pre: truth(),
         prologue: None,
         cobegin: NOWHERE,
-        processes,
+        processes: RawProcesses { first, others },
         epilogue: None,
         post: truth(),
     };
     print_program(alloc, &raw)
 }
 
+// x := value
+fn to_x(alloc: Global, value: RawSum) -> Result<RawBasic, AllocError> {
+    Ok(RawBasic::Assign(name(alloc, "x")?, value))
+}
+
+// x + 1
+fn successor(alloc: Global) -> Result<RawSum, AllocError> {
+    let mut terms = sum(alloc, RawFactor::Variable(name(alloc, "x")?))?;
+    terms.terms.push(RawTerm {
+        sign: Sign::Plus,
+        factor: RawFactor::Number(1),
+    })?;
+    Ok(terms)
+}
+
+// {true} x := value {true}
+fn assigns(alloc: Global, value: RawSum) -> Result<RawSeq, AllocError> {
+    one(alloc, RawStmt::Basic(to_x(alloc, value)?))
+}
+
+// {true} await true then x := x + 1 {true}
+fn waits(alloc: Global) -> Result<RawSeq, AllocError> {
+    let basic = to_x(alloc, successor(alloc)?)?;
+    let body = vec![in alloc;
+        RawElement {
+            basic,
+            span: NOWHERE
+        },
+    ]?;
+    one(alloc, RawStmt::Await(RawAssert::True, body))
+}
+
+// The outline of one process between a prologue and an epilogue, and its program in print.
+fn with_main(
+    alloc: Global,
+    prologue: RawSeq,
+    first: RawSeq,
+    epilogue: RawSeq,
+) -> Result<Vec<u8>, AllocError> {
+    let raw = Raw {
+        vars: vec![in alloc; name(alloc, "x")?]?,
+        auxes: Vec::new(alloc),
+        pre: truth(),
+        prologue: Some(prologue),
+        cobegin: NOWHERE,
+        processes: RawProcesses {
+            first,
+            others: Vec::new(alloc),
+        },
+        epilogue: Some(epilogue),
+        post: truth(),
+    };
+    print_program(alloc, &raw)
+}
+
+#[test]
+fn prints_the_parts_of_main(rt: HostRuntime) -> Result<(), Fail> {
+    let alloc = rt.alloc();
+    let prologue = assigns(alloc, sum(alloc, RawFactor::Number(0))?)?;
+    let epilogue = assigns(alloc, successor(alloc)?)?;
+    let text = with_main(alloc, prologue, waits(alloc)?, epilogue)?;
+    assert_eq!(rt;
+        text.as_slice(),
+        "var x;\nbegin\n  x := 0\nend\ncobegin\n  await true then x := x + 1\ncoend\nbegin\n  x := x + 1\nend\n".as_bytes()
+    );
+    Ok(())
+}
+
 #[test]
 fn prints_an_await_without_a_body(rt: HostRuntime) -> Result<(), Fail> {
     let alloc = rt.alloc();
     let wait = RawStmt::Await(x_is_zero(alloc)?, Vec::new(alloc));
-    let processes = vec![in alloc; one(alloc, wait)?]?;
-    let text = program(alloc, vec![in alloc; name(alloc, "x")?]?, processes)?;
+    let vars = vec![in alloc; name(alloc, "x")?]?;
+    let text = program(alloc, vars, one(alloc, wait)?, Vec::new(alloc))?;
     assert_eq!(rt;
         text.as_slice(),
         "var x;\ncobegin\n  await x = 0 then begin end\ncoend\n".as_bytes()
@@ -172,14 +241,11 @@ fn prints_an_await_without_a_body(rt: HostRuntime) -> Result<(), Fail> {
 #[test]
 fn prints_empty_sequences(rt: HostRuntime) -> Result<(), Fail> {
     let alloc = rt.alloc();
-    let text = program(
-        alloc,
-        Vec::new(alloc),
-        vec![in alloc; none(alloc), none(alloc)]?,
-    )?;
+    let others = vec![in alloc; none(alloc)]?;
+    let text = program(alloc, Vec::new(alloc), none(alloc), others)?;
     assert_eq!(rt; text.as_slice(), "cobegin\n//\ncoend\n".as_bytes());
     let turns = one(alloc, RawStmt::While(RawAssert::True, none(alloc)))?;
-    let text = program(alloc, Vec::new(alloc), vec![in alloc; turns]?)?;
+    let text = program(alloc, Vec::new(alloc), turns, Vec::new(alloc))?;
     assert_eq!(rt;
         text.as_slice(),
         "cobegin\n  while true do begin\n  end\ncoend\n".as_bytes()

@@ -1,5 +1,5 @@
-use Rattle.std.proofs.Common.{◌≡◌, map, drop, vec_len}
-use Rattle.og_parse.specs.Trees.{seq_of}
+use Rattle.std.proofs.Common.{◌≡◌, ◌+◌, map, drop, vec_len}
+use Rattle.og_parse.specs.Trees.{seq_of, seqs_of}
 use Rattle.og_typed.specs.Plain.{sequence}
 use Rattle.og_typed.specs.declared.fault.TypeFault.TheVariants as faults
 use Rattle.og_typed.specs.Resolved as meaning
@@ -9,6 +9,6 @@ use Rattle.og_typed.proofs.resolving.processes.Given as goal
 
 abbrev pub invariant-loop-process : goal.invariant-loop-process
 invariant-loop-process l = record {
-  so_far : front (map sequence l.processes.items) (meaning.counted 256 (λ seq. faults.TooManyProcesses (meaning.place_of seq)) (meaning.sequence (scope_of l.scope)) l.process-index (map seq_of (drop l.process-index l.raw))) ≡ meaning.processes (scope_of l.scope) (map seq_of l.raw);
-  count : vec_len l.processes ≡ l.process-index;
+  so_far : front (map sequence l.processes.items) (meaning.counted 256 (λ seq. faults.TooManyProcesses (meaning.place_of seq)) (meaning.sequence (scope_of l.scope)) (l.process-index + 1) (map seq_of (drop l.process-index l.raw.others.items))) ≡ meaning.processes (scope_of l.scope) (seqs_of l.raw);
+  count : vec_len l.processes ≡ l.process-index + 1;
 }

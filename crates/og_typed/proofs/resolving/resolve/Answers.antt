@@ -1,7 +1,6 @@
 use Rattle.std.proofs.Common.{◌≡◌, arith, rules}
 use Rattle.std.specs.Prelude.{Ok}
-use Rattle.std.proofs.lemmas.List.{length-map}
-use Rattle.og_parse.specs.Trees.{seq_of, tree_of}
+use Rattle.og_parse.specs.Trees.{tree_of}
 use Rattle.og_typed.specs.Outlined.{program}
 use Rattle.og_typed.specs.Resolved.{resolved}
 use Rattle.og_typed.specs.Syntax.{Program}
@@ -22,4 +21,4 @@ invariant_of-result c =
       cobegin_at = c.args.raw.cobegin.start;
     }) in
     let same : resolved (tree_of c.args.raw) ≡ Ok outline = search rules in
-    resolved_met (tree_of c.args.raw) outline (omega (arith, length-map c.args.raw.processes.items seq_of, c.requires)) same
+    resolved_met (tree_of c.args.raw) outline (omega arith) same

@@ -4,4 +4,4 @@ use Rattle.og_parse.specs.Print.{written, later_processes_in}
 use Rattle.og_parse.proofs.print.outline.put_processes.Given as goal
 
 abbrev pub invariant-loop-process : goal.invariant-loop-process
-invariant-loop-process l = l.text.items ++ later_processes_in written l.notes (map seq_of (drop l.process-index l.later)) ≡ l.initial.text.items ++ later_processes_in written l.notes (map seq_of l.later)
+invariant-loop-process l = l.text.items ++ later_processes_in written l.notes (map seq_of (drop l.process-index l.processes.others.items)) ≡ l.initial.text.items ++ later_processes_in written l.notes (map seq_of l.processes.others.items)

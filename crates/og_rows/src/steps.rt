@@ -1,0 +1,156 @@
+//! Starts and steps of outlines.
+
+use crate::outlines::outline_of;
+use og_linear::State;
+use og_step::{Moment, StartError, start};
+use og_typed::Outline;
+use std::alloc::{AllocError, Global};
+use std::test::Fail;
+
+const TWO_ADD: &str =
+    "var x;\n{x = 0}\ncobegin\n{x = 0 or x = 2}\nawait true then x := x + 1\n{x = 1 or x = 3}\n//\n{x = 0 or x = 1}\nawait true then x := x + 2\n{x = 2 or x = 3}\ncoend\n{x = 3}\n";
+
+const ONE_BELOW: &str =
+    "var x;\n{x = 9223372036854775806}\ncobegin\n{x = 9223372036854775806} x := x + 1 {x = 9223372036854775807}\ncoend\n{x = 9223372036854775807}\n";
+
+const UP_AND_DOWN: &str =
+    "var x;\n{x = 9223372036854775807}\ncobegin\n{x = 9223372036854775807}\nawait true then begin x := x + 1; x := x - 1 end\n{x = 9223372036854775807}\ncoend\n{x = 9223372036854775807}\n";
+
+const AUXILIARY_LOOP: &str =
+    "aux a = 0;\n{true}\ncobegin\n{true} while true do begin {true} a := 0 {true} end {true}\ncoend\n{true}\n";
+
+const EACH_WAITS: &str =
+    "var a, b;\n{a = 0 and b = 0}\ncobegin\n{true} await b = 1 then a := 1 {true}\n//\n{true} await a = 1 then b := 1 {true}\ncoend\n{true}\n";
+
+const WITH_MAIN: &str =
+    "var x;\n{true}\nbegin\n{true} x := 0 {x = 0}\nend\ncobegin\n{x = 0} await true then x := x + 1 {x = 1}\ncoend\nbegin\n{x = 1} x := x + 1 {x = 2}\nend\n{x = 2}\n";
+
+fn begun<'a>(
+    alloc: Global,
+    outline: &'a Outline,
+    values: &[i64],
+) -> Result<Moment<'a>, StartError> {
+    let values = State::new(Vec::from_slice(alloc, values)?);
+    start(alloc, outline, values)
+}
+
+// Takes these turns, and tells what each was, the state at the end, and how the program stands.
+fn told(alloc: Global, moment: &mut Moment<'_>, turns: &[u32]) -> Result<String, AllocError> {
+    let mut out = String::new(alloc);
+    for p in turns {
+        let turn = moment.step(*p);
+        let word = format!(in alloc; "{turn:?} ")?;
+        out.push_str(word.as_str())?;
+    }
+    for value in moment.state().as_slice() {
+        let word = format!(in alloc; "{value} ")?;
+        out.push_str(word.as_str())?;
+    }
+    out.push_str(standing(moment))?;
+    Ok(out)
+}
+
+fn standing(moment: &Moment<'_>) -> &'static str {
+    if moment.is_finished() {
+        "finished"
+    } else if moment.is_stuck() {
+        "stuck"
+    } else {
+        "under way"
+    }
+}
+
+#[test]
+fn takes_turns(rt: HostRuntime) -> Result<(), Fail> {
+    let alloc = rt.alloc();
+    let rows = [
+        (
+            TWO_ADD,
+            [0].as_slice(),
+            [1, 0].as_slice(),
+            "Moved Moved 3 finished",
+        ),
+        (
+            ONE_BELOW,
+            [i64::MAX - 1].as_slice(),
+            [0, 0].as_slice(),
+            "Moved Done 9223372036854775807 finished",
+        ),
+        (
+            UP_AND_DOWN,
+            [i64::MAX].as_slice(),
+            [0].as_slice(),
+            "Overflow 9223372036854775807 under way",
+        ),
+        (
+            AUXILIARY_LOOP,
+            [].as_slice(),
+            [0, 0, 0, 0].as_slice(),
+            "Moved Moved Moved Moved 0 under way",
+        ),
+        (
+            EACH_WAITS,
+            [0, 0].as_slice(),
+            [0, 1].as_slice(),
+            "Waits Waits 0 0 stuck",
+        ),
+        (
+            WITH_MAIN,
+            [0].as_slice(),
+            [0, 1, 0, 1, 1].as_slice(),
+            "Early Moved Moved Moved Done 2 finished",
+        ),
+    ];
+    for (source, values, turns, expected) in rows {
+        let outline = outline_of(alloc, source)?;
+        let mut moment = begun(alloc, &outline, values)?;
+        let got = told(alloc, &mut moment, turns)?;
+        assert_eq!(rt; got.as_str(), expected);
+    }
+    Ok(())
+}
+
+// How a start is refused, or nothing where it is not.
+fn refusal(alloc: Global, source: &str, values: &[i64]) -> Result<String, Fail> {
+    let outline = outline_of(alloc, source)?;
+    match begun(alloc, &outline, values) {
+        Err(StartError::Fault(fault)) => {
+            let number = fault.number();
+            let name = fault.name();
+            Ok(format!(in alloc; "{number} {name}")?)
+        }
+        other => {
+            let _moment = other?;
+            Ok(String::new(alloc))
+        }
+    }
+}
+
+#[test]
+fn refuses_starts(rt: HostRuntime) -> Result<(), Fail> {
+    let alloc = rt.alloc();
+    let rows = [
+        (TWO_ADD, [].as_slice(), "51 WrongLength"),
+        (TWO_ADD, [1].as_slice(), "50 NotPre"),
+        (TWO_ADD, [0].as_slice(), ""),
+        (ONE_BELOW, [].as_slice(), "51 WrongLength"),
+        (ONE_BELOW, [1].as_slice(), "50 NotPre"),
+        (ONE_BELOW, [i64::MAX - 1].as_slice(), ""),
+    ];
+    for (source, values, expected) in rows {
+        let got = refusal(alloc, source, values)?;
+        assert_eq!(rt; got.as_str(), expected);
+    }
+    Ok(())
+}
+
+#[test]
+fn ends_after_the_last_step(rt: HostRuntime) -> Result<(), Fail> {
+    let alloc = rt.alloc();
+    let outline = outline_of(alloc, ONE_BELOW)?;
+    let mut moment = begun(alloc, &outline, [i64::MAX - 1].as_slice())?;
+    assert!(rt; !moment.is_done(0));
+    let _turn = moment.step(0);
+    assert!(rt; moment.is_done(0));
+    Ok(())
+}
