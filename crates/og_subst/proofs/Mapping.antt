@@ -1,6 +1,6 @@
 -- The loops over lists of assertions.
 use Rattle.std.proofs.Common.{◌≡◌, ℕ, suc, ◌+◌, ◌<◌, ◌≤◌, List, [], ◌∷◌, ◌++◌, map, length, drop, get_or, Option, Some, None, Vec, Global, refl, sym, ap, ◌∙◌, subst, drop-cons, add-one, drop_of_length-le}
-use Rattle.std.specs.Prelude.{option_and_then, option_map, Result, Ok, Err}
+use Rattle.std.specs.Prelude.{option_and_then, option_map, Err}
 use Rattle.og_linear.specs.Linear.{FormValue}
 use Rattle.og_linear.specs.Arith.{MapValue}
 use Rattle.og_linear.specs.Answer.{IsAnswer, FailsAs}

@@ -127,9 +127,10 @@ module _ (m : MapValue) (s r : List ℤ) (h : Shows m s r) where
         option_and_then_some (λ x. option_map (more x) (after_all m rest)) (after m a) others e
         (λ x p q.
         let k = mapped (more x) (after_all m rest) others q in
-        let tail = after_all_shown rest k.0 k.1 in
-        (ap (λ c. all_true c s) (sym k.2) ∙ ap₂ ◌&&◌ (after_shown a x p) tail.0,
-        ap (λ c. some_true c s) (sym k.2) ∙ ap₂ ◌||◌ (after_shown a x p) tail.1))
+        let tail = after_all_shown rest k.0 k.1 in (
+          ap (λ c. all_true c s) (sym k.2) ∙ ap₂ ◌&&◌ (after_shown a x p) tail.0,
+          ap (λ c. some_true c s) (sym k.2) ∙ ap₂ ◌||◌ (after_shown a x p) tail.1,
+        ))
 
 pub after_said : (body : List Simple) (m : MapValue) (a b : Formula) (s : List ℤ) → forward body ≡ Some m → after m a ≡ Some b → truth b s ≡ truth a (act body s)
 after_said body m a b s e f = after_shown m s (act body s) (forward_shows body [] m s s (shows_itself s) e) a b f

@@ -1,10 +1,10 @@
 -- The map and the values, made together.
-use Rattle.std.proofs.Common.{◌≡◌, ℕ, List, [], ◌∷◌, ◌++◌, Option, Some, None, refl, sym, ap, ◌∙◌, append_assoc}
+use Rattle.std.proofs.Common.{◌≡◌, List, [], ◌∷◌, ◌++◌, Option, Some, None, refl, sym, ap, ◌∙◌, append_assoc}
 use Rattle.std.specs.Prelude.{option_and_then, option_map, Result, Ok, Err, IfOk}
 use Rattle.std.proofs.lemmas.List.{append-nil}
 use Rattle.og_linear.specs.Linear.{FormValue}
-use Rattle.og_linear.specs.Arith.{MapValue, map_set, apply}
-use Rattle.og_linear.specs.Answer.{IsAnswer, FailsAs}
+use Rattle.og_linear.specs.Arith.{map_set, apply}
+use Rattle.og_linear.specs.Answer.{IsAnswer}
 use Rattle.og_linear.specs.declared.fault.FormFault.{FormFault}
 use Rattle.og_linear.specs.declared.fault.FormError.{FormError}
 use Rattle.og_linear.specs.declared.fault.FormError.TheVariants as errors

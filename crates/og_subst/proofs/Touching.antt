@@ -1,8 +1,8 @@
 -- What an action assigns.
-use Rattle.std.proofs.Common.{◌≡◌, ℕ, ℤ, List, [], ◌∷◌, true, false, ◌||◌, ◌==◌, refl, sym, ap, ◌∙◌, subst, ⊎_elim}
+use Rattle.std.proofs.Common.{◌≡◌, ℕ, ℤ, List, [], ◌∷◌, true, false, ◌||◌, ◌==◌, refl, ◌∙◌, subst, ⊎_elim}
 use Rattle.std.specs.Prelude.{◌↔◌, ◌⊎◌}
 use Rattle.std.proofs.lemmas.Bool.{or_cases, or_left, or_right, or_parts, eq-eqb, eqb-true, eqb-false, false≢true}
-use Rattle.og_linear.specs.Linear.{FormValue, value_at, put, val}
+use Rattle.og_linear.specs.Linear.{value_at, put, val}
 use Rattle.og_linear.proofs.Put.{put_other}
 use Rattle.og_typed.specs.Syntax.{Formula, Simple, Pass, Set}
 use Rattle.og_typed.specs.Truth.{occurs}

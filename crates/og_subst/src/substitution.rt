@@ -66,7 +66,7 @@ pub fn after(alloc: Global, action: &Action, a: &Assert) -> Result<Assert, FormE
     mapped(alloc, &forms, a)
 }
 
-// The value's least bound.
+// -v - 2^63, at most 0 where the value v is no less than the least i64.
 fn low(alloc: Global, value: &Form) -> Result<Form, FormError>
     ensures { IsAnswer (λ f. f) faults.TooLarge result (subst.low value.now) }
 {
@@ -75,7 +75,7 @@ fn low(alloc: Global, value: &Form) -> Result<Form, FormError>
     Ok(low)
 }
 
-// The value's greatest bound.
+// v - (2^63 - 1), at most 0 where the value v is no greater than the greatest i64.
 fn high(alloc: Global, value: &Form) -> Result<Form, FormError>
     ensures { IsAnswer (λ f. f) faults.TooLarge result (subst.high value.now) }
 {
@@ -84,7 +84,7 @@ fn high(alloc: Global, value: &Form) -> Result<Form, FormError>
     Ok(high)
 }
 
-// That each value is an i64.
+// The two relations of each value, in order.
 fn ranges(alloc: Global, values: &[Form]) -> Result<Vec<Assert>, FormError>
     ensures { IsAnswer (λ v. formula_list (map formula v.items)) faults.TooLarge result (subst.ranges values.now) }
 {
