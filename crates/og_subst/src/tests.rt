@@ -111,6 +111,11 @@ fn too_large(rt: HostRuntime) -> Result<(), Fail> {
     expect_too_large(&rt, &action.prepare(alloc));
     expect_too_large(&rt, &after(alloc, &action, &Assert::True));
     expect_too_large(&rt, &fits(alloc, &action));
+    // The value is within i128, and so is -v - 2^63, but not -v.
+    let least = body(alloc, &[(0, i128::MIN)])?;
+    let action = Action::Await(&least);
+    let _map = action.map(alloc)?;
+    expect_too_large(&rt, &fits(alloc, &action));
     Ok(())
 }
 
