@@ -1,0 +1,5 @@
+pub mod Moved
+pub mod Touching
+pub mod Running
+pub mod Mapping
+pub mod Equal

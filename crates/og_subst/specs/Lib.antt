@@ -1,0 +1,4 @@
+pub mod Actions
+pub mod Prepared
+pub mod Subst
+pub mod Running

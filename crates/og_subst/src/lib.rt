@@ -1,0 +1,15 @@
+//! Actions as maps from variables to forms, and assertions under them.
+#![tactic(auto)]
+
+mod action;
+mod equality;
+mod laws;
+mod prepared;
+mod substitution;
+#[cfg(test)]
+mod tests;
+
+pub use action::Action;
+pub use laws::{action_laws, substitution_laws};
+pub use prepared::ActionMap;
+pub use substitution::{after, fits};
