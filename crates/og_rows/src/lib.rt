@@ -5,6 +5,10 @@
 #![tactic(auto)]
 
 #[cfg(test)]
+mod conditions;
+#[cfg(test)]
 mod outlines;
+#[cfg(test)]
+mod sources;
 #[cfg(test)]
 mod steps;

@@ -1,29 +1,12 @@
 //! Starts and steps of outlines.
 
 use crate::outlines::outline_of;
+use crate::sources::{AUXILIARY_LOOP, EACH_WAITS, ONE_BELOW, TWO_ADD, UP_AND_DOWN, WITH_MAIN};
 use og_linear::State;
 use og_step::{Moment, StartError, start};
 use og_typed::Outline;
 use std::alloc::{AllocError, Global};
 use std::test::Fail;
-
-const TWO_ADD: &str =
-    "var x;\n{x = 0}\ncobegin\n{x = 0 or x = 2}\nawait true then x := x + 1\n{x = 1 or x = 3}\n//\n{x = 0 or x = 1}\nawait true then x := x + 2\n{x = 2 or x = 3}\ncoend\n{x = 3}\n";
-
-const ONE_BELOW: &str =
-    "var x;\n{x = 9223372036854775806}\ncobegin\n{x = 9223372036854775806} x := x + 1 {x = 9223372036854775807}\ncoend\n{x = 9223372036854775807}\n";
-
-const UP_AND_DOWN: &str =
-    "var x;\n{x = 9223372036854775807}\ncobegin\n{x = 9223372036854775807}\nawait true then begin x := x + 1; x := x - 1 end\n{x = 9223372036854775807}\ncoend\n{x = 9223372036854775807}\n";
-
-const AUXILIARY_LOOP: &str =
-    "aux a = 0;\n{true}\ncobegin\n{true} while true do begin {true} a := 0 {true} end {true}\ncoend\n{true}\n";
-
-const EACH_WAITS: &str =
-    "var a, b;\n{a = 0 and b = 0}\ncobegin\n{true} await b = 1 then a := 1 {true}\n//\n{true} await a = 1 then b := 1 {true}\ncoend\n{true}\n";
-
-const WITH_MAIN: &str =
-    "var x;\n{true}\nbegin\n{true} x := 0 {x = 0}\nend\ncobegin\n{x = 0} await true then x := x + 1 {x = 1}\ncoend\nbegin\n{x = 1} x := x + 1 {x = 2}\nend\n{x = 2}\n";
 
 fn begun<'a>(
     alloc: Global,

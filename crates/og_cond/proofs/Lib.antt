@@ -1,0 +1,10 @@
+pub mod LocalItems
+pub mod Counts
+pub mod PieceItems
+pub mod SetBits
+pub mod Crossings
+pub mod Crosses
+pub mod Exchange
+pub mod Totals
+pub mod SideLists
+pub mod WholeList

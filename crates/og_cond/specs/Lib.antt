@@ -1,0 +1,11 @@
+pub mod Condition
+pub mod Conditions
+pub mod Seen
+pub mod Blocks
+pub mod Names
+pub mod Sets
+pub mod Crossing
+pub mod Counting
+pub mod Pieces
+pub mod Sides
+pub mod Answer

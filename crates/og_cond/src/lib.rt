@@ -1,0 +1,25 @@
+//! The verification conditions of an outline.
+#![tactic(auto)]
+
+mod blocking;
+mod condition;
+mod count;
+mod fault;
+mod interference;
+mod kind;
+mod limits;
+mod local;
+mod pieces;
+mod sets;
+mod sides;
+#[cfg(test)]
+mod tests;
+mod varset;
+mod watched;
+mod whole;
+
+pub use condition::{Condition, Goal, Hypothesis, Part};
+pub use fault::{ConditionsError, TooMany};
+pub use kind::Kind;
+pub use limits::CONDITION_LIMIT;
+pub use whole::conditions;

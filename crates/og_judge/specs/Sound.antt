@@ -1,0 +1,46 @@
+-- What is promised of every run of an outline, and which conditions it rests on.
+use Rattle.std.specs.Prelude.{◌≡◌, ℕ, length, Bool, true, false}
+use Rattle.og_typed.specs.Syntax.{Program}
+use Rattle.og_typed.specs.Truth.{truth}
+use Rattle.og_typed.specs.Machine.{Moment, IsReached, active, current, overflows, is_finished, IsStuck}
+use Rattle.og_typed.specs.Erase.{erased, project}
+use Rattle.og_cond.specs.Condition.{IsValid, AreValid}
+use Rattle.og_cond.specs.Conditions.{safety_conditions, blocking_condition}
+
+-- ---- what is promised
+
+-- at every moment that some run of the outline reaches
+pub record IsSound (o : Program) : Type 0 where
+  -- the current assertion of each active process is true
+  pub current_holds : (m : Moment) → IsReached o m → (p : ℕ) → active o m p ≡ true → truth (current o m p) m.state ≡ true
+  -- no active process overflows
+  pub never_overflows : (m : Moment) → IsReached o m → (p : ℕ) → active o m p ≡ true → overflows m p ≡ false
+  -- where all have ended, the postcondition is true
+  pub post_at_end : (m : Moment) → IsReached o m → is_finished m ≡ true → truth o.post.assertion m.state ≡ true
+
+-- at every moment that some run of the erased program reaches
+pub record IsSoundErased (o : Program) : Type 0 where
+  -- it is what the projection leaves of some moment that the outline reaches
+  pub projected : (e : Moment) → IsReached (erased o) e → (m : Moment) × IsReached o m × (project o.vars m ≡ e)
+  -- no active process overflows
+  pub never_overflows : (e : Moment) → IsReached (erased o) e → (p : ℕ) → active (erased o) e p ≡ true → overflows e p ≡ false
+  -- where all have ended, the postcondition is true
+  pub post_at_end : (e : Moment) → IsReached (erased o) e → is_finished e ≡ true → truth o.post.assertion e.state ≡ true
+
+-- no run reaches a stuck moment: not finished, the main process not active, and all others that have something left waiting
+abbrev pub IsNeverStuck : Program → Type 0
+IsNeverStuck o = (m : Moment) → IsReached o m → IsStuck o m → ⊥
+
+-- ---- what it rests on
+
+-- every condition of the outline but the last is true
+abbrev pub IsSafe : Program → Type 0
+IsSafe o = AreValid (safety_conditions o)
+
+-- the last condition is true: never are all processes at their ends or at awaits that wait, and some of them at such an await
+abbrev pub IsUnblocked : Program → Type 0
+IsUnblocked o = IsValid (blocking_condition o)
+
+-- every condition but the last is true, and the last one too where it is said so
+abbrev pub IsProved : Program → Bool → Type 0
+IsProved o unblocked = IsSafe o × (unblocked ≡ true → IsUnblocked o)

@@ -1,0 +1,10 @@
+//! What the conditions of an outline say of its runs: the theorem over all interleavings.
+#![tactic(auto)]
+
+mod laws;
+mod proved;
+#[cfg(test)]
+mod tests;
+
+pub use laws::{erased_soundness, progress, soundness};
+pub use proved::Proved;

@@ -1,0 +1,167 @@
+//! The conditions of outlines.
+
+use crate::outlines::{outline_of, place};
+use crate::sources::{
+    AUXILIARY_LOOP, EACH_WAITS, EQUAL_ADD, NESTED, ONE_SKIP, SKIP_AND_ASSIGN, TOLD_ADD, TWO_ADD,
+    WITH_MAIN, add_times, equal_processes,
+};
+use og_cond::{Condition, ConditionsError, Kind, conditions};
+use std::alloc::{AllocError, Global};
+use std::test::Fail;
+
+// Kind and place, and the place of the action behind `with`.
+fn told(alloc: Global, source: &str, condition: &Condition) -> Result<String, AllocError> {
+    let name = condition.kind.name();
+    let (line, column) = place(source, condition.at);
+    match condition.action_at {
+        Some(at) => {
+            let (action_line, action_column) = place(source, at);
+            format!(in alloc; "{name} {line}:{column} with {action_line}:{action_column}; ")
+        }
+        None => format!(in alloc; "{name} {line}:{column}; "),
+    }
+}
+
+// The conditions of a source, one after the other.
+fn listing(alloc: Global, source: &str) -> Result<String, Fail> {
+    let outline = outline_of(alloc, source)?;
+    let mut out = String::new(alloc);
+    for condition in &conditions(alloc, &outline)? {
+        let text = told(alloc, source, condition)?;
+        out.push_str(text.as_str())?;
+    }
+    Ok(out)
+}
+
+const BRANCHES: &str =
+    "var x;\n{true}\ncobegin\n{true} if x = 0 then begin {x = 0} skip {x = 0} end else begin {x <> 0} skip {x <> 0} end {true}\ncoend\n{true}\n";
+
+// Two awaits on the lines 5 and 9 of such a text.
+const OF_TWO_AWAITS: &str =
+    "start 4:1; start 8:1; step 5:1; range 5:1; step 9:1; range 9:1; interfere 8:1 with 5:1; interfere 10:1 with 5:1; interfere 4:1 with 9:1; interfere 6:1 with 9:1; end 12:1; blocking 3:1; ";
+
+#[test]
+fn kinds_and_places(rt: HostRuntime) -> Result<(), Fail> {
+    let rows = [
+        (TWO_ADD, OF_TWO_AWAITS),
+        (EQUAL_ADD, OF_TWO_AWAITS),
+        (TOLD_ADD, OF_TWO_AWAITS),
+        (
+            SKIP_AND_ASSIGN,
+            "start 4:1; start 6:1; step 4:9; step 6:8; range 6:8; interfere 4:1 with 6:8; interfere 4:14 with 6:8; end 8:1; blocking 3:1; ",
+        ),
+        (
+            EACH_WAITS,
+            "start 4:1; start 6:1; step 4:8; range 4:8; step 6:8; range 6:8; end 8:1; blocking 3:1; ",
+        ),
+        (ONE_SKIP, "start 3:1; step 3:8; end 5:1; blocking 2:1; "),
+        (
+            AUXILIARY_LOOP,
+            "start 4:1; enter 4:8; step 4:35; range 4:35; again 4:42; leave 4:8; end 6:1; blocking 3:1; ",
+        ),
+        (
+            NESTED,
+            "start 4:1; start 16:1; enter 5:1; then 7:3; step 9:5; join 10:5; else 7:3; again 12:3; leave 5:1; step 17:1; range 17:1; interfere 4:1 with 17:1; interfere 6:3 with 17:1; interfere 8:5 with 17:1; end 20:1; blocking 3:1; ",
+        ),
+        (
+            BRANCHES,
+            "start 4:1; then 4:8; step 4:36; join 4:41; else 4:8; step 4:73; join 4:78; end 6:1; blocking 3:1; ",
+        ),
+        (
+            WITH_MAIN,
+            "prologue 4:1; step 4:8; range 4:8; start 7:1; step 7:9; range 7:9; end 10:1; step 10:9; range 10:9; epilogue 12:1; blocking 6:1; ",
+        ),
+    ];
+    for (source, expected) in rows {
+        let got = listing(rt.alloc(), source)?;
+        assert_eq!(rt; got.as_str(), expected, "of {source}");
+    }
+    Ok(())
+}
+
+// How many conditions of the kind there are.
+fn count_of(list: &[Condition], kind: Kind) -> usize {
+    list.iter()
+        .filter(|condition| condition.kind == kind)
+        .count()
+}
+
+// How many conditions there are of the kinds start, interfere and end, and in all; or the refusal.
+fn counts(alloc: Global, source: &str) -> Result<String, Fail> {
+    let outline = outline_of(alloc, source)?;
+    match conditions(alloc, &outline) {
+        Ok(list) => {
+            let start = count_of(&list, Kind::Start);
+            let interfere = count_of(&list, Kind::Interfere);
+            let end = count_of(&list, Kind::End);
+            let all = list.len();
+            Ok(format!(in alloc; "{start} {interfere} {end} of {all}")?)
+        }
+        Err(ConditionsError::Fault(fault)) => {
+            let number = fault.number();
+            let name = fault.name();
+            Ok(format!(in alloc; "{number} {name}")?)
+        }
+        Err(ConditionsError::Memory) => Ok(String::from_str(alloc, "memory")?),
+    }
+}
+
+// Equal processes of so many assignments and then so many skips, every assertion `x >= 0`.
+fn alike(alloc: Global, assigns: u32, skips: u32, others: u32) -> Result<String, AllocError> {
+    let mut process = String::new(alloc);
+    add_times(&mut process, "{x >= 0} x := 1\n", assigns)?;
+    add_times(&mut process, "{x >= 0} skip\n", skips)?;
+    process.push_str("{x >= 0}\n")?;
+    equal_processes(
+        alloc,
+        "var x;\n{x >= 0}\ncobegin\n",
+        process.as_str(),
+        others,
+        "coend\n{x >= 0}\n",
+    )
+}
+
+// The assignments, the skips, the processes behind the first, and what is told of the conditions.
+#[test]
+fn counts_of_many(rt: HostRuntime) -> Result<(), Fail> {
+    let rows = [
+        (2, 38, 7, "8 4592 1 of 4938"),
+        (64, 0, 11, "12 549120 1 of 550670"),
+        (64, 0, 63, "18 TooManyConditions"),
+    ];
+    for (assigns, skips, others, expected) in rows {
+        let source = alike(rt.alloc(), assigns, skips, others)?;
+        let got = counts(rt.alloc(), source.as_str())?;
+        assert_eq!(rt; got.as_str(), expected);
+    }
+    let skips = equal_processes(
+        rt.alloc(),
+        "{true}\ncobegin\n",
+        "{true} skip {true}\n",
+        255,
+        "coend\n{true}\n",
+    )?;
+    let got = counts(rt.alloc(), skips.as_str())?;
+    assert_eq!(rt; got.as_str(), "256 0 1 of 514");
+    Ok(())
+}
+
+// Two processes, one of assignments and one of skips. With a assignments and s skips there are
+// (a + 1) * (s + 3) + 1 conditions.
+fn two_sides(alloc: Global, assigns: u32, skips: u32) -> Result<String, AllocError> {
+    let mut source = String::from_str(alloc, "var x;\n{x >= 0}\ncobegin\n")?;
+    add_times(&mut source, "{x >= 0} x := 1\n", assigns)?;
+    source.push_str("{x >= 0}\n//\n")?;
+    add_times(&mut source, "{x >= 0} skip\n", skips)?;
+    source.push_str("{x >= 0}\ncoend\n{x >= 0}\n")?;
+    Ok(source)
+}
+
+// 2000 * 2000 + 1 conditions, one more than there may be.
+#[test]
+fn one_beyond_the_limit(rt: HostRuntime) -> Result<(), Fail> {
+    let source = two_sides(rt.alloc(), 1999, 1997)?;
+    let got = counts(rt.alloc(), source.as_str())?;
+    assert_eq!(rt; got.as_str(), "18 TooManyConditions");
+    Ok(())
+}
