@@ -12,8 +12,6 @@ mod local;
 mod pieces;
 mod sets;
 mod sides;
-#[cfg(test)]
-mod tests;
 mod varset;
 mod watched;
 mod whole;

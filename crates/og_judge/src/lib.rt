@@ -3,8 +3,6 @@
 
 mod laws;
 mod proved;
-#[cfg(test)]
-mod tests;
 
 pub use laws::{erased_soundness, progress, soundness};
 pub use proved::Proved;

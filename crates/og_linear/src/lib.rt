@@ -8,8 +8,6 @@ mod laws;
 mod map;
 mod state;
 mod terms;
-#[cfg(test)]
-mod tests;
 
 pub use fault::{FormError, FormFault};
 pub use form::Form;

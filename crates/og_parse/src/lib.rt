@@ -17,8 +17,6 @@ mod print;
 mod raw;
 mod statements;
 mod sum;
-#[cfg(test)]
-mod tests;
 mod whole;
 mod word;
 

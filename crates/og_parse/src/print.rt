@@ -4,7 +4,5 @@ mod assertions;
 mod outline;
 mod statements;
 mod terms;
-#[cfg(test)]
-mod tests;
 
 pub use outline::{print_outline, print_program};

@@ -5,10 +5,20 @@
 #![tactic(auto)]
 
 #[cfg(test)]
+mod actions;
+#[cfg(test)]
 mod conditions;
 #[cfg(test)]
+mod erasing;
+#[cfg(test)]
+mod laws;
+#[cfg(test)]
 mod outlines;
+#[cfg(test)]
+mod resolving;
 #[cfg(test)]
 mod sources;
 #[cfg(test)]
 mod steps;
+#[cfg(test)]
+mod truth;

@@ -4,8 +4,6 @@
 mod depth;
 mod fault;
 mod moment;
-#[cfg(test)]
-mod tests;
 mod todo;
 mod truth;
 mod turn;

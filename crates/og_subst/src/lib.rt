@@ -6,8 +6,6 @@ mod equality;
 mod laws;
 mod prepared;
 mod substitution;
-#[cfg(test)]
-mod tests;
 
 pub use action::Action;
 pub use laws::{action_laws, substitution_laws};

@@ -14,8 +14,6 @@ mod lines;
 mod name;
 mod place;
 mod symbol;
-#[cfg(test)]
-mod tests;
 mod token;
 mod word;
 

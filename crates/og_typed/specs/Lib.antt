@@ -6,6 +6,7 @@ pub mod Rule
 pub mod Erase
 pub mod Codes
 pub mod Outlined
+pub mod Parted
 pub mod Faults
 pub mod Resolved
 pub mod Answer

@@ -11,11 +11,9 @@ mod scope;
 mod sequences;
 mod statement;
 mod sums;
-#[cfg(test)]
-mod tests;
 
 pub use assertion::Assert;
 pub use fault::{TypeError, TypeFault};
-pub use outline::Outline;
+pub use outline::{Outline, Parts};
 pub use resolving::resolve;
 pub use statement::{Basic, Item, Note, Seq, Stmt};

@@ -22,6 +22,29 @@ pub struct Outline {
     pub(crate) cobegin_at: u32,
 }
 
+/// The parts of an outline, by name.
+#[derive(Debug, Drop)]
+pub struct Parts {
+    /// The names of the variables, the auxiliaries last.
+    pub names: Vec<Name>,
+    /// How many of the variables are no auxiliaries.
+    pub vars: u32,
+    /// The initial values of the auxiliaries.
+    pub aux_values: Vec<i64>,
+    /// The precondition.
+    pub pre: Note,
+    /// The statements before `cobegin`.
+    pub prologue: Option<Seq>,
+    /// The processes.
+    pub processes: Vec<Seq>,
+    /// The statements after `coend`.
+    pub epilogue: Option<Seq>,
+    /// The postcondition.
+    pub post: Note,
+    /// The byte offset of `cobegin`.
+    pub cobegin_at: u32,
+}
+
 impl Model for Outline {
     ghost use Rattle.og_typed.specs.Syntax.{Program};
     ghost use Rattle.og_typed.specs.Codes.{program_code};
@@ -40,6 +63,27 @@ impl Model for Outline {
 }
 
 impl Outline {
+    ghost use Rattle.og_typed.specs.Parted.{program_of};
+
+    /// The outline with these parts, which meet the rule for auxiliary variables and the limits.
+    /// Takes no memory.
+    pub fn new(parts: Parts) -> Outline
+        requires { IsOutline (program_of parts) }
+        ensures { result ≡ program_of parts }
+    {
+        Outline {
+            names: parts.names,
+            vars: parts.vars,
+            aux_values: parts.aux_values,
+            pre: parts.pre,
+            prologue: parts.prologue,
+            processes: parts.processes,
+            epilogue: parts.epilogue,
+            post: parts.post,
+            cobegin_at: parts.cobegin_at,
+        }
+    }
+
     /// A law: an outline meets the rule for auxiliary variables and the limits.
     pub fn follows_rule(&self)
         ensures { IsOutline self.now }

@@ -1,7 +1,7 @@
 //! Worked examples of actions.
 
-use crate::{Action, after, fits};
 use og_linear::{Form, FormError, FormFault};
+use og_subst::{Action, after, fits};
 use og_typed::{Assert, Basic, Stmt};
 use std::alloc::Global;
 use std::process::Abort;

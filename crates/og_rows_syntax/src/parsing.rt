@@ -1,4 +1,6 @@
-use super::*;
+//! Texts read as trees, and their faults.
+
+use og_parse::{ParseError, ParseFault, parse};
 use og_text::{Span, Token, lex};
 use std::alloc::{AllocError, Global};
 use std::test::Fail;

@@ -1,9 +1,9 @@
-//! Worked examples.
+//! Truth of assertions.
 
 ghost use Rattle.std.specs.Prelude.{◌≡◌, IfOk, length};
 
-use crate::{StartFault, holds};
 use og_linear::{Form, State};
+use og_step::{StartFault, holds};
 use og_typed::Assert;
 use std::alloc::{AllocError, Global};
 use std::test::Fail;

@@ -1,7 +1,9 @@
-use super::*;
+//! Names resolved, and the faults of a tree.
+
 use og_linear::Form;
 use og_parse::parse;
 use og_text::lex;
+use og_typed::{Assert, Basic, Item, Note, Outline, Seq, Stmt, TypeError, TypeFault, resolve};
 use std::alloc::{AllocError, Global};
 use std::test::Fail;
 

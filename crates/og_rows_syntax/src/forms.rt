@@ -1,6 +1,6 @@
 //! Worked examples of the arithmetic.
 
-use crate::{Form, FormError, FormFault, Map, State};
+use og_linear::{Form, FormError, FormFault, Map, State};
 use std::alloc::Global;
 use std::process::Abort;
 use std::test::Fail;

@@ -1,9 +1,9 @@
-use super::*;
-use crate::raw::{
+//! Trees printed.
+
+use og_parse::{
     Raw, RawAssert, RawBasic, RawElement, RawFactor, RawItem, RawName, RawNote, RawProcesses,
-    RawSeq, RawStmt, RawSum, RawTerm, Relation, Sign,
+    RawSeq, RawStmt, RawSum, RawTerm, Relation, Sign, parse, print_outline, print_program,
 };
-use crate::whole::parse;
 use og_text::{Name, Span, lex};
 use std::alloc::{AllocError, Global};
 use std::test::Fail;

@@ -1,4 +1,9 @@
-use super::*;
+//! Texts cut into tokens, and the lines of a text.
+
+use og_text::{
+    LexError, LexFault, LineIndex, NAME_LIMIT, NUMBER_LIMIT, Name, SOURCE_LIMIT, Span, TokenKind,
+    lex, line_col, one_cut, places_within,
+};
 use std::alloc::Global;
 use std::fmt::Write;
 use std::test::Fail;

@@ -1,0 +1,142 @@
+//! Erasure.
+
+ghost use Rattle.std.specs.Prelude.{◌≡◌, IfOk, filter, map, option_map};
+ghost use Rattle.og_typed.specs.Erase as erase;
+ghost use Rattle.og_typed.specs.Erase.{erased};
+ghost use Rattle.og_typed.specs.Plain as plain;
+
+use crate::copies::{blank_note, copy_basic, copy_names, copy_note};
+use crate::program::Program;
+use og_typed::{Basic, Item, Outline, Parts, Seq, Stmt};
+use std::alloc::{AllocError, Global};
+
+// The statements of an await that assign no auxiliary.
+fn body(alloc: Global, vars: u32, body: &[Basic]) -> Result<Vec<Basic>, AllocError>
+    ensures { IfOk result (λ v. map plain.simple v.items ≡ filter (erase.is_kept vars) (map plain.simple body.now)) }
+{
+    let mut kept = Vec::new(alloc);
+    for basic in body {
+        if is_kept(vars, basic) {
+            kept.push(copy_basic(basic)?)?;
+        }
+    }
+    Ok(kept)
+}
+
+fn is_kept(vars: u32, basic: &Basic) -> bool
+    ensures { result ≡ erase.is_kept vars (plain.simple basic.now) }
+{
+    match basic {
+        Basic::Skip => true,
+        Basic::Assign(var, _) => *var < vars,
+    }
+}
+
+// Whether the statement is an assignment to an auxiliary.
+fn is_aux_assign(vars: u32, stmt: &Stmt) -> bool
+    ensures { result ≡ erase.is_aux_assign vars (plain.statement stmt.now) }
+{
+    match stmt {
+        Stmt::Assign(var, _) => vars <= *var,
+        _ => false,
+    }
+}
+
+// The statement without the assignments to auxiliaries inside it.
+#[cycle(sequences)]
+fn statement(alloc: Global, vars: u32, stmt: &Stmt) -> Result<Stmt, AllocError>
+    ensures { IfOk result (λ s. plain.statement s ≡ erase.erase_stmt vars (plain.statement stmt.now)) }
+{
+    match stmt {
+        Stmt::Skip => Ok(Stmt::Skip),
+        Stmt::Assign(var, form) => Ok(Stmt::Assign(*var, form.copy()?)),
+        Stmt::If(test, then, None) => {
+            let then = Box::new(alloc, sequence(alloc, vars, then)?)?;
+            Ok(Stmt::If(test.copy(alloc)?, then, None))
+        }
+        Stmt::If(test, then, Some(other)) => {
+            let then = Box::new(alloc, sequence(alloc, vars, then)?)?;
+            let other = Box::new(alloc, sequence(alloc, vars, other)?)?;
+            Ok(Stmt::If(test.copy(alloc)?, then, Some(other)))
+        }
+        Stmt::While(test, inner) => {
+            let inner = Box::new(alloc, sequence(alloc, vars, inner)?)?;
+            Ok(Stmt::While(test.copy(alloc)?, inner))
+        }
+        Stmt::Await(guard, elements) => {
+            let kept = body(alloc, vars, elements)?;
+            Ok(Stmt::Await(guard.copy(alloc)?, kept))
+        }
+    }
+}
+
+// The sequence without the assignments to auxiliaries at every depth, and with `true` for each
+// assertion.
+#[cycle(sequences)]
+fn sequence(alloc: Global, vars: u32, seq: &Seq) -> Result<Seq, AllocError>
+    ensures { IfOk result (λ q. plain.sequence q ≡ erase.erase_seq vars (plain.sequence seq.now)) }
+{
+    let mut items = Vec::new(alloc);
+    for item in &seq.items {
+        if !is_aux_assign(vars, &item.stmt) {
+            let before = blank_note(&item.before);
+            let stmt = statement(alloc, vars, &item.stmt)?;
+            items.push(Item {
+                before,
+                stmt,
+                at: item.at,
+            })?;
+        }
+    }
+    let last = blank_note(&seq.last);
+    Ok(Seq { items, last })
+}
+
+// A part of the main process, where there is one.
+fn part(alloc: Global, vars: u32, whole: Option<&Seq>) -> Result<Option<Seq>, AllocError>
+    ensures { IfOk result (λ q. option_map plain.sequence q
+        ≡ option_map (erase.erase_seq vars) (option_map (λ seq. plain.sequence seq.now) whole.entry)) }
+{
+    match whole {
+        None => Ok(None),
+        Some(seq) => Ok(Some(sequence(alloc, vars, seq)?)),
+    }
+}
+
+fn processes(alloc: Global, vars: u32, all: &[Seq]) -> Result<Vec<Seq>, AllocError>
+    ensures { IfOk result (λ v. map plain.sequence v.items ≡ map (erase.erase_seq vars) (map plain.sequence all.now)) }
+{
+    let mut processes = Vec::new(alloc);
+    for process in all {
+        processes.push(sequence(alloc, vars, process)?)?;
+    }
+    Ok(processes)
+}
+
+/// The program of an outline: without the auxiliary variables, and without the assignments to them
+/// at every depth, also in the body of an await. What becomes empty stays: a sequence, a branch, a
+/// body, a part before `cobegin` or after `coend`. The precondition and the postcondition stay, and
+/// every other assertion becomes `true`. The places stay.
+///
+/// # Errors
+///
+/// Only where an allocation was refused.
+pub fn erase(alloc: Global, outline: &Outline) -> Result<Program, AllocError>
+    ensures { IfOk result (λ program. program ≡ erased outline.now) }
+{
+    outline.follows_rule();
+    let vars = outline.vars();
+    let parts = Parts {
+        names: copy_names(alloc, &outline.names()[..vars as usize])?,
+        vars,
+        aux_values: Vec::new(alloc),
+        pre: copy_note(alloc, outline.pre())?,
+        prologue: part(alloc, vars, outline.prologue())?,
+        processes: processes(alloc, vars, outline.processes())?,
+        epilogue: part(alloc, vars, outline.epilogue())?,
+        post: copy_note(alloc, outline.post())?,
+        cobegin_at: outline.cobegin_at(),
+    };
+    let outline = Outline::new(parts);
+    Ok(Program { outline })
+}

@@ -1,8 +1,0 @@
-use crate::{erased_soundness, progress, soundness};
-
-#[test]
-fn laws(_rt: HostRuntime) {
-    soundness();
-    erased_soundness();
-    progress();
-}

@@ -1,0 +1,10 @@
+//! The theorem over all interleavings, as calls: there is nothing to run.
+
+use og_judge::{erased_soundness, progress, soundness};
+
+#[test]
+fn laws(_rt: HostRuntime) {
+    soundness();
+    erased_soundness();
+    progress();
+}
