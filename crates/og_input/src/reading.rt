@@ -1,0 +1,96 @@
+//! Reading an input up to a limit.
+
+ghost use Rattle.std.specs.Prelude.{◌≡◌, ◌≤◌, ◌<◌, OnOk, IfOk, IfSome, length, take, false, vec_len};
+ghost use Rattle.std.specs.Io.KnownBytes.{IsAtEnd};
+ghost use Rattle.og_input.specs.Reading.{Takes};
+ghost use Rattle.og_input.specs.declared.reading.ReadFault.TheVariants.{Memory};
+
+use std::alloc::{AllocError, AllocFailed, Global};
+use std::io::{ErrorKind, Read};
+
+/// Why an input was not read.
+#[derive(Clone, Copy, Debug, PartialEq, Eq)]
+pub enum ReadFault {
+    /// The reader failed, or was read 100,000,000 times and had not ended.
+    Failed,
+    /// An allocation was refused.
+    Memory,
+}
+
+impl From<AllocError> for ReadFault {
+    ghost from_gives = { λ _ e. e ≡ Memory };
+
+    fn from(_: AllocError) -> ReadFault {
+        ReadFault::Memory
+    }
+}
+
+impl<T: Drop> From<AllocFailed<T>> for ReadFault {
+    ghost from_gives = { λ _ e. e ≡ Memory };
+
+    fn from(_: AllocFailed<T>) -> ReadFault {
+        ReadFault::Memory
+    }
+}
+
+// How often a reader is read at most.
+const MOST_READS: u32 = 100_000_000;
+
+// How many bytes are asked for at once.
+const CHUNK: usize = 65536;
+
+// Reads once, and adds what came. Whether more may come; a read that was interrupted is tried again.
+fn read_once<R: Read>(
+    reader: &mut R,
+    chunk: &mut [u8],
+    text: &mut Vec<u8>,
+) -> Result<bool, ReadFault>
+    requires { 0 < length chunk.old }
+    ensures takes { OnOk result (Takes (R.remaining reader.old) (R.remaining reader.new) text.old.items text.new.items (length chunk.old)) }
+    ensures end { IfOk result (λ more. more ≡ false → IsAtEnd (R.remaining reader.new)) }
+{
+    match reader.read(chunk) {
+        Ok(count) => {
+            text.extend_from_slice(&chunk[..count])?;
+            Ok(count > 0)
+        }
+        Err(error) => {
+            if error.kind() == ErrorKind::Interrupted {
+                Ok(true)
+            } else {
+                Err(ReadFault::Failed)
+            }
+        }
+    }
+}
+
+// Room for one read.
+fn zeros(alloc: Global, count: usize) -> Result<Vec<u8>, AllocError>
+    ensures { IfOk result (λ v. vec_len v ≡ count) }
+{
+    vec![in alloc; 0; count]
+}
+
+/// The bytes of an input up to its end, or the first `most` of them.
+///
+/// # Errors
+///
+/// `Failed` where the reader failed, or had not ended after 100,000,000 reads. `Memory` where an
+/// allocation was refused.
+pub fn read_up_to<R: Read>(alloc: Global, reader: &mut R, most: usize) -> Result<Vec<u8>, ReadFault>
+    ensures { IfOk result (λ text. IfSome (R.remaining reader.old) (λ input. text.items ≡ take most input)) }
+{
+    let mut chunk = zeros(alloc, CHUNK)?;
+    let mut text = Vec::new(alloc);
+    for _ in 0..MOST_READS {
+        let room = most - text.len();
+        if room == 0 {
+            return Ok(text);
+        }
+        let size = room.min(chunk.len());
+        if !read_once(reader, &mut chunk[..size], &mut text)? {
+            return Ok(text);
+        }
+    }
+    Err(ReadFault::Failed)
+}

@@ -1,0 +1,114 @@
+//! The command line, as help texts show it.
+
+use clap::{Arg, ArgAction, Command};
+use std::alloc::{AllocError, Global};
+
+fn source_arg<'a>(alloc: Global) -> Arg<'a> {
+    Arg::new(alloc, "SOURCE")
+        .required(true)
+        .action(ArgAction::Set)
+        .help("The proof outline, or - for standard input")
+}
+
+fn check_command<'a>(alloc: Global) -> Result<Command<'a>, AllocError> {
+    let certs = Arg::new(alloc, "CERTS")
+        .required(true)
+        .action(ArgAction::Set)
+        .help("The certificates");
+    let workers = Arg::new(alloc, "workers")
+        .long("workers")
+        .value_name("N")
+        .default_value("1")
+        .value_parser(clap::value_parser!(u32).range(1..=64))
+        .help("How many threads check");
+    let json = Arg::new(alloc, "json")
+        .long("json")
+        .action(ArgAction::SetTrue)
+        .help("Print the report as JSON");
+    Command::new(alloc, "check")
+        .about("Check an outline by its certificates")
+        .arg(source_arg(alloc))?
+        .arg(certs)?
+        .arg(workers)?
+        .arg(json)
+}
+
+fn conditions_command<'a>(alloc: Global) -> Result<Command<'a>, AllocError> {
+    Command::new(alloc, "conditions")
+        .about("Print every condition with its facts")
+        .arg(source_arg(alloc))
+}
+
+fn find_command<'a>(alloc: Global) -> Result<Command<'a>, AllocError> {
+    let budget = Arg::new(alloc, "budget")
+        .long("budget")
+        .value_name("N")
+        .default_value("100000")
+        .value_parser(clap::value_parser!(u64).range(1..=1000000000))
+        .help("How many facts may be added for each condition");
+    Command::new(alloc, "find")
+        .about("Print the certificates that are found")
+        .arg(source_arg(alloc))?
+        .arg(budget)
+}
+
+fn erase_command<'a>(alloc: Global) -> Result<Command<'a>, AllocError> {
+    Command::new(alloc, "erase")
+        .about("Print the program without its auxiliary variables")
+        .arg(source_arg(alloc))
+}
+
+fn run_command<'a>(alloc: Global) -> Result<Command<'a>, AllocError> {
+    let limit = Arg::new(alloc, "limit")
+        .long("limit")
+        .value_name("N")
+        .default_value("1000")
+        .value_parser(clap::value_parser!(u32).range(0..=1000000))
+        .help("How many steps the history may have");
+    let erased = Arg::new(alloc, "erased")
+        .long("erased")
+        .action(ArgAction::SetTrue)
+        .help("Run the erased program");
+    let certs = Arg::new(alloc, "certs")
+        .long("certs")
+        .value_name("FILE")
+        .action(ArgAction::Set)
+        .conflicts_with("erased")?
+        .help("Run only what these certificates prove safe");
+    let values = Arg::new(alloc, "NAME=INT")
+        .num_args(0..)
+        .action(ArgAction::Append)
+        .help("A variable's value at the start");
+    Command::new(alloc, "run")
+        .about("Run the processes in threads")
+        .arg(source_arg(alloc))?
+        .arg(limit)?
+        .arg(erased)?
+        .arg(certs)?
+        .arg(values)
+}
+
+fn migrate_command<'a>(alloc: Global) -> Result<Command<'a>, AllocError> {
+    let certs = Arg::new(alloc, "CERTS")
+        .required(true)
+        .action(ArgAction::Set)
+        .help("The certificates");
+    Command::new(alloc, "migrate")
+        .about("Print certificates in version 2 of their format")
+        .arg(certs)
+}
+
+/// The program's command line.
+pub(crate) fn program<'a>(alloc: Global) -> Result<Command<'a>, AllocError> {
+    Command::new(alloc, "og")
+        .about("Checks proof outlines of parallel programs")
+        .no_binary_name(true)
+        .disable_help_subcommand(true)
+        .subcommand_required(true)
+        .subcommand(check_command(alloc)?)?
+        .subcommand(conditions_command(alloc)?)?
+        .subcommand(find_command(alloc)?)?
+        .subcommand(erase_command(alloc)?)?
+        .subcommand(run_command(alloc)?)?
+        .subcommand(migrate_command(alloc)?)
+}

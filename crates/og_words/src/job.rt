@@ -1,0 +1,83 @@
+//! What the program is asked to do.
+
+use std::alloc::{AllocError, AllocFailed};
+
+/// The words that name commands.
+#[derive(Clone, Copy, Debug, PartialEq, Eq)]
+pub(crate) enum Verb {
+    Check,
+    Conditions,
+    Find,
+    Erase,
+    Run,
+    Migrate,
+}
+
+/// What is to be done, with defaults filled in. It borrows the words.
+#[derive(Debug, Drop)]
+pub enum Job<'a> {
+    /// Check one input that holds the source and then the certificates.
+    Joined,
+    /// Check an outline by its certificates.
+    Check {
+        source: &'a str,
+        certs: &'a str,
+        /// How many threads check, 1 to 64.
+        workers: u32,
+        /// Whether the report is to be JSON.
+        json: bool,
+    },
+    /// Print every condition with its facts.
+    Conditions {
+        source: &'a str,
+    },
+    /// Print the certificates that are found.
+    Find {
+        source: &'a str,
+        /// How many facts may be added for each condition, 1 to 1,000,000,000.
+        budget: u64,
+    },
+    /// Print the program without its auxiliary variables.
+    Erase {
+        source: &'a str,
+    },
+    /// Run the processes in threads.
+    Run {
+        source: &'a str,
+        /// How many steps the history may have, at most 1,000,000.
+        limit: u32,
+        /// Whether the program without auxiliary variables is to be run.
+        erased: bool,
+        /// The certificates that are to prove the outline safe first.
+        certs: Option<&'a str>,
+        /// Words that give variables their values at the start.
+        values: Vec<&'a str>,
+    },
+    /// Print the certificates in version 2 of their format.
+    Migrate {
+        certs: &'a str,
+    },
+}
+
+/// Why there is no job.
+#[derive(Debug, Drop)]
+pub enum Usage {
+    /// The help text that was asked for.
+    Asked(String),
+    /// What is wrong with the words.
+    Wrong(String),
+    /// An allocation was refused.
+    Memory,
+}
+
+impl From<AllocError> for Usage {
+    fn from(_: AllocError) -> Usage {
+        Usage::Memory
+    }
+}
+
+impl<T: Drop> From<AllocFailed<T>> for Usage {
+    fn from(_: AllocFailed<T>) -> Usage {
+        Usage::Memory
+    }
+}

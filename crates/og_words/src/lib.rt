@@ -1,0 +1,9 @@
+//! The words after the program's name, as jobs.
+#![tactic(auto)]
+
+mod commands;
+mod job;
+mod words;
+
+pub use job::{Job, Usage};
+pub use words::read_words;

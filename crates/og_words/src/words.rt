@@ -1,0 +1,159 @@
+//! From words to a job.
+
+ghost use Rattle.std.specs.Prelude.{◌≡◌, ◌≤◌, IfOk, IfSome, Some, length, string_bytes, option_map, slice_get};
+ghost use Rattle.og_words.specs.Jobs.{verb_name, command_of, IsWithinRanges};
+
+use crate::commands::program;
+use crate::job::{Job, Usage, Verb};
+use clap::ArgMatches;
+use clap::error::ErrorKind;
+use std::alloc::{AllocError, Global};
+
+fn verb_of(word: &str) -> Option<Verb>
+    ensures { IfSome result (λ v. verb_name v ≡ word.now) }
+{
+    if word == "check" {
+        Some(Verb::Check)
+    } else if word == "conditions" {
+        Some(Verb::Conditions)
+    } else if word == "find" {
+        Some(Verb::Find)
+    } else if word == "erase" {
+        Some(Verb::Erase)
+    } else if word == "run" {
+        Some(Verb::Run)
+    } else if word == "migrate" {
+        Some(Verb::Migrate)
+    } else {
+        None
+    }
+}
+
+fn check_job<'a>(m: &ArgMatches<'a>) -> Option<Job<'a>>
+    ensures command { IfSome result (λ job. command_of job ≡ Some (verb_name Verb.Check)) }
+    ensures ranges { IfSome result IsWithinRanges }
+{
+    let source = m.get_str("SOURCE")?;
+    let certs = m.get_str("CERTS")?;
+    let workers = m.get_one::<u32>("workers")?;
+    if workers < 1 || workers > 64 {
+        return None;
+    }
+    Some(Job::Check {
+        source,
+        certs,
+        workers,
+        json: m.get_flag("json"),
+    })
+}
+
+fn find_job<'a>(m: &ArgMatches<'a>) -> Option<Job<'a>>
+    ensures command { IfSome result (λ job. command_of job ≡ Some (verb_name Verb.Find)) }
+    ensures ranges { IfSome result IsWithinRanges }
+{
+    let source = m.get_str("SOURCE")?;
+    let budget = m.get_one::<u64>("budget")?;
+    if budget < 1 || budget > 1000000000 {
+        return None;
+    }
+    Some(Job::Find { source, budget })
+}
+
+fn values_of<'a>(alloc: Global, m: &ArgMatches<'a>) -> Result<Vec<&'a str>, AllocError> {
+    let mut values = Vec::new(alloc);
+    if let Some(words) = m.get_strs("NAME=INT") {
+        for word in words {
+            values.push(*word)?;
+        }
+    }
+    Ok(values)
+}
+
+fn run_job<'a>(alloc: Global, m: &ArgMatches<'a>) -> Result<Option<Job<'a>>, AllocError>
+    ensures command { IfOk result (λ r. IfSome r (λ job. command_of job ≡ Some (verb_name Verb.Run))) }
+    ensures ranges { IfOk result (λ r. IfSome r IsWithinRanges) }
+{
+    let values = values_of(alloc, m)?;
+    let Some(source) = m.get_str("SOURCE") else {
+        return Ok(None);
+    };
+    let Some(limit) = m.get_one::<u32>("limit") else {
+        return Ok(None);
+    };
+    if limit > 1000000 {
+        return Ok(None);
+    }
+    Ok(Some(Job::Run {
+        source,
+        limit,
+        erased: m.get_flag("erased"),
+        certs: m.get_str("certs"),
+        values,
+    }))
+}
+
+// The job of a command.
+fn job_of<'a>(alloc: Global, verb: Verb, m: &ArgMatches<'a>) -> Result<Option<Job<'a>>, AllocError>
+    ensures command { IfOk result (λ r. IfSome r (λ job. command_of job ≡ Some (verb_name verb))) }
+    ensures ranges { IfOk result (λ r. IfSome r IsWithinRanges) }
+{
+    match verb {
+        Verb::Check => Ok(check_job(m)),
+        Verb::Conditions => match m.get_str("SOURCE") {
+            Some(source) => Ok(Some(Job::Conditions { source })),
+            None => Ok(None),
+        },
+        Verb::Find => Ok(find_job(m)),
+        Verb::Erase => match m.get_str("SOURCE") {
+            Some(source) => Ok(Some(Job::Erase { source })),
+            None => Ok(None),
+        },
+        Verb::Run => run_job(alloc, m),
+        Verb::Migrate => match m.get_str("CERTS") {
+            Some(certs) => Ok(Some(Job::Migrate { certs })),
+            None => Ok(None),
+        },
+    }
+}
+
+// What the words say by the command line.
+fn matches_of<'a>(alloc: Global, words: &'a [String]) -> Result<ArgMatches<'a>, Usage> {
+    match program(alloc)?.try_get_matches_from(words) {
+        Ok(matches) => Ok(matches),
+        Err(error) => {
+            if error.kind() == ErrorKind::OutOfMemory {
+                return Err(Usage::Memory);
+            }
+            let text = format!(in alloc; "{error}")?;
+            Err(if error.use_stderr() {
+                Usage::Wrong(text)
+            } else {
+                Usage::Asked(text)
+            })
+        }
+    }
+}
+
+/// The job that the words ask for; they are the words after the program's name. The first names
+/// the command, and without any it is `Joined`.
+///
+/// `Asked` holds a help text, `Wrong` what is wrong with the words; `Memory` where an allocation was
+/// refused.
+pub fn read_words<'a>(alloc: Global, words: &'a [String]) -> Result<Job<'a>, Usage>
+    ensures command { IfOk result (λ job. command_of job ≡ option_map (λ w. string_bytes w) (slice_get words.now 0)) }
+    ensures ranges { IfOk result IsWithinRanges }
+    ensures none { length words.now ≡ 0 → result ≡ Ok Job.Joined }
+{
+    let Some(first) = words.first() else {
+        return Ok(Job::Joined);
+    };
+    let matches = matches_of(alloc, words)?;
+    if let Some(verb) = verb_of(first.as_str()) {
+        if let Some((_, m)) = matches.subcommand() {
+            if let Some(job) = job_of(alloc, verb, m)? {
+                return Ok(job);
+            }
+        }
+    }
+    Err(Usage::Wrong(String::from_str(alloc, "og: bad words\n")?))
+}
