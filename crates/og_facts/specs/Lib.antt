@@ -4,3 +4,6 @@ pub mod Facts
 pub mod Plain
 pub mod Listed
 pub mod Codes
+pub mod Walk
+pub mod Answer
+pub mod Rooms

@@ -5,10 +5,21 @@
 //! shows the condition.
 #![tactic(auto)]
 
+mod counting;
 mod fact;
 mod fault;
+mod goals;
+mod hypotheses;
+mod laws;
+mod limits;
 mod list;
+mod listing;
+mod relations;
+mod walking;
 
 pub use fact::Fact;
 pub use fault::{FactsError, FactsFault};
+pub use laws::facts_law;
+pub use limits::FACT_LIMIT;
 pub use list::FactList;
+pub use listing::{facts, facts_with};
