@@ -1,13 +1,9 @@
 -- Loops that add facts, or parts, one element after another.
-use Rattle.std.proofs.Common.{◌≡◌, ℕ, ◌+◌, suc, ◌<◌, ◌≤◌, List, [], ◌∷◌, ◌++◌, map, length, drop, get_or, drop-cons, add-one, drop_of_length-le, Bool, true, false, Option, Some, None, refl, sym, ap, ◌∙◌, subst, append_assoc, arith}
-use Rattle.std.specs.Prelude.{option_and_then, option_map, Err}
+use Rattle.std.proofs.Common.{◌≡◌, ℕ, ◌+◌, suc, ◌<◌, ◌≤◌, List, [], ◌∷◌, ◌++◌, map, length, drop, get_or, drop-cons, add-one, drop_of_length-le, Option, Some, None, refl, sym, ap, ◌∙◌, append_assoc}
+use Rattle.std.specs.Prelude.{option_map}
 use Rattle.std.proofs.lemmas.List.{append-nil}
 use Rattle.std.proofs.lemmas.Option.{none-some, same_Some}
-use Rattle.og_linear.specs.Answer.{IsAnswer, FailsAs}
-use Rattle.og_linear.specs.declared.fault.FormFault.{FormFault}
-use Rattle.og_linear.specs.declared.fault.FormError.{FormError}
-use Rattle.og_linear.specs.declared.fault.FormError.TheVariants as errors
-use Rattle.og_facts.specs.Facts.{Fact, checked_facts}
+use Rattle.og_facts.specs.Facts.{Fact}
 use Rattle.og_facts.specs.Answer.{behind}
 use Rattle.og_facts.specs.Walk.{joined, part_and}
 

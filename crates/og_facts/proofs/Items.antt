@@ -1,10 +1,10 @@
 -- The facts of lists, by the items of a `Vec`.
 use Rattle.std.proofs.Common.{◌≡◌, ℕ, suc, ◌+◌, ◌<◌, ◌≤◌, List, [], ◌∷◌, ◌++◌, map, length, drop, get_or, Bool, true, false, Vec, Global, Option, Some, None, refl, sym, ap, ◌∙◌, arith}
-use Rattle.std.specs.Prelude.{option_map, option_and_then}
+use Rattle.std.specs.Prelude.{option_map}
 use Rattle.std.proofs.lemmas.Option.{none-some, same_Some, option_and_then_some}
 use Rattle.og_linear.specs.Linear.{FormValue}
 use Rattle.og_linear.specs.Arith.{MapValue}
-use Rattle.og_typed.specs.Syntax.{Formula, formula_list}
+use Rattle.og_typed.specs.Syntax.{formula_list}
 use Rattle.og_typed.specs.Plain.{formula}
 use Rattle.og_typed.specs.declared.assertion.Assert.{Assert}
 use Rattle.og_typed.specs.declared.assertion.Assert.TheViews as its

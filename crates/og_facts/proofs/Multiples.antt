@@ -1,16 +1,16 @@
 -- The form of each inequality of a relation, made as a multiple of the form and a constant.
-use Rattle.std.proofs.Common.{◌≡◌, ◌≢◌, ℕ, zero, suc, ◌+◌, ◌<◌, ◌^◌, ℤ, pos, negsuc, neg_ℤ, ◌+ℤ◌, ◌*ℤ◌, List, [], ◌∷◌, ◌++◌, Bool, true, false, ◌&&◌, cond, Option, Some, None, FitsSigned, refl, sym, ap, ap₂, ◌∙◌, arith}
-use Rattle.std.specs.Prelude.{nat_lt, option_map}
+use Rattle.std.proofs.Common.{◌≡◌, ◌≢◌, ℕ, zero, suc, ◌+◌, ◌<◌, ◌^◌, ℤ, pos, negsuc, neg_ℤ, ◌+ℤ◌, ◌*ℤ◌, [], ◌∷◌, Bool, true, false, ◌&&◌, cond, Some, None, refl, sym, ap, ap₂, ◌∙◌, arith}
+use Rattle.std.specs.Prelude.{option_map}
 use Rattle.std.specs.Ordering.{int_eq}
 use Rattle.std.proofs.lemmas.Int.{ints}
-use Rattle.std.proofs.lemmas.Bool.{false_from_ne_true, ltb-true, lt-ltb, and_from, and_left, and_right, both_ways}
+use Rattle.std.proofs.lemmas.Bool.{false_from_ne_true, ltb-true, lt-ltb, and_from}
 use Rattle.std.proofs.lemmas.Bool.Decides.{Decides-int_eq}
 use Rattle.og_linear.specs.Linear.{Terms, FormValue, form_value, IsTidyFrom, IsTidy}
-use Rattle.og_linear.specs.Arith.{with_term, scale_terms, scaled, merge, plus, add_scaled, variable, fits_i128, fits_terms, fits_form}
+use Rattle.og_linear.specs.Arith.{with_term, scale_terms, scaled, plus, add_scaled, variable, fits_i128, fits_terms, fits_form}
 use Rattle.og_linear.specs.Answer.{checked}
-use Rattle.og_facts.specs.Facts.{Fact, Atom, plus_one, negated, equal, apart, split, checked_facts}
+use Rattle.og_facts.specs.Facts.{Atom, plus_one, negated, equal, apart, split, checked_facts}
 use Rattle.og_facts.specs.Walk.{joined, part_and}
-use Rattle.og_facts.proofs.Walked.{checked_append, checked_each, split_checked}
+use Rattle.og_facts.proofs.Walked.{checked_append, split_checked}
 
 -- ---- one sum
 

@@ -1,8 +1,8 @@
 -- The plain tree of a split, by the items of its `Vec`s.
-use Rattle.std.proofs.Common.{◌≡◌, ℕ, suc, ◌<◌, List, [], ◌∷◌, ◌++◌, map, length, Vec, Global, refl, sym, ap, ap₂, ◌∙◌, arith}
-use Rattle.og_facts.specs.declared.fact.Fact.{Fact, Row_of-Fact, end_of-Fact, more_of-Fact, items-the_row-Fact, items_hidden-the_row-Fact-0, items_shown-the_row-Fact-0, Row_of-Fact-Split-0-1, end_of-Fact-Split-0-1, more_of-Fact-Split-0-1, items-the_row-Fact-Split-0-1, items_hidden-the_row-Fact-Split-0-1-1}
+use Rattle.std.proofs.Common.{◌≡◌, ◌<◌, List, [], ◌∷◌, map, length, Vec, Global, refl, sym, ap, ap₂, ◌∙◌, arith}
+use Rattle.og_facts.specs.declared.fact.Fact.{Fact, Row_of-Fact, end_of-Fact, more_of-Fact, items-the_row-Fact, items_shown-the_row-Fact-0, Row_of-Fact-Split-0-1, end_of-Fact-Split-0-1, more_of-Fact-Split-0-1, items-the_row-Fact-Split-0-1, items_hidden-the_row-Fact-Split-0-1-1}
 use Rattle.og_facts.specs.declared.fact.Fact.TheViews as its
-use Rattle.og_facts.specs.declared.fact.Fact.TheBlock.{hidden-the_row-Fact-Split-0-1-1, shown-the_row-Fact-0}
+use Rattle.og_facts.specs.declared.fact.Fact.TheBlock.{hidden-the_row-Fact-Split-0-1-1}
 use Rattle.og_facts.specs.Facts as plain
 use Rattle.og_facts.specs.Facts.{facts_of_list, parts_of_list, split}
 use Rattle.og_facts.specs.Plain.{plain_fact, plain_parts, plain_facts}

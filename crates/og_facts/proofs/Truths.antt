@@ -1,17 +1,16 @@
 -- The table of facts says what the assertion says.
-use Rattle.std.proofs.Common.{◌≡◌, ℕ, ◌+◌, ◌≤◌, ℤ, pos, negsuc, neg_ℤ, ◌+ℤ◌, ◌*ℤ◌, List, [], ◌∷◌, ◌++◌, map, Bool, true, false, not, ◌&&◌, ◌||◌, refl, sym, ap, ap₂, ◌∙◌, arith, length, append_assoc}
+use Rattle.std.proofs.Common.{◌≡◌, ℕ, ◌+◌, ℤ, pos, negsuc, neg_ℤ, ◌+ℤ◌, ◌*ℤ◌, List, [], ◌∷◌, ◌++◌, map, Bool, true, false, not, ◌&&◌, ◌||◌, refl, sym, ap, ap₂, ◌∙◌, arith, length}
 use Rattle.std.specs.Prelude.{int_le}
 use Rattle.std.specs.Ordering.{int_eq}
 use Rattle.std.proofs.lemmas.Int.{ints}
 use Rattle.std.proofs.lemmas.List.{length-append}
 use Rattle.std.proofs.lemmas.Bool.Decides.{Decides-int_eq}
 use Rattle.std.proofs.lemmas.Bool.{false_from_ne_true, both_ways}
-use Rattle.og_linear.specs.Linear.{FormValue, form_value, val, val_terms, value_at}
-use Rattle.og_linear.specs.Arith.{scaled}
+use Rattle.og_linear.specs.Linear.{FormValue, form_value, val, value_at}
 use Rattle.og_typed.specs.Syntax.{Formula, Formulas, True, False, Le, Eq, Ne, Not, And, Or, Imp, none, more}
 use Rattle.og_typed.specs.Truth.{truth, all_true, some_true}
 use Rattle.og_cond.specs.Condition.{Part, Yes, No, Hypothesis, Is, Starts, OneOf, part_true, all_parts, some_parts, hypothesis_true, hypotheses_true}
-use Rattle.og_facts.specs.Facts.{Fact, Atom, Split, Parts, no_part, part, Facts, no_fact, fact, facts_of_list, parts_of_list, fact_true, some_part_true, facts_true, all_true_at, impossible, plus_one, negated, split, equal, apart, yes, no, yes_all, no_all, yes_each, no_each, facts_of_part, facts_of_parts, facts_of_hypothesis, facts_of_hypotheses}
+use Rattle.og_facts.specs.Facts.{Fact, Atom, facts_of_list, parts_of_list, fact_true, some_part_true, facts_true, all_true_at, plus_one, negated, split, equal, apart, yes, no, yes_all, no_all, yes_each, no_each, facts_of_part, facts_of_parts, facts_of_hypothesis, facts_of_hypotheses}
 use Rattle.og_facts.specs.Counts.{split_count, count_yes, count_no, count_yes_all, count_no_all, counts_yes, counts_no}
 use Rattle.og_linear.proofs.Values.{val-scaled}
 
@@ -122,7 +121,7 @@ mutual
   yes_true (And all) s = yes_all_true all s
   yes_true (Or all) s = split_true s (yes_each all) ∙ yes_each_true all s
   yes_true (Imp a b) s = split_true s (no a ∷ yes b ∷ []) ∙ ap₂ ◌||◌ (no_true a s) (or_false _ ∙ yes_true b s)
-  
+
   pub no_true : (a : Formula) (s : List ℤ) → all_true_at s (no a) ≡ not (truth a s)
   no_true True s = refl
   no_true False s = refl
@@ -174,9 +173,9 @@ starts_said x v s = go (int_eq (value_at s x) v) refl
     go true e = let h : value_at s x ≡ v = (Decides-int_eq _ _).0 e in (Decides-int_eq (val (form_value ((x, pos 1) ∷ []) (neg_ℤ v)) s) (pos 0)).1 (omega (arith, ints))
     go false e =
         false_from_ne_true (int_eq (val (form_value ((x, pos 1) ∷ []) (neg_ℤ v)) s) (pos 0)) (λ t.
-          let z : val (form_value ((x, pos 1) ∷ []) (neg_ℤ v)) s ≡ pos 0 = (Decides-int_eq _ _).0 t in
-          let same : value_at s x ≡ v = omega (arith, ints) in
-          both_ways (int_eq (value_at s x) v) e ((Decides-int_eq (value_at s x) v).1 same))
+        let z : val (form_value ((x, pos 1) ∷ []) (neg_ℤ v)) s ≡ pos 0 = (Decides-int_eq _ _).0 t in
+        let same : value_at s x ≡ v = omega (arith, ints) in
+        both_ways (int_eq (value_at s x) v) e ((Decides-int_eq (value_at s x) v).1 same))
 
 hypothesis_said : (h : Hypothesis) (s : List ℤ) → all_true_at s (facts_of_hypothesis h) ≡ hypothesis_true s h
 hypothesis_said (Is p) s = part_said p s

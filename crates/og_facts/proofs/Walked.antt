@@ -1,13 +1,13 @@
 -- The facts that are made form by form are those of the definition, and they are refused where these do not fit.
-use Rattle.std.proofs.Common.{◌≡◌, ℕ, List, [], ◌∷◌, ◌++◌, map, Bool, true, false, ◌&&◌, cond, Option, Some, None, refl, sym, ap, ap₂, ◌∙◌}
+use Rattle.std.proofs.Common.{◌≡◌, List, [], ◌∷◌, ◌++◌, map, Bool, true, false, ◌&&◌, cond, Option, Some, None, refl, sym, ap, ap₂, ◌∙◌}
 use Rattle.std.specs.Prelude.{option_and_then, option_map}
 use Rattle.og_linear.specs.Linear.{FormValue}
-use Rattle.og_linear.specs.Arith.{MapValue, apply}
+use Rattle.og_linear.specs.Arith.{MapValue}
 use Rattle.og_typed.specs.Syntax.{Formula, Formulas, True, False, Le, Eq, Ne, Not, And, Or, Imp, none, more, Simple}
 use Rattle.og_subst.specs.Subst.{forward, values, after, after_all, low, high, ranges}
 use Rattle.og_cond.specs.Condition.{Part, Yes, No, Hypothesis, Is, Starts, OneOf, Goal, Holds, Fits, Never, Condition}
-use Rattle.og_facts.specs.Facts.{Fact, Split, Parts, parts_of_list, facts_of_list, fact_fits, facts_fit, parts_fit, impossible, split, yes, no, yes_all, no_all, yes_each, no_each, facts_of_part, facts_of_parts, facts_of_hypothesis, facts_of_hypotheses, goal_before, all_fit_in, checked_facts, exact_facts}
-use Rattle.og_facts.specs.Walk.{said, under, joined, part_and, walk_relation, walk, walk_all, walk_each, walk_part, walk_parts, walk_lists, walk_hypothesis, walk_hypotheses, beyond, walk_values, walk_goal}
+use Rattle.og_facts.specs.Facts.{Fact, parts_of_list, fact_fits, parts_fit, split, yes, no, yes_all, no_all, yes_each, no_each, facts_of_part, facts_of_parts, facts_of_hypothesis, facts_of_hypotheses, goal_before, all_fit_in, checked_facts, exact_facts}
+use Rattle.og_facts.specs.Walk.{said, under, joined, part_and, walk, walk_all, walk_each, walk_part, walk_parts, walk_lists, walk_hypothesis, walk_hypotheses, beyond, walk_values, walk_goal}
 
 -- ---- options
 

@@ -25,11 +25,7 @@ pub(crate) fn add_impossible(facts: &mut Vec<Fact>) -> Result<(), AllocError>
 }
 
 // The facts of one of the two parts.
-fn add_split(
-    facts: &mut Vec<Fact>,
-    first: Vec<Fact>,
-    second: Vec<Fact>,
-) -> Result<(), FormError>
+fn add_split(facts: &mut Vec<Fact>, first: Vec<Fact>, second: Vec<Fact>) -> Result<(), FormError>
     ensures { IsAnswer (λ _. shown facts.new) faults.TooLarge result
         (Some (shown facts.old ++ split (shown first ∷ shown second ∷ []))) }
 {
@@ -110,7 +106,7 @@ fn add_all(
 ) -> Result<(), FormError>
     ensures { IsAnswer (λ _. shown facts.new) faults.TooLarge result
         (behind (shown facts.old)
-            (walk_all (option_map (λ m. m.now) forms.entry) is_true (formula_list (map formula all.now)))) }
+        (walk_all (option_map (λ m. m.now) forms.entry) is_true (formula_list (map formula all.now)))) }
 {
     for a in all {
         add_assertion(a, is_true, forms, facts)?;
@@ -128,7 +124,7 @@ fn add_some(
 ) -> Result<(), FormError>
     ensures { IsAnswer (λ _. shown facts.new) faults.TooLarge result
         (behind (shown facts.old)
-            (option_map split (walk_each (option_map (λ m. m.now) forms.entry) is_true (formula_list (map formula all.now))))) }
+        (option_map split (walk_each (option_map (λ m. m.now) forms.entry) is_true (formula_list (map formula all.now))))) }
 {
     if all.len() == 0 {
         return Ok(add_impossible(facts)?);

@@ -1,4 +1,4 @@
-use Rattle.std.proofs.Common.{◌≡◌, ◌<◌, length, arith}
+use Rattle.std.proofs.Common.{◌<◌, length, arith}
 use Rattle.og_facts.proofs.Items.{split_pushed, lists_end}
 use Rattle.og_facts.proofs.hypotheses.add_lists.Goals as goal
 

@@ -1,4 +1,4 @@
-use Rattle.std.proofs.Common.{◌≡◌, Some, sym, ap, ◌∙◌}
+use Rattle.std.proofs.Common.{Some, sym, ap, ◌∙◌}
 use Rattle.og_subst.specs.Subst.{forward, values}
 use Rattle.og_cond.specs.Seen.{body_of, seen}
 use Rattle.og_facts.proofs.Walked.{facts_walked}

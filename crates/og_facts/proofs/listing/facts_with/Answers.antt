@@ -1,4 +1,4 @@
-use Rattle.std.proofs.Common.{◌≡◌, Some, sym, ap, ◌∙◌}
+use Rattle.std.proofs.Common.{Some, sym, ap, ◌∙◌}
 use Rattle.og_cond.specs.Seen.{seen}
 use Rattle.og_facts.proofs.Prepared.{prepared_parts}
 use Rattle.og_facts.proofs.Walked.{facts_walked}

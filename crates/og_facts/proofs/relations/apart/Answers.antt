@@ -16,7 +16,7 @@ returns c =
     let items : v.items ≡ p ∷ q ∷ [] = grind (arith, common_steps) in
     apart_checked f
     ∙ ap₂ (λ a b. option_map split (part_and a (part_and b (Some []))))
-      (one_some (plus_one f) c.in_ok-next.field-0 c.in_ok-next.ensures)
-      (one_some (plus_one (negated f)) c.in_ok-beyond.field-0 c.in_ok-beyond.ensures)
+    (one_some (plus_one f) c.in_ok-next.field-0 c.in_ok-next.ensures)
+    (one_some (plus_one (negated f)) c.in_ok-beyond.field-0 c.in_ok-beyond.ensures)
     ∙ ap₂ (λ a b. Some (split (a ∷ b ∷ []))) (sym c.in_ok-part_of.ensures) (sym c.in_ok-part_of-2.ensures)
     ∙ ap Some (two_parts v p q items)

@@ -1,4 +1,4 @@
-use Rattle.std.proofs.Common.{sym, ◌∙◌}
+use Rattle.std.proofs.Common.{sym}
 use Rattle.og_facts.proofs.Multiples.{same_sum}
 use Rattle.og_facts.proofs.relations.same.Goals as goal
 

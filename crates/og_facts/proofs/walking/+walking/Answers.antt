@@ -1,4 +1,4 @@
-use Rattle.std.proofs.Common.{◌≡◌, ◌<◌, length, arith}
+use Rattle.std.proofs.Common.{◌<◌, length, arith}
 use Rattle.std.specs.Prelude.{option_map}
 use Rattle.og_facts.proofs.Items.{split_pushed, each_end}
 use Rattle.og_facts.proofs.walking.+walking.Goals as goal

@@ -15,6 +15,6 @@ invariant-add_all-loop-a l =
 abbrev pub invariant-add_some-loop-a : goal.invariant-add_some-loop-a
 invariant-add_some-loop-a l = record {
   same : behind_parts (map shown l.parts.items) (walk_each (option_map (λ m. m.now) l.forms) l.is_true (formula_list (map formula (drop l.a-index l.all))))
-    ≡ walk_each (option_map (λ m. m.now) l.forms) l.is_true (formula_list (map formula l.all));
+      ≡ walk_each (option_map (λ m. m.now) l.forms) l.is_true (formula_list (map formula l.all));
   long : length l.parts.items ≡ l.a-index;
 }
