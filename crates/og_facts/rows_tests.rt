@@ -96,13 +96,16 @@ fn told(alloc: Global, answer: &Result<FactList, FactsError>) -> Result<String, 
         Err(error) => return format!(in alloc; "{error}"),
     };
     let mut out = String::new(alloc);
-    for n in 1..=list.as_slice().len() as u32 {
+    for n in 1..20_000u32 {
+        let fact = match list.fact(n) {
+            Some(fact) => fact,
+            None => break,
+        };
         let number = format!(in alloc; "{n}: ")?;
         out.push_str(number.as_str())?;
-        match list.fact(n) {
-            Some(Fact::Atom(form)) => add_form(&mut out, alloc, form)?,
-            Some(Fact::Split(parts)) => add_split(&mut out, alloc, parts)?,
-            None => out.push_str("none")?,
+        match fact {
+            Fact::Atom(form) => add_form(&mut out, alloc, form)?,
+            Fact::Split(parts) => add_split(&mut out, alloc, parts)?,
         }
         out.push_str("; ")?;
     }
@@ -172,8 +175,9 @@ fn facts_of_conditions(rt: HostRuntime) -> Result<(), Fail> {
 
 // The answer by a map that was prepared from the action is the answer without one.
 fn expect_same(rt: &impl Abort, alloc: Global, condition: &Condition) -> Result<(), Fail> {
-    let Some(action) = &condition.action else {
-        return Ok(());
+    let action = match &condition.action {
+        Some(action) => action,
+        None => return Ok(()),
     };
     let own = told(alloc, &facts(alloc, condition))?;
     match action.prepare(alloc) {
@@ -213,16 +217,24 @@ fn numbers_of_facts(rt: HostRuntime) -> Result<(), Fail> {
     let alloc = rt.alloc();
     let outline = outline_of(alloc, NOT_EVEN)?;
     let list = conditions(alloc, &outline)?;
-    let first = facts(alloc, &list[0])?;
+    let first = match list.first() {
+        Some(condition) => facts(alloc, condition)?,
+        None => panic!(rt; "no condition"),
+    };
     assert!(rt; first.variables() == 2 && first.as_slice().len() == 2);
     assert!(rt; first.fact(0).is_none() && first.fact(3).is_none());
     assert!(rt; first.fact(1).is_some() && first.fact(2).is_some());
     Ok(())
 }
 
-// A condition from this many initial values, two facts each, to a goal that is never true.
-fn from_values(alloc: Global, count: u32) -> Result<Condition<'static>, AllocError> {
-    let mut hypotheses = Vec::with_capacity(alloc, count as usize + 1)?;
+// A condition from this many initial values, two facts each.
+fn from_values<'a>(
+    alloc: Global,
+    count: u32,
+    action: Option<Action<'a>>,
+    goal: Goal<'a>,
+) -> Result<Condition<'a>, AllocError> {
+    let mut hypotheses = Vec::new(alloc);
     for _ in 0..count {
         hypotheses.push(Hypothesis::Starts(0, 0))?;
     }
@@ -232,8 +244,8 @@ fn from_values(alloc: Global, count: u32) -> Result<Condition<'static>, AllocErr
         action_at: None,
         variables: 1,
         hypotheses,
-        goal: Goal::Never,
-        action: None,
+        goal,
+        action,
     })
 }
 
@@ -261,14 +273,13 @@ fn outcome(answer: &Result<FactList, FactsError>) -> (u8, usize) {
 fn limit_of_facts(rt: HostRuntime) -> Result<(), Fail> {
     let alloc = rt.alloc();
     let body = doublings(alloc)?;
-    let few = from_values(alloc, 5000)?;
+    let few = from_values(alloc, 5000, None, Goal::Never)?;
     assert!(rt; outcome(&facts(alloc, &few)) == (0, 10000));
-    let many = from_values(alloc, 5001)?;
+    let many = from_values(alloc, 5000, None, Goal::Fits)?;
     assert!(rt; outcome(&facts(alloc, &many)) == (35, 0));
-    let mut large = from_values(alloc, 5000)?;
-    large.action = Some(Action::Await(&body));
+    let large = from_values(alloc, 5000, Some(Action::Await(&body)), Goal::Never)?;
     assert!(rt; outcome(&facts(alloc, &large)) == (5, 0));
-    large.goal = Goal::Fits;
-    assert!(rt; outcome(&facts(alloc, &large)) == (35, 0));
+    let both = from_values(alloc, 5000, Some(Action::Await(&body)), Goal::Fits)?;
+    assert!(rt; outcome(&facts(alloc, &both)) == (35, 0));
     Ok(())
 }
