@@ -1,0 +1,10 @@
+pub mod Numbers
+pub mod Truths
+pub mod Refuted
+pub mod Walked
+pub mod Adding
+pub mod Trees
+pub mod Counted
+pub mod Multiples
+pub mod Items
+pub mod Prepared

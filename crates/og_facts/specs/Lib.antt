@@ -1,0 +1,9 @@
+pub mod Names
+pub mod Counts
+pub mod Facts
+pub mod Plain
+pub mod Listed
+pub mod Codes
+pub mod Walk
+pub mod Answer
+pub mod Rooms

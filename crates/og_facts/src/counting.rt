@@ -1,0 +1,124 @@
+//! How many facts a condition has, told without memory.
+//!
+//! Each count takes the room that is left and answers what is left behind it, or nothing where the
+//! room is too small.
+
+ghost use Rattle.std.specs.Prelude.{map};
+ghost use Rattle.og_typed.specs.Plain.{formula};
+ghost use Rattle.og_typed.specs.Syntax.{formula_list};
+ghost use Rattle.og_cond.specs.Counting.{Leaves};
+ghost use Rattle.og_cond.specs.Seen.{part_of, parts_of, hypothesis_of, seen};
+ghost use Rattle.og_facts.specs.Counts.{split_count, count_part, count_parts, count_hypothesis, count_hypotheses, count};
+ghost use Rattle.og_facts.specs.Rooms.{count_said, count_all, counts_each};
+
+use og_cond::{Condition, Goal, Hypothesis, Part};
+use og_typed::Assert;
+
+// The facts that say that the assertion is true, or false.
+#[cycle(counting)]
+#[tactic(auto, using(crate::proofs::Counted::all_of_and, crate::proofs::Counted::all_of_or, crate::proofs::Counted::some_of_and, crate::proofs::Counted::some_of_or))]
+fn behind_assertion(room: usize, is_true: bool, a: &Assert) -> Option<usize>
+    ensures { Leaves room (count_said is_true (formula a.now)) result }
+{
+    match (a, is_true) {
+        (Assert::True, true) | (Assert::False, false) => Some(room),
+        (Assert::True, false) | (Assert::False, true) | (Assert::Le(_), _) => room.checked_sub(1),
+        (Assert::Eq(_), true) | (Assert::Ne(_), false) => room.checked_sub(2),
+        (Assert::Eq(_), false) | (Assert::Ne(_), true) => room.checked_sub(1),
+        (Assert::Not(a), _) => behind_assertion(room, !is_true, a),
+        (Assert::And(all), true) => behind_all(room, true, all),
+        (Assert::And(all), false) => behind_some(room, false, all),
+        (Assert::Or(all), true) => behind_some(room, true, all),
+        (Assert::Or(all), false) => behind_all(room, false, all),
+        (Assert::Imp(..), true) => room.checked_sub(1),
+        (Assert::Imp(a, b), false) => behind_assertion(behind_assertion(room, true, a)?, false, b),
+    }
+}
+
+// The facts of all.
+#[cycle(counting)]
+fn behind_all(room: usize, is_true: bool, all: &[Assert]) -> Option<usize>
+    ensures { Leaves room (count_all is_true (formula_list (map formula all.now))) result }
+{
+    let mut left = room;
+    for a in all {
+        left = behind_assertion(left, is_true, a)?;
+    }
+    Some(left)
+}
+
+// The facts of one of them.
+#[cycle(counting)]
+#[tactic(auto, using(crate::proofs::Counted::split_single, crate::proofs::Counted::split_others))]
+fn behind_some(room: usize, is_true: bool, all: &[Assert]) -> Option<usize>
+    ensures { Leaves room (split_count (counts_each is_true (formula_list (map formula all.now)))) result }
+{
+    if all.len() == 1 {
+        behind_assertion(room, is_true, &all[0])
+    } else {
+        room.checked_sub(1)
+    }
+}
+
+fn behind_part(room: usize, part: &Part) -> Option<usize>
+    ensures { Leaves room (count_part (part_of part.now)) result }
+{
+    match part {
+        Part::Yes(a) => behind_assertion(room, true, a),
+        Part::No(a) => behind_assertion(room, false, a),
+    }
+}
+
+fn behind_parts(room: usize, parts: &[Part]) -> Option<usize>
+    ensures { Leaves room (count_parts (map part_of parts.now)) result }
+{
+    let mut left = room;
+    for part in parts {
+        left = behind_part(left, part)?;
+    }
+    Some(left)
+}
+
+// The parts of one of the lists.
+#[tactic(auto, using(crate::proofs::Counted::lists_single, crate::proofs::Counted::lists_others))]
+fn behind_lists(room: usize, lists: &[Vec<Part>]) -> Option<usize>
+    ensures { Leaves room (split_count (map count_parts (map parts_of lists.now))) result }
+{
+    if lists.len() == 1 {
+        behind_parts(room, &lists[0])
+    } else {
+        room.checked_sub(1)
+    }
+}
+
+fn behind_hypothesis(room: usize, hypothesis: &Hypothesis) -> Option<usize>
+    ensures { Leaves room (count_hypothesis (hypothesis_of hypothesis.now)) result }
+{
+    match hypothesis {
+        Hypothesis::Is(part) => behind_part(room, part),
+        Hypothesis::Starts(..) => room.checked_sub(2),
+        Hypothesis::OneOf(lists) => behind_lists(room, lists),
+    }
+}
+
+fn behind_hypotheses(room: usize, hypotheses: &[Hypothesis]) -> Option<usize>
+    ensures { Leaves room (count_hypotheses (map hypothesis_of hypotheses.now)) result }
+{
+    let mut left = room;
+    for hypothesis in hypotheses {
+        left = behind_hypothesis(left, hypothesis)?;
+    }
+    Some(left)
+}
+
+/// What is left of the room behind all facts of the condition.
+pub(crate) fn behind_facts(room: usize, condition: &Condition) -> Option<usize>
+    ensures { Leaves room (count (seen condition.now)) result }
+{
+    let left = behind_hypotheses(room, &condition.hypotheses)?;
+    match &condition.goal {
+        Goal::Holds(a) => behind_assertion(left, false, a),
+        Goal::Fits => left.checked_sub(1),
+        Goal::Never => Some(left),
+    }
+}

@@ -1,0 +1,119 @@
+//! The list of the facts of a condition.
+
+ghost use Rattle.std.specs.Prelude.{◌≤◌};
+ghost use Rattle.og_linear.specs.Answer.{IsAnswer};
+ghost use Rattle.og_linear.specs.declared.fault.FormFault.TheVariants as faults;
+ghost use Rattle.og_cond.specs.Seen.{seen};
+ghost use Rattle.og_facts.specs.Answer.{IsFacts, IsPrepared, shown};
+ghost use Rattle.og_facts.specs.Counts.{count};
+ghost use Rattle.og_facts.specs.Facts.{exact_facts, most_facts};
+ghost use Rattle.og_facts.specs.Rooms.{IsSize};
+ghost use Rattle.og_facts.specs.Walk.{joined, walk_hypotheses, walk_goal};
+
+use crate::counting::behind_facts;
+use crate::fact::Fact;
+use crate::fault::{FactsError, FactsFault};
+use crate::goals::add_goal;
+use crate::hypotheses::add_hypotheses;
+use crate::limits::FACT_LIMIT;
+use crate::list::FactList;
+use og_cond::Condition;
+use og_linear::{Form, FormError, Map};
+use og_subst::ActionMap;
+use std::alloc::Global;
+
+// How many facts the condition has, within the limit.
+fn size_of(condition: &Condition) -> Option<usize>
+    ensures { IsSize (count (seen condition.now)) result }
+{
+    let left = behind_facts(FACT_LIMIT, condition)?;
+    Some(FACT_LIMIT - left)
+}
+
+// The facts, where the action has this map and these values.
+fn all_facts(
+    alloc: Global,
+    size: usize,
+    condition: &Condition,
+    map: &Map,
+    values: &[Form],
+) -> Result<Vec<Fact>, FormError>
+    ensures { IsAnswer shown faults.TooLarge result
+        (joined (walk_hypotheses (seen condition.now).hypotheses) (walk_goal map.now values.now (seen condition.now).goal)) }
+{
+    let mut facts = Vec::with_capacity(alloc, size)?;
+    add_hypotheses(&mut facts, &condition.hypotheses)?;
+    add_goal(&mut facts, map, values, &condition.goal)?;
+    Ok(facts)
+}
+
+// The facts, where the map of the action is still to be made.
+fn facts_of_own(alloc: Global, size: usize, condition: &Condition) -> Result<Vec<Fact>, FormError>
+    ensures { IsAnswer shown faults.TooLarge result (exact_facts (seen condition.now)) }
+{
+    match &condition.action {
+        Some(action) => {
+            let prepared = action.prepare(alloc)?;
+            all_facts(alloc, size, condition, prepared.map(), prepared.values())
+        }
+        None => {
+            let values: Vec<Form> = Vec::new(alloc);
+            all_facts(alloc, size, condition, &Map::new(alloc), &values)
+        }
+    }
+}
+
+// The list with these facts, or what kept them from being made.
+fn listed(
+    facts: Result<Vec<Fact>, FormError>,
+    condition: &Condition,
+) -> Result<FactList, FactsError>
+    requires few { count (seen condition.now) ≤ most_facts }
+    requires facts { IsAnswer shown faults.TooLarge facts (exact_facts (seen condition.now)) }
+    ensures { IsFacts (seen condition.now) result }
+{
+    match facts {
+        Ok(facts) => Ok(FactList::new(facts, condition.variables)),
+        Err(FormError::Memory) => Err(FactsError::Memory),
+        Err(FormError::Fault(_)) => Err(FactsError::Fault(FactsFault::TooLarge)),
+    }
+}
+
+/// The facts of a condition: those of its hypotheses in order, and then those that say that its
+/// goal is false, after the action if there is one.
+///
+/// # Errors
+///
+/// `TooManyFacts` exactly where there are more than `FACT_LIMIT` facts, whatever their numbers,
+/// told before any memory is asked for. Else `TooLarge` exactly where the map of the action, a form
+/// under it, or a form of these facts has a product, a partial sum or a negation that leaves
+/// `i128`. `Memory` where an allocation was refused.
+pub fn facts(alloc: Global, condition: &Condition) -> Result<FactList, FactsError>
+    ensures { IsFacts (seen condition.now) result }
+{
+    match size_of(condition) {
+        Some(size) => listed(facts_of_own(alloc, size, condition), condition),
+        None => Err(FactsError::Fault(FactsFault::TooManyFacts)),
+    }
+}
+
+/// The facts of a condition, by the map that was prepared from its action or from an equal one.
+///
+/// # Errors
+///
+/// As `facts`.
+pub fn facts_with(
+    alloc: Global,
+    condition: &Condition,
+    action: &ActionMap,
+) -> Result<FactList, FactsError>
+    requires { IsPrepared condition.now.action action.now }
+    ensures { IsFacts (seen condition.now) result }
+{
+    let size = match size_of(condition) {
+        Some(size) => size,
+        None => return Err(FactsError::Fault(FactsFault::TooManyFacts)),
+    };
+    let facts = all_facts(alloc, size, condition, action.map(), action.values());
+    listed(facts, condition)
+}
