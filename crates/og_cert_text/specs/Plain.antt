@@ -9,6 +9,7 @@ use Rattle.og_cert_text.specs.declared.cert.Finish.{Finish, Row_of-Cert, end_of-
 use Rattle.og_cert_text.specs.declared.cert.Finish as finish_type
 use Rattle.og_cert_text.specs.declared.cert.Cert.{Cert}
 use Rattle.og_cert_text.specs.Tree as tree
+use Rattle.og_cert_text.specs.Lines.{Line, SumLine, CutLine}
 
 abbrev pub ref_of : Source → tree.Ref
 ref_of (source_type.Known i) = tree.Known i
@@ -37,3 +38,8 @@ abbrev mutual
 
 abbrev pub plain_cert : Cert → tree.Cert
 plain_cert c = with_steps c.steps.items (plain_finish c.finish)
+
+-- the line of a step
+abbrev pub step_line : CertStep → Line
+step_line (step_type.Sum ts) = SumLine (combination_of ts.items)
+step_line (step_type.Cut i d) = CutLine i d

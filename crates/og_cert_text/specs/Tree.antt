@@ -1,5 +1,5 @@
 -- Certificates as plain trees: steps that refute a list of facts.
-use Rattle.std.specs.Prelude.{ℕ, List}
+use Rattle.std.specs.Prelude.{ℕ, List, [], ◌∷◌}
 use Rattle.og_linear.specs.Linear.{FormValue}
 
 -- a fact by its number from 1, or that a variable isn't below or above the i64 range
@@ -24,3 +24,7 @@ mutual
   pub data Certs : Type 0 where
     no_cert : Certs
     cert : Cert → Certs → Certs
+
+abbrev pub cert_list : List Cert → Certs
+cert_list [] = no_cert
+cert_list (c ∷ cs) = cert c (cert_list cs)

@@ -2,5 +2,6 @@
 #![tactic(auto)]
 
 mod cert;
+mod limits;
 
 pub use cert::{Cert, CertStep, Finish, Source, Term};
