@@ -1,2 +1,5 @@
-pub mod Plains
+pub mod Above
+pub mod Adding
 pub mod Forms
+pub mod Plains
+pub mod Stored

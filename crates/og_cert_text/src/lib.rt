@@ -2,6 +2,11 @@
 #![tactic(auto)]
 
 mod cert;
+mod fault;
+mod file;
 mod limits;
+mod words;
 
 pub use cert::{Cert, CertStep, Finish, Source, Term};
+pub use fault::{CertFileError, CertFileFault, CertTextError, CertTextFault};
+pub use file::CertFile;

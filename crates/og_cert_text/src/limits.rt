@@ -120,7 +120,7 @@ pub(crate) fn is_shallow(cert: &Cert, depth: u32) -> bool
 // Whether the numbers of each line are within the limits.
 #[cycle(lines)]
 #[tactic(auto, using(crate::proofs::Plains::steps_good))]
-fn are_lines(cert: &Cert) -> bool
+pub(crate) fn are_lines(cert: &Cert) -> bool
     ensures { result ≡ list_all is_line (cert_lines (plain_cert cert.now)) }
 {
     are_steps(&cert.steps) && is_finish(&cert.finish)
