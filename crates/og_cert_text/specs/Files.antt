@@ -1,5 +1,5 @@
 -- Files of certificates: finite maps from the numbers of conditions to certificates.
-use Rattle.std.specs.Prelude.{◌≡◌, ℕ, ◌+◌, ◌<◌, List, [], ◌∷◌, map, length, get_or, Bool, true, ◌&&◌, ◌==◌, if◌then◌else◌, nat_lt, nat_le, Option, Some, None, IsSome}
+use Rattle.std.specs.Prelude.{◌≡◌, ℕ, ◌+◌, ◌<◌, List, [], ◌∷◌, map, length, get_or, Bool, true, ◌&&◌, ◌==◌, if◌then◌else◌, nat_lt, nat_le, Option, Some, None, IsSome, filter}
 use Rattle.std.specs.List.{list_all}
 use Rattle.og_cert_text.specs.declared.cert.Cert.{Cert}
 use Rattle.og_cert_text.specs.Tree as tree
@@ -32,6 +32,15 @@ is_file es = rise_from 0 es && list_all (λ e. is_number e.0 && is_well_formed e
 abbrev pub IsLeastAbove : ℕ → Entries → Option ℕ → Type 0
 IsLeastAbove n es None = (m : ℕ) → n < m → certificate_of m es ≡ None
 IsLeastAbove n es (Some l) = (n < l) × IsSome (certificate_of l es) × ((m : ℕ) → n < m → m < l → certificate_of m es ≡ None)
+
+-- the entries above n
+abbrev pub above : ℕ → Entries → Entries
+above n es = filter (λ e. nat_lt n e.0) es
+
+-- the first of the entries above n
+abbrev pub IsNextEntry : ℕ → Entries → Option (ℕ × tree.Cert) → Type 0
+IsNextEntry n es None = above n es ≡ []
+IsNextEntry n es (Some e) = above n es ≡ e ∷ above e.0 es
 
 -- ---- how a file is kept: numbers with places in a list of certificates
 

@@ -4,6 +4,7 @@ pub mod Lines
 pub mod Plain
 pub mod Read
 pub mod Reading
+pub mod Said
 pub mod Shown
 pub mod Text
 pub mod Tree

@@ -1,9 +1,13 @@
 -- How a line is read word by word: the words of the contracts of private functions. That what is read is what stands there is proved apart.
-use Rattle.std.specs.Prelude.{ℕ, zero, suc, ◌+◌, ◌-◌, ◌*◌, ℤ, pos, negsuc, List, [], ◌∷◌, Bool, true, false, ◌&&◌, ◌==◌, if◌then◌else◌, nat_le, Option, Some, None, option_map, option_and_then, codes}
+use Rattle.std.specs.Prelude.{ℕ, zero, suc, ◌+◌, ◌-◌, ◌*◌, ℤ, pos, negsuc, List, [], ◌∷◌, Bool, true, false, ◌&&◌, ◌==◌, if◌then◌else◌, nat_le, Option, Some, None, option_map, codes}
 use Rattle.std.specs.Ordering.{int_eq}
 use Rattle.og_linear.specs.Linear.{Terms, FormValue, form_value}
 use Rattle.og_cert_text.specs.Tree.{Ref, Known, Low, High, Combination}
 use Rattle.og_cert_text.specs.Lines.{Line, ForCondition, SameLine, SumLine, CutLine, BranchLine, SplitLine, CloseLine}
+
+abbrev pub and_then : {A B : Type 0} → Option A → (A → Option B) → Option B
+and_then None f = None
+and_then (Some x) f = f x
 
 -- ---- parts of a text
 
@@ -41,10 +45,14 @@ words_of (Some text) = words_in text
 abbrev pub is_digit : ℕ → Bool
 is_digit b = nat_le 48 b && nat_le b 57
 
--- the number with these digits behind those of v, up to a limit
+-- v with one digit more, up to a limit
+abbrev pub next_of : ℕ → ℕ → ℕ → Option ℕ
+next_of most v b = if is_digit b && nat_le (v * 10 + (b - 48)) most then Some (v * 10 + (b - 48)) else None
+
+-- v with these digits more
 abbrev pub read_from : ℕ → ℕ → List ℕ → Option ℕ
 read_from most v [] = Some v
-read_from most v (b ∷ bs) = if is_digit b && nat_le (v * 10 + (b - 48)) most then read_from most (v * 10 + (b - 48)) bs else None
+read_from most v (b ∷ bs) = and_then (next_of most v b) (λ w. read_from most w bs)
 
 -- the number that is the whole word, without leading zeros
 abbrev pub number_of : ℕ → List ℕ → Option ℕ
@@ -57,7 +65,7 @@ positive zero = None
 positive (suc n) = Some (suc n)
 
 abbrev pub index_of : List ℕ → Option ℕ
-index_of word = option_and_then (number_of 999999999 word) positive
+index_of word = and_then (number_of 999999999 word) positive
 
 abbrev pub variable_of : List ℕ → Option ℕ
 variable_of word = number_of 999999999 word
@@ -66,13 +74,12 @@ abbrev pub factor_of : List ℕ → Option ℕ
 factor_of word = number_of 9223372036854775807 word
 
 abbrev pub negative : ℕ → Option ℤ
-negative zero = None
-negative (suc n) = Some (negsuc n)
+negative n = if n == 0 then None else Some (negsuc (n - 1))
 
 abbrev pub whole_of : List ℕ → Option ℤ
 whole_of [] = None
 whole_of (b ∷ bs) =
-    if b == 45 then option_and_then (number_of 170141183460469231731687303715884105728 bs) negative
+    if b == 45 then and_then (number_of 170141183460469231731687303715884105728 bs) negative
     else option_map pos (number_of 170141183460469231731687303715884105727 (b ∷ bs))
 
 -- ---- combinations
@@ -85,11 +92,11 @@ source_of (b ∷ bs) =
 
 abbrev pub term_of : List ℕ → Option (ℕ × Ref)
 term_of word =
-    option_and_then (factor_of (before 42 word)) (λ m. option_and_then (behind 42 word) (λ rest. option_map (λ r. (m, r)) (source_of rest)))
+    and_then (factor_of (before 42 word)) (λ m. and_then (behind 42 word) (λ rest. option_map (λ r. (m, r)) (source_of rest)))
 
 abbrev pub terms_of : List (List ℕ) → Option Combination
 terms_of [] = Some []
-terms_of (w ∷ ws) = option_and_then (term_of w) (λ t. option_map (λ ts. t ∷ ts) (terms_of ws))
+terms_of (w ∷ ws) = and_then (term_of w) (λ t. option_map (λ ts. t ∷ ts) (terms_of ws))
 
 -- ---- forms
 
@@ -102,25 +109,29 @@ nonzero v a = if int_eq a (pos 0) then None else Some (v, a)
 
 abbrev pub part_of : List ℕ → Option (ℕ × ℤ)
 part_of word =
-    option_and_then (whole_of (before 42 word)) (λ a. option_and_then (option_and_then (behind 42 word) named_variable) (λ v. nonzero v a))
+    and_then (whole_of (before 42 word)) (λ a. and_then (and_then (behind 42 word) named_variable) (λ v. nonzero v a))
 
 -- the variables rise from low on
 abbrev pub parts_of : ℕ → List (List ℕ) → Option Terms
 parts_of low [] = Some []
 parts_of low (w ∷ ws) =
-    option_and_then (part_of w) (λ t. if nat_le low t.0 then option_map (λ ts. t ∷ ts) (parts_of (t.0 + 1) ws) else None)
+    and_then (part_of w) (λ t. if nat_le low t.0 then option_map (λ ts. t ∷ ts) (parts_of (t.0 + 1) ws) else None)
 
 abbrev pub form_of : List ℕ → Option FormValue
 form_of text =
-    option_and_then (whole_of (before 32 text)) (λ c. option_map (λ ts. form_value ts c) (parts_of 0 (words_of (behind 32 text))))
+    and_then (whole_of (before 32 text)) (λ c. option_map (λ ts. form_value ts c) (parts_of 0 (words_of (behind 32 text))))
 
 -- ---- lines
 
+-- the number of a fact, and what stands behind it and a space
+abbrev pub index_and_rest : List ℕ → Option (ℕ × List ℕ)
+index_and_rest text = and_then (index_of (before 32 text)) (λ i. and_then (behind 32 text) (λ rest. Some (i, rest)))
+
 abbrev pub cut_of : List ℕ → Option Line
-cut_of text = option_and_then (index_of (before 32 text)) (λ i. option_map (λ d. CutLine i d) (option_and_then (behind 32 text) factor_of))
+cut_of text = and_then (index_and_rest text) (λ p. option_map (λ d. CutLine p.0 d) (factor_of p.1))
 
 abbrev pub split_of : List ℕ → Option Line
-split_of text = option_and_then (index_of (before 32 text)) (λ i. option_map (λ k. SplitLine i k) (option_and_then (behind 32 text) (number_of 10000)))
+split_of text = and_then (index_and_rest text) (λ p. option_map (λ k. SplitLine p.0 k) (number_of 10000 p.1))
 
 -- the line, where it begins so
 abbrev pub or_else : Option (List ℕ) → (List ℕ → Option Line) → Option Line → Option Line

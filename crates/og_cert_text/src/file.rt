@@ -30,7 +30,7 @@ impl CertFile {
     ghost use Rattle.og_cert_text.specs.Plain.{plain_cert};
     ghost use Rattle.og_cert_text.specs.Lines.{is_well_formed};
     ghost use Rattle.og_cert_text.specs.Lines as lines;
-    ghost use Rattle.og_cert_text.specs.Files.{certificate_of, is_file, IsLeastAbove, with_entry, stored, placed};
+    ghost use Rattle.og_cert_text.specs.Files.{certificate_of, is_file, IsLeastAbove, IsNextEntry, with_entry, stored, placed};
     ghost use Rattle.og_cert_text.specs.Shown.{shown, fault_of_entry, fault_of_same, IsAdded};
 
     /// The file without certificates. Takes no memory.
@@ -80,6 +80,15 @@ impl CertFile {
         let above = (Bound::Excluded(n), Bound::Unbounded);
         let (number, _) = self.numbers.range(above).next()?;
         Some(*number)
+    }
+
+    /// The entry with the least number above n.
+    pub(crate) fn entry_above(&self, n: u32) -> Option<(u32, &Cert)>
+        ensures { IsNextEntry n (shown self.now) (option_map (λ e. (e.0, plain_cert e.1.now)) result) }
+    {
+        let above = (Bound::Excluded(n), Bound::Unbounded);
+        let (number, place) = self.numbers.range(above).next()?;
+        Some((*number, &self.certs[*place]))
     }
 
     // Adds the certificate at this place under n.

@@ -1,6 +1,6 @@
 //! The words of a line.
 
-ghost use Rattle.std.specs.Prelude.{◌≡◌, ◌≤◌, ◌<◌, IfOk, IfSome, option_map, Some};
+ghost use Rattle.std.specs.Prelude.{◌≡◌, ◌≤◌, ◌<◌, IfOk, ◌-◌, negsuc, IfSome, option_map, Some};
 ghost use Rattle.og_cert_text.specs.Plain.{ref_of};
 ghost use Rattle.og_cert_text.specs.Words as words;
 
@@ -12,10 +12,12 @@ pub(crate) fn split_at_byte(text: &[u8], byte: u8) -> (&[u8], Option<&[u8]>)
     ensures before { result.0.now ≡ words.before byte text.now }
     ensures behind { option_map (λ s. s.now) result.1 ≡ words.behind byte text.now }
 {
-    match text.iter().position(|b| *b == byte) {
-        Some(i) => (&text[..i], Some(&text[i + 1..])),
-        None => (text, None),
+    for (i, b) in text.iter().enumerate() {
+        if *b == byte {
+            return (&text[..i], Some(&text[i + 1..]));
+        }
     }
+    (text, None)
 }
 
 /// What stands behind these bytes at the front.
@@ -25,26 +27,46 @@ pub(crate) fn after<'a>(front: &[u8], text: &'a [u8]) -> Option<&'a [u8]>
     text.strip_prefix(front)
 }
 
+// The value with one digit more.
+fn next_value(value: u128, byte: u8, most: u128) -> Option<u128>
+    requires most { most ≤ 170141183460469231731687303715884105728 }
+    requires value { value ≤ most }
+    ensures { result ≡ words.next_of most value byte }
+{
+    if byte < b'0' || b'9' < byte {
+        return None;
+    }
+    let next = value.checked_mul(10)?.checked_add((byte - b'0') as u128)?;
+    if next > most {
+        return None;
+    }
+    Some(next)
+}
+
+// The number with these digits.
+fn digits(word: &[u8], most: u128) -> Option<u128>
+    requires { most ≤ 170141183460469231731687303715884105728 }
+    ensures value { result ≡ words.read_from most 0 word.now }
+    ensures within { IfSome result (λ n. n ≤ most) }
+{
+    let mut value: u128 = 0;
+    for b in word {
+        value = next_value(value, *b, most)?;
+    }
+    Some(value)
+}
+
 /// The number that is the whole word, without leading zeros and up to a limit.
 pub(crate) fn number(word: &[u8], most: u128) -> Option<u128>
     requires { most ≤ 170141183460469231731687303715884105728 }
     ensures value { result ≡ words.number_of most word.now }
     ensures within { IfSome result (λ n. n ≤ most) }
 {
-    if word.is_empty() || (word.len() > 1 && word[0] == b'0') {
-        return None;
+    match word {
+        [] => None,
+        [b'0', _, ..] => None,
+        _ => digits(word, most),
     }
-    let mut value: u128 = 0;
-    for b in word {
-        if *b < b'0' || b'9' < *b {
-            return None;
-        }
-        value = value.checked_mul(10)?.checked_add((*b - b'0') as u128)?;
-        if value > most {
-            return None;
-        }
-    }
-    Some(value)
 }
 
 /// The number of a condition or a fact.
@@ -73,6 +95,15 @@ pub(crate) fn factor(word: &[u8]) -> Option<u64>
     Some(m as u64)
 }
 
+// The number below 0.
+fn negated(n: u128) -> i128
+    requires some { 0 < n }
+    requires within { n ≤ 170141183460469231731687303715884105728 }
+    ensures { result ≡ negsuc (n - 1) }
+{
+    -1 - (n - 1) as i128
+}
+
 /// A whole number with its sign.
 pub(crate) fn whole(word: &[u8]) -> Option<i128>
     ensures { result ≡ words.whole_of word.now }
@@ -80,7 +111,7 @@ pub(crate) fn whole(word: &[u8]) -> Option<i128>
     if let [b'-', digits @ ..] = word {
         return match number(digits, i128::MAX as u128 + 1)? {
             0 => None,
-            n => Some(-((n - 1) as i128) - 1),
+            n => Some(negated(n)),
         };
     }
     let n = number(word, i128::MAX as u128)?;
