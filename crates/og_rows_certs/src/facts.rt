@@ -155,15 +155,27 @@ fn facts_of_conditions(rt: HostRuntime) -> Result<(), Fail> {
             3,
             "1: x - 9223372036854775807 <= 0; 2: -x + 9223372036854775807 <= 0; 3: (x + 9223372036854775810 <= 0) or (-x + 9223372036854775807 <= 0); ",
         ),
-        (NOT_EVEN, 1, "1: 2*x - 2*y - 1 <= 0; 2: -2*x + 2*y + 1 <= 0; "),
+        (
+            NOT_EVEN,
+            1,
+            "1: 2*x - 2*y - 1 <= 0; 2: -2*x + 2*y + 1 <= 0; ",
+        ),
         (ONE_SKIP, 1, "1: 1 <= 0; "),
         (ONE_SKIP, 2, "1: 1 <= 0; "),
         (ONE_SKIP, 3, "1: 1 <= 0; "),
         (ONE_SKIP, 4, "1: 1 <= 0; "),
         (FOUR_DOUBLINGS, 2, "1: 1 <= 0; "),
         (FIVE_DOUBLINGS, 1, "1: 1 <= 0; "),
-        (FIVE_DOUBLINGS, 2, "a coefficient or a constant is too large"),
-        (FIVE_DOUBLINGS, 3, "a coefficient or a constant is too large"),
+        (
+            FIVE_DOUBLINGS,
+            2,
+            "a coefficient or a constant is too large",
+        ),
+        (
+            FIVE_DOUBLINGS,
+            3,
+            "a coefficient or a constant is too large",
+        ),
         (TWO_SKIPS, 3, "1: x <= 0; 2: -x <= 0; 3: 1 <= 0; "),
     ];
     for (source, n, expected) in rows {

@@ -1,0 +1,13 @@
+//! Worked examples of facts, certificates and their replay.
+//!
+//! There is nothing to run here but the tests.
+#![tactic(auto)]
+
+#[cfg(test)]
+mod facts;
+#[cfg(test)]
+mod outlines;
+#[cfg(test)]
+mod sources;
+#[cfg(test)]
+mod texts;
