@@ -1,5 +1,5 @@
 -- The least number above one.
-use Rattle.std.proofs.Common.{◌≡◌, ◌≢◌, ℕ, ◌<◌, ◌≤◌, List, [], ◌∷◌, length, refl, ap, sym, ◌∙◌, arith, Bool, ◌&&◌, true, false, cond, Option, Some, None, Less}
+use Rattle.std.proofs.Common.{◌≡◌, ◌≢◌, ℕ, ◌<◌, ◌≤◌, List, [], ◌∷◌, length, refl, ap, sym, ◌∙◌, arith, Bool, ◌&&◌, true, false, cond, Some, None, Less}
 use Rattle.std.specs.Prelude.{nat_lt, nat_le, ◌==◌, filter}
 use Rattle.std.specs.List.{AllByRecursion, list_all}
 use Rattle.std.specs.Ordering.{nat_cmp, is_lt}
@@ -128,12 +128,14 @@ filter_next n m i (x ∷ ns) rest sorted h = pick (nat_lt n x.0) refl h sorted.0
         let tail : filter (λ e. nat_lt n e.0) ns ≡ rest = cc in
         let at : x.0 ≡ m = ap (λ (e : ℕ × ℕ). e.0) head in
         let lt = lt_from n x.0 p in
-        let all_above = under n x.0 (keys_of ns) lt keys in
-        (drop_first m x ns (omega arith)
-          ∙ ap (λ k. filter (λ e. nat_lt k e.0) ns) (sym at)
-          ∙ keep_all x.0 ns (later_keys x.0 (keys_of ns) keys)
-          ∙ sym (keep_all n ns all_above)
-          ∙ tail, omega arith)
+        let all_above = under n x.0 (keys_of ns) lt keys in (
+          drop_first m x ns (omega arith)
+              ∙ ap (λ k. filter (λ e. nat_lt k e.0) ns) (sym at)
+              ∙ keep_all x.0 ns (later_keys x.0 (keys_of ns) keys)
+              ∙ sym (keep_all n ns all_above)
+              ∙ tail,
+          omega arith,
+        )
     pick false p h keys later =
         let r = later h in
         let le = ge_from n x.0 p in

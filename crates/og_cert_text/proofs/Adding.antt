@@ -1,5 +1,5 @@
 -- Why an entry is not added.
-use Rattle.std.proofs.Common.{◌≡◌, ℕ, List, refl, ap, sym, subst, ◌∙◌, Bool, ◌&&◌, true, false, Option, Some, None, ◌⊎◌, inl, inr, cond, Ok}
+use Rattle.std.proofs.Common.{◌≡◌, ℕ, refl, ap, sym, subst, ◌∙◌, Bool, ◌&&◌, true, false, Option, Some, None, ◌⊎◌, inl, inr, Ok}
 use Rattle.std.specs.Prelude.{not, if◌then◌else◌}
 use Rattle.std.specs.List.{list_all}
 use Rattle.std.specs.Option.{is_some, is_none}

@@ -1,5 +1,5 @@
 -- Forms within the limits.
-use Rattle.std.proofs.Common.{◌≡◌, ◌≢◌, ℕ, zero, suc, ◌+◌, ◌<◌, ◌≤◌, List, [], ◌∷◌, take, length, get_or, refl, ap, sym, ◌∙◌, arith, Bool, ◌&&◌, true, false, ℤ, pos, negsuc, ◌^◌, FitsSigned, Some, None, ◌⊎◌, inl, inr, add-one, zero-add}
+use Rattle.std.proofs.Common.{◌≡◌, ◌≢◌, ℕ, zero, suc, ◌+◌, ◌<◌, ◌≤◌, [], ◌∷◌, take, length, get_or, refl, ap, sym, ◌∙◌, arith, Bool, ◌&&◌, true, false, ℤ, pos, negsuc, ◌^◌, FitsSigned, Some, None, ◌⊎◌, inl, inr}
 use Rattle.std.specs.Prelude.{nat_le, nat_lt, not, slice_get}
 use mir.Syntax.{w128}
 use Rattle.std.specs.List.{list_all}
@@ -77,9 +77,10 @@ pub more_fit : (f : FormValue) (i v : ℕ) (a : ℤ) → slice_get f.terms i ≡
     → (fits_terms (take (i + 1) f.terms) ≡ true) × (list_all (λ t. is_variable t.0) (take (i + 1) f.terms) ≡ true)
 more_fit f i v a found range small fits within =
     let lt = slice_get_within f.terms i (v, a) found in
-    let here : get_or f.terms i (v, a) ≡ (v, a) = get_or_from_slice_get f.terms i (v, a) (v, a) found in
-    (list_all_more (λ t. fits_i128 t.1) f.terms i (v, a) lt ∙ both_true _ _ fits (ap (λ t. fits_i128 t.1) here ∙ fits_from a range),
-     list_all_more (λ t. is_variable t.0) f.terms i (v, a) lt ∙ both_true _ _ within (ap (λ t. is_variable t.0) here ∙ le_true v 999999999 small))
+    let here : get_or f.terms i (v, a) ≡ (v, a) = get_or_from_slice_get f.terms i (v, a) (v, a) found in (
+      list_all_more (λ t. fits_i128 t.1) f.terms i (v, a) lt ∙ both_true _ _ fits (ap (λ t. fits_i128 t.1) here ∙ fits_from a range),
+      list_all_more (λ t. is_variable t.0) f.terms i (v, a) lt ∙ both_true _ _ within (ap (λ t. is_variable t.0) here ∙ le_true v 999999999 small),
+    )
 
 pub form_fails : (f : FormValue) (i v : ℕ) (a : ℤ) → slice_get f.terms i ≡ Some (v, a) → 999999999 < v → is_form f ≡ false
 form_fails f i v a found large =

@@ -1,6 +1,6 @@
 -- Certificates of the program's types as plain trees.
 use Rattle.og_cert_text.proofs.Forms.{lt_true, le_true, le_false, both_true, and_false_left, and_false_right}
-use Rattle.std.proofs.Common.{◌≡◌, ℕ, suc, ◌+◌, ◌<◌, ◌≤◌, ◌⊎◌, inl, inr, zero, List, [], ◌∷◌, ◌++◌, map, length, Vec, Global, refl, ap, sym, ◌∙◌, arith, Bool, ◌&&◌, true, false}
+use Rattle.std.proofs.Common.{◌≡◌, ℕ, suc, ◌+◌, ◌<◌, ◌≤◌, ◌⊎◌, inl, inr, List, [], ◌∷◌, ◌++◌, map, length, Vec, Global, refl, ap, sym, ◌∙◌, ◌&&◌, true, false}
 use Rattle.std.specs.Prelude.{nat_le}
 use Rattle.std.specs.List.{list_all}
 use Rattle.std.proofs.lemmas.List.{length-map}
@@ -13,7 +13,7 @@ use Rattle.og_cert_text.specs.declared.cert.Finish.TheViews as its
 use Rattle.og_cert_text.specs.declared.cert.Finish.TheBlock.{hidden-the_row-Cert-0}
 use Rattle.og_cert_text.specs.Tree as tree
 use Rattle.og_cert_text.specs.Plain.{with_steps, plain_cert, plain_certs, plain_finish, step_line, combination_of}
-use Rattle.og_cert_text.specs.Lines.{Line, SumLine, CutLine, SplitLine, is_line, is_number, cert_lines, certs_lines, cert_count, is_shallow, are_shallow}
+use Rattle.og_cert_text.specs.Lines.{Line, SumLine, CutLine, is_line, is_number, cert_lines, certs_lines, cert_count, is_shallow, are_shallow}
 
 certs_items : (n : _) (row : Row_of-Cert n) → plain_certs row ≡ tree.cert_list (map plain_cert (items-the_row-Cert n row))
 certs_items _ end_of-Cert = refl

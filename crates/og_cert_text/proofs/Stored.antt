@@ -1,9 +1,9 @@
 -- A file as it is kept.
-use Rattle.std.proofs.Common.{◌≡◌, ◌≢◌, ℕ, zero, suc, ◌+◌, ◌<◌, ◌≤◌, List, [], ◌∷◌, ◌++◌, map, length, length-append, get_or, refl, ap, sym, ◌∙◌, arith, Bool, ◌&&◌, true, false, cond, Option, Some, None, Result, Ok, Err, Less, Equal, Greater, option_map, is_eq}
-use Rattle.std.specs.Prelude.{nat_le, nat_lt, not, ◌==◌, filter}
+use Rattle.std.proofs.Common.{◌≡◌, ℕ, zero, suc, ◌+◌, ◌<◌, ◌≤◌, List, [], ◌∷◌, ◌++◌, length, length-append, get_or, refl, ap, sym, ◌∙◌, arith, Bool, ◌&&◌, true, false, cond, Option, Some, None, Result, Ok, Err, Less, option_map, is_eq}
+use Rattle.std.specs.Prelude.{nat_lt, ◌==◌}
 use Rattle.std.specs.List.{list_all, AllByRecursion}
-use Rattle.std.specs.Ordering.{nat_cmp, match_ordering}
-use Rattle.std.specs.Option.{IsSome, is_some}
+use Rattle.std.specs.Ordering.{nat_cmp}
+use Rattle.std.specs.Option.{is_some}
 use Rattle.std.specs.Result.{OnOk, OnErr}
 use Rattle.std.specs.Map.{lookup, keys_of}
 use denote.Bor.{Bor}
@@ -12,10 +12,9 @@ use Rattle.std.specs.BTreeMap.{is_at, insert_entry}
 use Rattle.std.specs.List.Sorted.{IsStrictlySortedBy}
 use Rattle.std.proofs.lemmas.Bool.Decides.{nat_tests}
 use Rattle.og_cert_text.specs.declared.cert.Cert.{Cert}
-use Rattle.og_cert_text.specs.Tree as tree
 use Rattle.og_cert_text.specs.Plain.{plain_cert}
 use Rattle.og_cert_text.specs.Lines.{is_number, is_well_formed}
-use Rattle.og_cert_text.specs.Files.{Entries, certificate_of, with_entry, rise_from, is_file, IsLeastAbove, placed, stored, is_stored}
+use Rattle.og_cert_text.specs.Files.{certificate_of, with_entry, rise_from, is_file, placed, stored, is_stored}
 use Rattle.og_cert_text.proofs.Forms.{both_true, and_parts, le_true, lt_true}
 
 same_test : (n m : ℕ) → is_eq (nat_cmp n m) ≡ (n == m)

@@ -4,13 +4,12 @@ use Rattle.std.specs.Prelude.{slice_get}
 use Rattle.std.proofs.lemmas.Option.{get_or_from_slice_get, slice_get_within}
 use Rattle.og_linear.specs.Linear.{Terms}
 use Rattle.std.proofs.lemmas.List.{length-map}
-use Rattle.og_cert_text.specs.declared.cert.CertStep.{CertStep}
 use Rattle.og_cert_text.specs.declared.cert.Cert.{Cert}
 use Rattle.og_cert_text.specs.declared.cert.Finish.{Finish}
 use Rattle.og_cert_text.specs.declared.cert.Finish.TheViews as its
 use Rattle.og_cert_text.specs.Tree as tree
 use Rattle.og_cert_text.specs.Plain.{plain_cert, plain_finish, step_line}
-use Rattle.og_cert_text.specs.Lines.{Line, ForCondition, SplitLine, line_text, part_text, parts_text, cert_lines, certs_lines, cert_count}
+use Rattle.og_cert_text.specs.Lines.{Line, ForCondition, SplitLine, line_text, part_text, parts_text, cert_lines, certs_lines}
 use Rattle.std.specs.Result.{OnOk}
 use Rattle.og_cert_text.specs.Files.{Entries, above}
 use Rattle.og_cert_text.specs.Text.{Whole, listing_lines, lines_text}

@@ -2,10 +2,6 @@ pub mod Faults
 pub mod Files
 pub mod Lines
 pub mod Plain
-pub mod Read
-pub mod Reading
-pub mod Said
 pub mod Shown
 pub mod Text
 pub mod Tree
-pub mod Words

@@ -1,5 +1,5 @@
 -- The lines of a certificate text: what each line says, how it is written, and which lines a certificate has.
-use Rattle.std.specs.Prelude.{ℕ, suc, ◌+◌, ℤ, pos, negsuc, List, [], ◌∷◌, ◌++◌, flat_map, Bool, true, false, not, ◌&&◌, nat_lt, nat_le, codes}
+use Rattle.std.specs.Prelude.{ℕ, suc, ◌+◌, ℤ, pos, List, [], ◌∷◌, ◌++◌, flat_map, Bool, true, false, not, ◌&&◌, nat_lt, nat_le, codes}
 use Rattle.std.specs.Fmt.{decimal, signed_decimal}
 use Rattle.std.specs.List.{list_all}
 use Rattle.std.specs.Ordering.{int_eq}

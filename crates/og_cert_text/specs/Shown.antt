@@ -1,5 +1,5 @@
 -- What calls on files of certificates may answer.
-use Rattle.std.specs.Prelude.{◌≡◌, ℕ, ⊤, Bool, not, ◌&&◌, if◌then◌else◌, Option, Some, None, is_some, is_none, Result, Ok, Err}
+use Rattle.std.specs.Prelude.{◌≡◌, ℕ, not, ◌&&◌, if◌then◌else◌, Option, Some, None, is_some, is_none, Result, Ok, Err}
 use Rattle.og_cert_text.specs.declared.file.CertFile.{CertFile}
 use Rattle.og_cert_text.specs.declared.fault.CertFileFault.{CertFileFault}
 use Rattle.og_cert_text.specs.declared.fault.CertFileFault.TheVariants as faults

@@ -99,9 +99,7 @@ pub(crate) fn is_shallow(cert: &Cert, depth: u32) -> bool
     match &cert.finish {
         Finish::Close(_) => true,
         Finish::Branch(_, first, second) => {
-            depth < DEPTH_LIMIT
-                && is_shallow(first, depth + 1)
-                && is_shallow(second, depth + 1)
+            depth < DEPTH_LIMIT && is_shallow(first, depth + 1) && is_shallow(second, depth + 1)
         }
         Finish::Split(_, parts) => {
             if depth >= DEPTH_LIMIT {

@@ -1,4 +1,4 @@
-use Rattle.std.proofs.Common.{arith, rules, FitsSigned, ◌≡◌, sym, ◌∙◌}
+use Rattle.std.proofs.Common.{arith, rules, FitsSigned, sym, ◌∙◌}
 use mir.Syntax.{w128}
 use Rattle.og_cert_text.proofs.Forms.{form_fails, form_done, more_fit, place_small}
 use Rattle.og_cert_text.proofs.limits.is_form.Goals as goal

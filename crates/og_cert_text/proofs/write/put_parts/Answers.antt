@@ -1,4 +1,4 @@
-use Rattle.std.proofs.Common.{◌≡◌, ◌∙◌, ◌+◌, ◌++◌, ◌∷◌, ◌<◌, drop, ap, sym, arith, rules, FitsSigned}
+use Rattle.std.proofs.Common.{◌∙◌, ◌+◌, ◌++◌, ◌∷◌, ◌<◌, drop, ap, sym, arith, rules, FitsSigned}
 use Rattle.std.proofs.lemmas.Int.{to_z-of_z}
 use mir.Syntax.{w128}
 use Rattle.std.proofs.lemmas.List.{append-nil}
@@ -26,8 +26,8 @@ loop-v-preserved c =
     let put = rw (to_z-of_z w128 c.in-Some.a range) at c.in_ok-put_part.ensures in
     record {
       so_far = one_more c.loop-v.text.items c.put_part.new.text.items (32 ∷ part_text (c.in-Some.v, c.in-Some.a)) (parts_text (drop c.loop-v.i ts)) (parts_text (drop (c.loop-v.i + 1) ts)) _
-        put (parts_next ts c.loop-v.i c.in-Some.v c.in-Some.a (sym c.in-Some.ensures.found)) c.loop-v.invariant.so_far;
-      within = omega (arith, p.0)
+          put (parts_next ts c.loop-v.i c.in-Some.v c.in-Some.a (sym c.in-Some.ensures.found)) c.loop-v.invariant.so_far;
+      within = omega (arith, p.0);
     }
 
 pub returns : goal.returns

@@ -1,9 +1,9 @@
-use Rattle.std.proofs.Common.{◌≡◌, ◌++◌, ◌∙◌, ap, sym, rules}
+use Rattle.std.proofs.Common.{◌≡◌, ◌++◌, ◌∙◌, ap, rules}
 use Rattle.og_cert_text.specs.Files.{above}
 use Rattle.og_cert_text.specs.Shown.{shown}
 use Rattle.og_cert_text.specs.Text.{One, version_text}
 use Rattle.og_cert_text.proofs.Above.{above_zero}
-use Rattle.og_cert_text.proofs.Writing.{entries_text, put_next, above_less}
+use Rattle.og_cert_text.proofs.Writing.{entries_text}
 use Rattle.og_cert_text.proofs.write.write_certs.Goals as goal
 
 pub loop-n-init : goal.loop-n-init

@@ -1,6 +1,6 @@
 use Rattle.std.proofs.Common.{refl, sym, ◌∙◌, true, false, ap}
 use Rattle.std.specs.Option.{is_none}
-use Rattle.og_cert_text.specs.Shown.{shown, IsAdded, fault_of_same}
+use Rattle.og_cert_text.specs.Shown.{shown}
 use Rattle.og_cert_text.proofs.Adding.{same_is, same_added}
 use Rattle.og_cert_text.proofs.Stored.{none_at, some_at, not_some, place_within}
 use Rattle.og_cert_text.proofs.file.CertFile.add_same.Goals as goal
@@ -9,15 +9,19 @@ pub returns-then-has : goal.returns-then-has
 returns-then-has c = (same_is c.args.n c.args.k (shown c.args.self.now) true _ _ (sym c.has.ensures ∙ c.if-has.true) refl refl, refl)
 
 pub returns-in_default : goal.returns-in_default
-returns-in_default c =
-    (same_is c.args.n c.args.k (shown c.args.self.now) false true _ (sym c.has.ensures ∙ c.if-has.false)
-      (ap is_none (none_at c.args.k c.args.self.now.numbers.entries c.args.self.now.certs.items c.place.result c.place.ensures c.in_default.is)) refl, refl)
+returns-in_default c = (
+  same_is c.args.n c.args.k (shown c.args.self.now) false true _ (sym c.has.ensures ∙ c.if-has.false)
+      (ap is_none (none_at c.args.k c.args.self.now.numbers.entries c.args.self.now.certs.items c.place.result c.place.ensures c.in_default.is)) refl,
+  refl,
+)
 
 pub returns-then-not-is_number : goal.returns-then-not-is_number
-returns-then-not-is_number c =
-    (same_is c.args.n c.args.k (shown c.args.self.now) false false false (sym c.has.ensures ∙ c.if-has.false)
+returns-then-not-is_number c = (
+  same_is c.args.n c.args.k (shown c.args.self.now) false false false (sym c.has.ensures ∙ c.if-has.false)
       (ap is_none (some_at c.args.k c.in-Some.place c.args.self.now.numbers.entries c.args.self.now.certs.items c.place.result c.place.ensures c.in-Some.is))
-      (sym c.is_number.ensures ∙ c.if-not-is_number.true), refl)
+      (sym c.is_number.ensures ∙ c.if-not-is_number.true),
+  refl,
+)
 
 pub put_place-requires-clause-fresh : goal.put_place-requires-clause-fresh
 put_place-requires-clause-fresh c = not_some _ (sym c.has.ensures ∙ c.if-has.false)
@@ -29,5 +33,5 @@ pub returns : goal.returns
 returns c =
     let some = some_at c.args.k c.in-Some.place c.args.self.now.numbers.entries c.args.self.now.certs.items c.place.result c.place.ensures c.in-Some.is in
     same_added c.args.n c.args.k (shown c.args.self.now) (shown c.put_place.new.self) _ some
-      (same_is c.args.n c.args.k (shown c.args.self.now) false false true (sym c.has.ensures ∙ c.if-has.false) (ap is_none some) (sym c.is_number.ensures ∙ c.if-not-is_number.false))
-      c.in_ok-put_place.ensures.ok
+    (same_is c.args.n c.args.k (shown c.args.self.now) false false true (sym c.has.ensures ∙ c.if-has.false) (ap is_none some) (sym c.is_number.ensures ∙ c.if-not-is_number.false))
+    c.in_ok-put_place.ensures.ok

@@ -13,5 +13,5 @@ returns-clause-found c =
     let ns = c.args.self.now.numbers.entries in
     let cs = c.args.self.now.certs.items in
     borrowed c.get.result cs c.deref.result.now c.in_ok-place.place c.deref.ensures.value c.get.ensures.lookup
-      (place_within _ ns cs c.in_ok-place.place c.args.self.now.stored (sym c.place.ensures ∙ c.in_ok-place.was))
+    (place_within _ ns cs c.in_ok-place.place c.args.self.now.stored (sym c.place.ensures ∙ c.in_ok-place.was))
     ∙ sym (some_at c.args.n c.in_ok-place.place ns cs c.place.result c.place.ensures c.in_ok-place.was)

@@ -1,4 +1,4 @@
-use Rattle.std.proofs.Common.{◌≡◌, ◌<◌, sym, ap, ◌∙◌, rules, arith, length}
+use Rattle.std.proofs.Common.{sym, ap, ◌∙◌, rules, arith}
 use Rattle.og_cert_text.specs.Plain.{plain_cert}
 use Rattle.og_cert_text.proofs.Stored.{placed_at}
 use Rattle.og_cert_text.proofs.Above.{entry_none, entry_some, entry_place}
@@ -11,7 +11,7 @@ returns-in_err-number c =
 pub index-requires : goal.index-requires
 index-requires c =
     let p = entry_place c.args.n c.in_ok-number.number.now c.in_ok-number.place.now c.args.self.now.numbers.entries c.range.result c.next.new.self c.args.self.now.certs.items c.args.self.now.stored
-              (c.range.ensures.between (search rules)) c.in_ok-number.ensures.steps in
+    (c.range.ensures.between (search rules)) c.in_ok-number.ensures.steps in
     omega (arith, p)
 
 pub returns : goal.returns
@@ -21,4 +21,4 @@ returns c =
     let within = c.range.ensures.between (search rules) in
     let p = entry_place c.args.n c.in_ok-number.number.now c.in_ok-number.place.now ns c.range.result c.next.new.self cs c.args.self.now.stored within c.in_ok-number.ensures.steps in
     entry_some c.args.n c.in_ok-number.number.now c.in_ok-number.place.now ns c.range.result c.next.new.self cs (plain_cert c.index.result.now) c.range.ensures.ordered within c.in_ok-number.ensures.steps
-      (placed_at cs c.in_ok-number.place.now c.index.result.now p ∙ ap plain_cert (sym c.index.ensures))
+    (placed_at cs c.in_ok-number.place.now c.index.result.now p ∙ ap plain_cert (sym c.index.ensures))

@@ -14,7 +14,7 @@ returns-then-not-is_shallow c = sym (entry_deep c.args.n (plain_cert c.args.cert
 pub returns-then-not-is_number : goal.returns-then-not-is_number
 returns-then-not-is_number c =
     elim c.then-not-is_number.branch [
-        then-not-is_number-via-then-not-is_number w ↦
+      | then-not-is_number-via-then-not-is_number w ↦
           sym (entry_bad c.args.n (plain_cert c.args.cert.now) (shown c.args.self.now) (sym c.has.ensures ∙ c.if-has.false) (sym c.is_shallow.ensures ∙ c.if-not-is_shallow.false) (inl (sym c.is_number.ensures ∙ w.if-not-is_number.true)))
       | then-not-is_number-via-else-not-is_number+then-not-are_lines w ↦
           sym (entry_bad c.args.n (plain_cert c.args.cert.now) (shown c.args.self.now) (sym c.has.ensures ∙ c.if-has.false) (sym c.is_shallow.ensures ∙ c.if-not-is_shallow.false) (inr (sym w.are_lines.ensures ∙ w.if-not-are_lines.true)))
@@ -23,4 +23,4 @@ returns-then-not-is_number c =
 pub returns : goal.returns
 returns c =
     sym (entry_fine c.args.n (plain_cert c.args.cert.now) (shown c.args.self.now) (sym c.has.ensures ∙ c.if-has.false) (sym c.is_shallow.ensures ∙ c.if-not-is_shallow.false)
-      (sym c.is_number.ensures ∙ c.if-not-is_number.false) (sym c.are_lines.ensures ∙ c.if-not-are_lines.false))
+    (sym c.is_number.ensures ∙ c.if-not-is_number.false) (sym c.are_lines.ensures ∙ c.if-not-are_lines.false))

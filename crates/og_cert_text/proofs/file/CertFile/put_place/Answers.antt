@@ -1,8 +1,6 @@
-use Rattle.std.proofs.Common.{◌≡◌, ◌∙◌, sym, ap, Ok}
-use Rattle.std.specs.Ordering.{nat_cmp}
-use Rattle.std.specs.BTreeMap.{insert_entry}
-use Rattle.og_cert_text.specs.Files.{stored, is_stored}
-use Rattle.og_cert_text.proofs.Stored.{stored_inserted, shown_inserted, entries_kept}
+use Rattle.std.proofs.Common.{◌∙◌, ap}
+use Rattle.og_cert_text.specs.Files.{stored}
+use Rattle.og_cert_text.proofs.Stored.{shown_inserted, entries_kept}
 use Rattle.og_cert_text.proofs.file.CertFile.put_place.Goals as goal
 
 pub invariant_of-self : goal.invariant_of-self

@@ -1,5 +1,0 @@
-use Rattle.og_cert_text.proofs.Split.{after_is}
-use Rattle.og_cert_text.proofs.words.after.Goals as goal
-
-pub returns : goal.returns
-returns c = after_is c.args.front.now c.args.text.now c.strip_prefix.result c.strip_prefix.ensures.cases
