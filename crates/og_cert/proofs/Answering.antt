@@ -18,4 +18,4 @@ pub replay_fails : (n : ℕ) (fs : List Fact) (c : Cert) (e d : ReplayError) →
 replay_fails n fs c errors.Memory d h same = subst (λ x. IsReplay n fs c (Err x)) (sym same) tt
 replay_fails n fs c (errors.Fault f) d h same =
     subst (λ x. IsReplay n fs c (Err x)) (sym same)
-      (false_from_ne_true (closes n fs c) (λ t. none_some f (sym ((no_fault c 1 n fs).0 t) ∙ h)), h)
+    (false_from_ne_true (closes n fs c) (λ t. none_some f (sym ((no_fault c 1 n fs).0 t) ∙ h)), h)

@@ -32,7 +32,7 @@ mutual
   no_fault (Close ts) line n fs = follows line (closing n fs ts) _ _ (λ _. (λ p. refl, λ p. refl))
   no_fault (Branch f c d) line n fs =
       follows line (otherwise n f) _ _ (λ g. follows line (room fs 1) _ _ (λ _.
-        both_follow _ _ _ _ (no_fault c (line + 1) n (fs ++ Atom f ∷ [])) (no_fault d (line + 1 + lines c) n (fs ++ Atom g ∷ []))))
+      both_follow _ _ _ _ (no_fault c (line + 1) n (fs ++ Atom f ∷ [])) (no_fault d (line + 1 + lines c) n (fs ++ Atom g ∷ []))))
   no_fault (SplitOn i cs) line n fs =
       follows line (parts_at fs i) _ _ (λ ps. follows line (one_each (length ps) (cert_count cs)) _ _ (λ _. no_part_fault cs (line + 1) line n fs ps))
 

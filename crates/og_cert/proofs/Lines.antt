@@ -95,12 +95,12 @@ split_rest line n fs certs ps = fault_parts (line + 1) line n fs ps (certs_of ce
 pub split_stops : (line n i : ℕ) (fs : List Fact) (certs : List CertType) (k : FaultKind) → split_for fs i (length certs) ≡ Err k → fault_from line n fs (SplitOn i (certs_of certs)) ≡ Some (fault_at line k)
 split_stops line n i fs certs k e =
     both_stop line (parts_at fs i) (λ ps. one_each (length ps) (cert_count (certs_of certs))) (λ ps. ps) (split_rest line n fs certs) k
-      (ap (λ m. ok_then (parts_at fs i) (λ ps. ok_then (one_each (length ps) m) (λ _. Ok ps))) (count_certs certs) ∙ e)
+    (ap (λ m. ok_then (parts_at fs i) (λ ps. ok_then (one_each (length ps) m) (λ _. Ok ps))) (count_certs certs) ∙ e)
 
 pub split_passes : (line n i : ℕ) (fs : List Fact) (certs : List CertType) (ps : List (List Fact)) → split_for fs i (length certs) ≡ Ok ps → fault_from line n fs (SplitOn i (certs_of certs)) ≡ fault_parts (line + 1) line n fs ps (certs_of certs)
 split_passes line n i fs certs ps e =
     both_pass line (parts_at fs i) (λ qs. one_each (length qs) (cert_count (certs_of certs))) (λ qs. qs) (split_rest line n fs certs) ps
-      (ap (λ m. ok_then (parts_at fs i) (λ qs. ok_then (one_each (length qs) m) (λ _. Ok qs))) (count_certs certs) ∙ e)
+    (ap (λ m. ok_then (parts_at fs i) (λ qs. ok_then (one_each (length qs) m) (λ _. Ok qs))) (count_certs certs) ∙ e)
 
 pub split_replays : (line n i : ℕ) (fs : List Fact) (certs : List CertType) (ps : List (List Fact)) (r : Result ℕ ReplayError) → split_for fs i (length certs) ≡ Ok ps → ReplaysParts line n fs ps (certs_of certs) r → Replays line n fs (SplitOn i (certs_of certs)) r
 split_replays line n i fs certs ps (Ok next) e h = (split_passes line n i fs certs ps e ∙ h.0, omega (arith, h.1))
@@ -126,9 +126,9 @@ pub part_turn : (i next line n : ℕ) (fs : List Fact) (parts : List (Vec FactTy
 part_turn i next line n fs parts certs p c u h is k js e f =
     let rest = parts_from (i + 1) (next + lines (plain_cert c)) line n fs parts certs in
     sym
-      (one_part i next line n fs parts certs p c h is k js
-      ∙ ap (λ r. check line r (λ _. or_else (fault_from next n (fs ++ part_of p) (plain_cert c)) rest)) e
-      ∙ ap (λ o. or_else o rest) f)
+    (one_part i next line n fs parts certs p c h is k js
+    ∙ ap (λ r. check line r (λ _. or_else (fault_from next n (fs ++ part_of p) (plain_cert c)) rest)) e
+    ∙ ap (λ o. or_else o rest) f)
 
 item_at : {X : Type 0} (xs : List X) (i : ℕ) → i < length xs → (x : X) × (x ≡ get_or xs i x)
 item_at [] i h = absurd (omega arith)

@@ -171,7 +171,7 @@ module _ (n : ℕ) (s : List ℤ) (proper : IsProper s) where
         let q = passed (room fs 1) (λ _. closes n (fs ++ Atom p.0 ∷ []) c) p.2 in
         let r = then_ok (atom_at fs i) (λ f. ok_or (cut f (pos d)) kinds.NotDivisible) p.0 p.1 in
         closed_is_false c (fs ++ Atom p.0 ∷ []) q.2
-          (one_more s fs p.0 h ((cut_said r.0 p.0 (pos d) s (some_from_or (cut r.0 (pos d)) kinds.NotDivisible p.0 r.2)).0 (atom_said s fs i r.0 h r.1)))
+        (one_more s fs p.0 h ((cut_said r.0 p.0 (pos d) s (some_from_or (cut r.0 (pos d)) kinds.NotDivisible p.0 r.2)).0 (atom_said s fs i r.0 h r.1)))
     closed_is_false (Close ts) fs e h =
         let p = passed (closing n fs ts) _ e in
         closing_said n s fs ts p.0 proper h p.1
@@ -181,9 +181,9 @@ module _ (n : ℕ) (s : List ℤ) (proper : IsProper s) where
         let both = and_parts (closes n (fs ++ Atom f ∷ []) c) (closes n (fs ++ Atom p.0 ∷ []) d) q.2 in
         let other : p.0 ≡ plus_one (negated f) = otherwise_is n f p.0 p.1 in
         ⊎_elim
-          (λ low. closed_is_false c (fs ++ Atom f ∷ []) both.0 (one_more s fs f h (at_most_zero (val f s) low)))
-          (λ high. closed_is_false d (fs ++ Atom p.0 ∷ []) both.1 (one_more s fs p.0 h (subst (λ g. val g s ≤ℤ pos 0) (sym other) (above_zero f s high))))
-          (cases_Bool (int_le (val f s) (pos 0)))
+        (λ low. closed_is_false c (fs ++ Atom f ∷ []) both.0 (one_more s fs f h (at_most_zero (val f s) low)))
+        (λ high. closed_is_false d (fs ++ Atom p.0 ∷ []) both.1 (one_more s fs p.0 h (subst (λ g. val g s ≤ℤ pos 0) (sym other) (above_zero f s high))))
+        (cases_Bool (int_le (val f s) (pos 0)))
     closed_is_false (SplitOn i cs) fs e h =
         let p = passed (parts_at fs i) _ e in
         let q = passed (one_each (length p.0) (cert_count cs)) (λ _. closes_parts n fs p.0 cs) p.2 in
@@ -198,9 +198,9 @@ module _ (n : ℕ) (s : List ℤ) (proper : IsProper s) where
         let q = passed (room fs (length p)) (λ _. closes n (fs ++ p) c && closes_parts n fs ps cs) e in
         let both = and_parts (closes n (fs ++ p) c) (closes_parts n fs ps cs) q.2 in
         ⊎_elim
-          (λ here. closed_is_false c (fs ++ p) both.0 (both_true s fs p ∙ and_from _ _ h here))
-          (λ later. parts_are_false cs fs ps both.1 h later)
-          (or_cases (all_true_at s p) (some_listed s ps) k)
+        (λ here. closed_is_false c (fs ++ p) both.0 (both_true s fs p ∙ and_from _ _ h here))
+        (λ later. parts_are_false cs fs ps both.1 h later)
+        (or_cases (all_true_at s p) (some_listed s ps) k)
 
 -- ---- conditions
 

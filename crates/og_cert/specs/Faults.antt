@@ -43,7 +43,7 @@ abbrev mutual
   fault_from line n fs (Close ts) = check line (closing n fs ts) (λ _. None)
   fault_from line n fs (Branch f c d) =
       check line (otherwise n f) (λ g. check line (room fs 1) (λ _.
-        or_else (fault_from (line + 1) n (fs ++ Atom f ∷ []) c) (fault_from (line + 1 + lines c) n (fs ++ Atom g ∷ []) d)))
+      or_else (fault_from (line + 1) n (fs ++ Atom f ∷ []) c) (fault_from (line + 1 + lines c) n (fs ++ Atom g ∷ []) d)))
   fault_from line n fs (SplitOn i cs) =
       check line (parts_at fs i) (λ ps. check line (one_each (length ps) (cert_count cs)) (λ _. fault_parts (line + 1) line n fs ps cs))
 

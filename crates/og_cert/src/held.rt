@@ -49,8 +49,7 @@ fn fact_at<'h, 'a>(held: &'h [Held<'a>], number: u32) -> Result<&'h Held<'a>, Fa
     if number == 0 {
         return Err(FaultKind::NoSuchFact);
     }
-    held.get(number as usize - 1)
-        .ok_or(FaultKind::NoSuchFact)
+    held.get(number as usize - 1).ok_or(FaultKind::NoSuchFact)
 }
 
 // The form of the fact of this number.

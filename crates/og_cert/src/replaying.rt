@@ -88,7 +88,11 @@ fn open_branch(
 }
 
 // The parts of a split, if there is a certificate for each.
-fn open_split<'a>(held: &[Held<'a>], number: u32, certs: usize) -> Result<&'a [Vec<Fact>], CheckError>
+fn open_split<'a>(
+    held: &[Held<'a>],
+    number: u32,
+    certs: usize,
+) -> Result<&'a [Vec<Fact>], CheckError>
     ensures opened { IsChecked (λ parts. map (λ p. map plain_fact p.items) parts.now) result
         (split_for (facts_held held.now) number certs) }
     ensures count { IfOk result (λ parts. length parts.now ≡ certs) }

@@ -13,4 +13,4 @@ returns c =
     let found : option_map (λ h. held_fact h.now) c.get.result ≡ option_map held_fact (slice_get held (n - 1)) = grind (arith, gets) in
     let whole : n ≡ (n - 1) + 1 = omega arith in
     rw c.ok_or.ensures.value
-      (looked_up c.get.result (facts_held held) n (found ∙ sym (slice_get-map held_fact held (n - 1)) ∙ sym (numbered_at n (n - 1) (facts_held held) whole)))
+    (looked_up c.get.result (facts_held held) n (found ∙ sym (slice_get-map held_fact held (n - 1)) ∙ sym (numbered_at n (n - 1) (facts_held held) whole)))

@@ -45,9 +45,9 @@ replay_finish-returns-in_err-parts-in-Split-clause-replays t c =
     let held : fs ≡ facts_held c.deref-in-Split.result.now = ap facts_held (sym c.deref-in-Split.ensures.value) in
     let same : split_for fs i (length certs) ≡ split_for (facts_held c.deref-in-Split.result.now) i c.len.result = ap₂ (λ gs m. split_for gs i m) held counted in
     rw p.1
-      (subst (λ d. FailsWith p.0 (fault_from line n fs d)) (sym whole)
-        (located_fails seen line c.open_split.result (split_for (facts_held c.deref-in-Split.result.now) i c.len.result) p.0 (fault_from line n fs (SplitOn i (certs_of certs))) c.open_split.ensures.opened fails
-          (λ k e. split_stops line n i fs certs k (same ∙ e))))
+    (subst (λ d. FailsWith p.0 (fault_from line n fs d)) (sym whole)
+    (located_fails seen line c.open_split.result (split_for (facts_held c.deref-in-Split.result.now) i c.len.result) p.0 (fault_from line n fs (SplitOn i (certs_of certs))) c.open_split.ensures.opened fails
+    (λ k e. split_stops line n i fs certs k (same ∙ e))))
 
 pub replay_finish-returns-in_ok-parts-in-Split-clause-replays :
     goal.replay_finish-returns-in_ok-parts-in-Split-clause-replays
@@ -64,10 +64,10 @@ replay_finish-returns-in_ok-parts-in-Split-clause-replays t c =
     let held : fs ≡ facts_held c.deref-in-Split.result.now = ap facts_held (sym c.deref-in-Split.ensures.value) in
     let same : split_for fs i (length certs) ≡ split_for (facts_held c.deref-in-Split.result.now) i c.len.result = ap₂ (λ gs m. split_for gs i m) held counted in
     let opened : split_for fs i (length certs) ≡ Ok (seen parts) =
-      same ∙ located_passes seen line c.open_split.result (split_for (facts_held c.deref-in-Split.result.now) i c.len.result) parts c.open_split.ensures.opened passes
+    same ∙ located_passes seen line c.open_split.result (split_for (facts_held c.deref-in-Split.result.now) i c.len.result) parts c.open_split.ensures.opened passes
     in
     subst (λ d. Replays line n fs d c.replay_parts.result) (sym whole)
-      (split_replays line n i fs certs (seen parts) c.replay_parts.result opened (rw c.deref-in-Split-2.ensures.value at c.replay_parts.ensures.replays))
+    (split_replays line n i fs certs (seen parts) c.replay_parts.result opened (rw c.deref-in-Split-2.ensures.value at c.replay_parts.ensures.replays))
 
 pub replay_parts-returns-in_err-at_line-clause-replays :
     goal.replay_parts-returns-in_err-at_line-clause-replays
@@ -86,8 +86,8 @@ replay_parts-returns-in_err-at_line-clause-replays t c =
     let same : fs ≡ facts_held c.deref.result.now = ap facts_held (sym (c.deref.ensures.value ∙ c.loop-index.invariant.kept)) in
     let size : length part.items ≡ length c.as_slice-part.result.now = ap length (sym c.as_slice-part.ensures.value) in
     rw p.1
-      (located_fails (λ done. done) line c.room_for.result (room (facts_held c.deref.result.now) (length c.as_slice-part.result.now)) p.0 (parts_from 0 (line + 1) line n fs parts certs) c.room_for.ensures fails
-        (λ k e.
-          sym c.loop-index.invariant.faults
-          ∙ part_full i c.loop-index.next line n fs parts certs part k in_parts c.index-parts-index.is in_certs
-            (ap (λ gs. room gs (length part.items)) same ∙ ap (room (facts_held c.deref.result.now)) size ∙ e)))
+    (located_fails (λ done. done) line c.room_for.result (room (facts_held c.deref.result.now) (length c.as_slice-part.result.now)) p.0 (parts_from 0 (line + 1) line n fs parts certs) c.room_for.ensures fails
+    (λ k e.
+    sym c.loop-index.invariant.faults
+    ∙ part_full i c.loop-index.next line n fs parts certs part k in_parts c.index-parts-index.is in_certs
+    (ap (λ gs. room gs (length part.items)) same ∙ ap (room (facts_held c.deref.result.now)) size ∙ e)))
