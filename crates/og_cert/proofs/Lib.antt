@@ -1,0 +1,9 @@
+pub mod Passing
+pub mod Faultless
+pub mod Refuting
+pub mod Trees
+pub mod Holding
+pub mod Terms
+pub mod Lines
+pub mod Answering
+pub mod Written

@@ -1,0 +1,41 @@
+use Rattle.std.proofs.Common.{◌≡◌, ◌<◌, ◌≤◌, ◌^◌, Some, None, rules, arith, sym, ◌∙◌}
+use Rattle.std.specs.Prelude.{slice_get}
+use Rattle.std.proofs.lemmas.Option.{slice_get_within}
+use Rattle.og_cert.proofs.Terms.{place_of_term, below_turn, below_stops, below_end}
+use Rattle.og_cert.proofs.checks.is_over.Goals as goal
+
+pub returns-then-var-variables : goal.returns-then-var-variables
+returns-then-var-variables c =
+    let f = c.args.form.now in
+    let found : slice_get f.terms c.loop-var.index ≡ Some (c.in-Some.var, c.in-Some.field-0-1) = sym c.term.ensures.found ∙ c.in-Some.is in
+    sym (below_stops c.args.variables f.terms c.loop-var.index _ found c.if-var-variables.true) ∙ c.loop-var.invariant.same
+
+pub overflow_add-index : goal.overflow_add-index
+overflow_add-index c =
+    let f = c.args.form.now in
+    let found : slice_get f.terms c.loop-var.index ≡ Some (c.in-Some.var, c.in-Some.field-0-1) = sym c.term.ensures.found ∙ c.in-Some.is in
+    let small : c.in-Some.var < 2 ^ 32 = search rules in
+    let least : c.loop-var.index ≤ c.in-Some.var = place_of_term f.terms c.loop-var.index (c.in-Some.var, c.in-Some.field-0-1) c.term.ensures.tidy found in
+    search rules
+
+pub loop-var-smaller : goal.loop-var-smaller
+loop-var-smaller c =
+    let f = c.args.form.now in
+    let found : slice_get f.terms c.loop-var.index ≡ Some (c.in-Some.var, c.in-Some.field-0-1) = sym c.term.ensures.found ∙ c.in-Some.is in
+    let within = slice_get_within f.terms c.loop-var.index _ found in
+    omega (arith, within)
+
+pub loop-var-preserved : goal.loop-var-preserved
+loop-var-preserved c =
+    let f = c.args.form.now in
+    let found : slice_get f.terms c.loop-var.index ≡ Some (c.in-Some.var, c.in-Some.field-0-1) = sym c.term.ensures.found ∙ c.in-Some.is in
+    let within = slice_get_within f.terms c.loop-var.index _ found in
+    record {
+      inside = omega (arith, within);
+      same = below_turn c.args.variables f.terms c.loop-var.index (c.in-Some.var, c.in-Some.field-0-1) found c.if-var-variables.false ∙ c.loop-var.invariant.same;
+    }
+
+pub returns : goal.returns
+returns c =
+    let f = c.args.form.now in
+    sym (below_end c.args.variables f.terms c.loop-var.index (sym c.term.ensures.found ∙ c.in_default.is)) ∙ c.loop-var.invariant.same

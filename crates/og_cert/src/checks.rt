@@ -1,0 +1,164 @@
+//! Combinations of facts, and the other forms that a line of a certificate makes.
+
+ghost use Rattle.std.specs.Prelude.{◌≡◌, [], nat_lt};
+ghost use Rattle.std.specs.List.{list_all};
+ghost use Rattle.og_cert_text.specs.Tree.{Low, High};
+ghost use Rattle.og_cert_text.specs.Plain.{ref_of, combination_of};
+ghost use Rattle.og_cert.specs.Checks as check;
+ghost use Rattle.og_cert.specs.Held.{facts_held};
+ghost use Rattle.og_cert.specs.Answer.{IsChecked, or_kind};
+
+use crate::fault::{CheckError, FaultKind};
+use crate::held::{Held, atom_at};
+use og_cert_text::{Source, Term};
+use og_linear::{Form, FormError};
+use std::alloc::Global;
+
+// The arithmetic's answer, or a fault of this kind.
+fn or_kind<T>(answer: Result<T, FormError>, kind: FaultKind) -> Result<T, CheckError>
+    ensures { result ≡ or_kind kind answer }
+{
+    match answer {
+        Ok(value) => Ok(value),
+        Err(FormError::Memory) => Err(CheckError::Memory),
+        Err(FormError::Fault(_)) => Err(CheckError::Fault(kind)),
+    }
+}
+
+// That the variable is no less than the least i64.
+fn low_form(alloc: Global, variables: u32, var: u32) -> Result<Form, CheckError>
+    ensures { IsChecked (λ form. form) result (check.form_at variables [] (Low var)) }
+{
+    if var >= variables {
+        return Err(CheckError::Fault(FaultKind::NoSuchFact));
+    }
+    let own = Form::variable(alloc, var)?;
+    let mut form = Form::constant(alloc, -9_223_372_036_854_775_808);
+    or_kind(form.add_scaled(-1, &own), FaultKind::TooLarge)?;
+    Ok(form)
+}
+
+// That the variable is no greater than the greatest i64.
+fn high_form(alloc: Global, variables: u32, var: u32) -> Result<Form, CheckError>
+    ensures { IsChecked (λ form. form) result (check.form_at variables [] (High var)) }
+{
+    if var >= variables {
+        return Err(CheckError::Fault(FaultKind::NoSuchFact));
+    }
+    let own = Form::variable(alloc, var)?;
+    let mut form = Form::constant(alloc, -9_223_372_036_854_775_807);
+    or_kind(form.add_scaled(1, &own), FaultKind::TooLarge)?;
+    Ok(form)
+}
+
+// Adds a multiple of a fact or of a bound.
+fn add_term(
+    alloc: Global,
+    variables: u32,
+    held: &[Held],
+    sum: &mut Form,
+    term: Term,
+) -> Result<(), CheckError>
+    ensures { IsChecked (λ _. sum.new) result
+        (check.add_term variables (facts_held held.now) sum.old (term.times, ref_of term.source)) }
+{
+    let times = i128::from(term.times);
+    let added = match term.source {
+        Source::Known(number) => sum.add_scaled(times, atom_at(held, number)?),
+        Source::Low(var) => sum.add_scaled(times, &low_form(alloc, variables, var)?),
+        Source::High(var) => sum.add_scaled(times, &high_form(alloc, variables, var)?),
+    };
+    or_kind(added, FaultKind::TooLarge)
+}
+
+// The sum of these multiples.
+pub(crate) fn combination(
+    alloc: Global,
+    variables: u32,
+    held: &[Held],
+    terms: &[Term],
+) -> Result<Form, CheckError>
+    ensures { IsChecked (λ form. form) result
+        (check.combination variables (facts_held held.now) (combination_of terms.now)) }
+{
+    let mut sum = Form::constant(alloc, 0);
+    for term in terms {
+        add_term(alloc, variables, held, &mut sum, *term)?;
+    }
+    Ok(sum)
+}
+
+// Whether the form is a constant above 0.
+fn is_positive(form: &Form) -> bool
+    ensures { result ≡ check.is_positive form.now }
+{
+    match form.term(0) {
+        Some(_) => false,
+        None => form.offset() > 0,
+    }
+}
+
+// Whether the sum of these multiples is a constant above 0.
+pub(crate) fn check_closing(
+    alloc: Global,
+    variables: u32,
+    held: &[Held],
+    terms: &[Term],
+) -> Result<(), CheckError>
+    ensures { IsChecked (λ done. done) result
+        (check.closing variables (facts_held held.now) (combination_of terms.now)) }
+{
+    let sum = combination(alloc, variables, held, terms)?;
+    if is_positive(&sum) {
+        Ok(())
+    } else {
+        Err(CheckError::Fault(FaultKind::NotClosed))
+    }
+}
+
+// The fact of this number, cut by the divisor.
+pub(crate) fn cut_at(held: &[Held], number: u32, divisor: u64) -> Result<Form, CheckError>
+    ensures { IsChecked (λ form. form) result (check.cut_at (facts_held held.now) number divisor) }
+{
+    let form = atom_at(held, number)?;
+    or_kind(form.cut(i128::from(divisor)), FaultKind::NotDivisible)
+}
+
+// Whether each variable of the form is below this number.
+fn is_over(form: &Form, variables: u32) -> bool
+    ensures { result ≡ list_all (λ t. nat_lt t.0 variables) form.now.terms }
+{
+    let mut index = 0;
+    while let Some((var, _)) = form.term(index) {
+        if var >= variables {
+            return false;
+        }
+        index += 1;
+    }
+    true
+}
+
+// The form that is at most 0 where this one is not.
+pub(crate) fn otherwise(alloc: Global, variables: u32, form: &Form) -> Result<Form, CheckError>
+    ensures { IsChecked (λ other. other) result (check.otherwise variables form.now) }
+{
+    if !is_over(form, variables) {
+        return Err(CheckError::Fault(FaultKind::NoSuchFact));
+    }
+    let mut other = Form::constant(alloc, 1);
+    or_kind(other.add_scaled(-1, form), FaultKind::TooLarge)?;
+    Ok(other)
+}
+
+// A certificate for each part.
+pub(crate) fn check_count(parts: usize, certs: usize) -> Result<(), FaultKind>
+    ensures { result ≡ check.one_each parts certs }
+{
+    if parts < certs {
+        Err(FaultKind::LeftOver)
+    } else if certs < parts {
+        Err(FaultKind::NotClosed)
+    } else {
+        Ok(())
+    }
+}
