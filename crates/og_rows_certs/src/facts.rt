@@ -289,9 +289,12 @@ fn limit_of_facts(rt: HostRuntime) -> Result<(), Fail> {
     assert!(rt; outcome(&facts(alloc, &few)) == (0, 10000));
     let many = from_values(alloc, 5000, None, Goal::Fits)?;
     assert!(rt; outcome(&facts(alloc, &many)) == (35, 0));
-    let large = from_values(alloc, 5000, Some(Action::Await(&body)), Goal::Never)?;
+    let assignments = body.as_slice();
+    let large_action = Action::Await(assignments);
+    let large = from_values(alloc, 5000, Some(large_action), Goal::Never)?;
     assert!(rt; outcome(&facts(alloc, &large)) == (5, 0));
-    let both = from_values(alloc, 5000, Some(Action::Await(&body)), Goal::Fits)?;
+    let both_action = Action::Await(assignments);
+    let both = from_values(alloc, 5000, Some(both_action), Goal::Fits)?;
     assert!(rt; outcome(&facts(alloc, &both)) == (35, 0));
     Ok(())
 }
