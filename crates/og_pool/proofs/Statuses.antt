@@ -1,0 +1,56 @@
+-- The status of a condition, by what is found of it.
+use Rattle.std.proofs.lemmas.Option.{slice_get_cases}
+use Rattle.std.proofs.Common.{◌≡◌, ℕ, zero, suc, ◌-◌, ◌<◌, ◌≤◌, ◌⊎◌, ⊎_elim, arith, length, get_or, List, [], ◌∷◌, map, slice_get, Option, Some, None, Ok, Err, refl, sym, ap, ◌∙◌}
+use Rattle.og_cond.specs.Condition as plain
+use Rattle.og_cond.specs.declared.condition.Condition.{Condition}
+use Rattle.og_cond.specs.Seen.{seen}
+use Rattle.og_facts.specs.Facts.{Fact, facts_of}
+use Rattle.og_facts.specs.declared.fault.FactsFault.{FactsFault}
+use Rattle.og_cert_text.specs.Tree.{Cert}
+use Rattle.og_cert_text.specs.Files.{certificate_of}
+use Rattle.og_cert_text.specs.Shown.{shown}
+use Rattle.og_cert_text.specs.declared.file.CertFile.{CertFile}
+use Rattle.og_cert.specs.Faults.{first_fault}
+use Rattle.og_pool.specs.declared.status.Status.{Status}
+use Rattle.og_pool.specs.declared.status.Status.TheVariants as status
+use Rattle.og_pool.specs.Status.{by_fault, by_facts, by_cert, by_condition, status_of}
+
+seen_at : (cs : List Condition) (i : ℕ) (c : Condition) → slice_get cs i ≡ Some c → slice_get (map seen cs) i ≡ Some (seen c)
+seen_at [] i c at = absurd (cc)
+seen_at (d ∷ cs) zero c at = ap (λ (o : Option Condition). seen_of o) at
+  where
+    seen_of : Option Condition → Option plain.Condition
+    seen_of None = None
+    seen_of (Some d) = Some (seen d)
+seen_at (d ∷ cs) (suc i) c at = seen_at cs i c at
+
+by_none : (c : Option plain.Condition) → status.Missing ≡ by_condition c None
+by_none None = refl
+by_none (Some c) = refl
+
+pub is_missing : (cs : List Condition) (file : CertFile) (n : ℕ) → certificate_of n (shown file) ≡ None → status.Missing ≡ status_of cs file n
+unfolding status_of
+is_missing cs file n none = by_none (slice_get (map seen cs) (n - 1)) ∙ sym (ap (by_condition (slice_get (map seen cs) (n - 1))) none)
+
+by_these : (cs : List Condition) (file : CertFile) (n : ℕ) (c : Condition) (proof : Cert) → slice_get cs (n - 1) ≡ Some c
+    → certificate_of n (shown file) ≡ Some proof → status_of cs file n ≡ by_facts (seen c).variables (facts_of (seen c)) proof
+unfolding status_of
+by_these cs file n c proof at there =
+    ap (λ o. by_condition o (certificate_of n (shown file))) (seen_at cs (n - 1) c at) ∙ ap (by_condition (Some (seen c))) there
+
+pub is_too_large : (cs : List Condition) (file : CertFile) (n : ℕ) (c : Condition) (proof : Cert) (e : FactsFault) → slice_get cs (n - 1) ≡ Some c
+    → certificate_of n (shown file) ≡ Some proof → facts_of (seen c) ≡ Err e → status.TooLarge ≡ status_of cs file n
+is_too_large cs file n c proof e at there refused =
+    sym (by_these cs file n c proof at there ∙ ap (λ r. by_facts (seen c).variables r proof) refused)
+
+pub is_replayed : (cs : List Condition) (file : CertFile) (n : ℕ) (c : Condition) (proof : Cert) (fs : List Fact) → slice_get cs (n - 1) ≡ Some c
+    → certificate_of n (shown file) ≡ Some proof → facts_of (seen c) ≡ Ok fs
+    → by_fault (first_fault (seen c).variables fs proof) ≡ status_of cs file n
+is_replayed cs file n c proof fs at there made =
+    sym (by_these cs file n c proof at there ∙ ap (λ r. by_facts (seen c).variables r proof) made)
+
+pub some_condition : (cs : List Condition) (n : ℕ) → 0 < n → n ≤ length cs → (c : Condition) × (slice_get cs (n - 1) ≡ Some c)
+some_condition cs n some few = ⊎_elim
+    (λ (h : (x : Condition) × (n - 1 < length cs) × (slice_get cs (n - 1) ≡ Some x) × (get_or cs (n - 1) x ≡ x)). (h.0, h.2))
+    (λ (h : (length cs ≤ n - 1) × (slice_get cs (n - 1) ≡ None)). let past = h.0 in absurd (omega arith))
+    (slice_get_cases cs (n - 1)).1

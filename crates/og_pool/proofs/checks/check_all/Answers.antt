@@ -1,0 +1,13 @@
+use Rattle.std.proofs.Common.{◌≡◌, ◌+◌, ◌-◌, ◌<◌, sym, ap, ◌∙◌, subst, arith, ℕ}
+use Rattle.og_pool.specs.Drawing.{times, Source}
+use Rattle.og_pool.specs.Telling.{Tells}
+use Rattle.og_pool.proofs.checks.check_all.Goals as goal
+
+pub in_order-requires-clause-all : goal.in_order-requires-clause-all
+in_order-requires-clause-all g c = λ n some less.
+    let done = c.in_ok-drawer.ensures.2 in
+    let count = c.in_ok-draws.ensures.draws.0 in
+    let below : n - 1 < c.in_ok-draws.draws.count = omega (arith, count) in
+    let once = c.close.ensures done.0 (n - 1) below in
+    let back : n - 1 + 1 ≡ n = omega arith in
+    rw c.as_slice.ensures.value (subst (Tells c.in_ok-drawer.told.items) back (done.2 (n - 1) below (omega (arith, once))))

@@ -1,0 +1,5 @@
+pub mod Drawing
+pub mod Last
+pub mod Names
+pub mod Status
+pub mod Telling

@@ -1,0 +1,182 @@
+//! The statuses of conditions, found by workers.
+
+ghost use Rattle.std.specs.Prelude.{◌≡◌, [], ◌^◌, ◌<◌, ◌≤◌, ◌-◌, ◌+◌, ℕ, length, IfOk, IsTrue, Some, slice_get, vec_len};
+ghost use Rattle.og_cond.specs.Seen.{seen};
+ghost use Rattle.og_facts.specs.Answer.{IsFacts, IsPrepared};
+ghost use Rattle.og_cert_text.specs.Plain.{plain_cert};
+ghost use Rattle.og_cert.specs.Faults.{first_fault};
+ghost use Rattle.og_pool.specs.Last.{IsLast, Keeps};
+ghost use Rattle.og_pool.specs.Status.{by_fault, status_of};
+
+use crate::draws::{Drawer, Draws};
+use crate::fault::PoolFault;
+use crate::gate::Gate;
+use crate::status::Status;
+use crate::told::{Told, in_order};
+use crate::workers::{Numbered, part};
+use og_cert::{ReplayError, replay};
+use og_cert_text::{Cert, CertFile};
+use og_cond::Condition;
+use og_facts::{FactList, FactsError, facts, facts_with};
+use og_subst::{Action, ActionMap};
+use std::alloc::Global;
+use std::marker::{Brand, PhantomData};
+use std::sync::Wait;
+use std::thread::Threads;
+
+/// The map of the action of a condition that a worker looked at before.
+#[derive(Drop)]
+pub(crate) struct Last {
+    index: usize,
+    map: ActionMap,
+}
+
+/// What the workers read.
+#[derive(Clone, Copy)]
+pub(crate) struct Checks<'a> {
+    pub(crate) conditions: &'a [Condition<'a>],
+    pub(crate) certs: &'a CertFile,
+}
+
+// The status by the certificate's replay.
+fn replayed(alloc: Global, list: &FactList, cert: &Cert) -> Result<Status, PoolFault>
+    ensures { IfOk result (λ s. s ≡ by_fault (first_fault list.now.variables list.now.facts (plain_cert cert.now))) }
+{
+    match replay(alloc, list, cert) {
+        Ok(()) => Ok(Status::Proved),
+        Err(ReplayError::Memory) => Err(PoolFault::Memory),
+        Err(ReplayError::Fault(fault)) => Ok(Status::Failed(fault)),
+    }
+}
+
+impl<'a> Checks<'a> {
+    // Whether the map that is kept is that of an action equal to this one.
+    fn serves(&self, last: &Last, action: &Action) -> bool
+        requires { IsLast self.now.conditions.now last.now }
+        ensures { IsTrue result → IsPrepared (Some action.now) last.now.map }
+    {
+        match &self.conditions[last.index].action {
+            Some(before) => before.equals(action),
+            None => false,
+        }
+    }
+
+    // The facts of the condition at this index. The map that is made for them is kept.
+    fn facts(
+        &self,
+        alloc: Global,
+        index: usize,
+        last: &mut Option<Last>,
+    ) -> Result<FactList, FactsError>
+        requires within { index < length self.now.conditions.now }
+        requires keeps { Keeps self.now.conditions.now last.old }
+        ensures facts { (c : _) → slice_get self.now.conditions.now index ≡ Some c → IsFacts (seen c) result }
+        ensures keeps { Keeps self.now.conditions.now last.new }
+    {
+        let condition = &self.conditions[index];
+        let Some(action) = &condition.action else {
+            return facts(alloc, condition);
+        };
+        if let Some(kept) = last {
+            if self.serves(kept, action) {
+                return facts_with(alloc, condition, &kept.map);
+            }
+        }
+        let Ok(map) = action.prepare(alloc) else {
+            return facts(alloc, condition);
+        };
+        let list = facts_with(alloc, condition, &map);
+        *last = Some(Last { index, map });
+        list
+    }
+
+    // The status of a condition, counted from 1.
+    fn status(
+        &self,
+        alloc: Global,
+        number: u32,
+        last: &mut Option<Last>,
+    ) -> Result<Status, PoolFault>
+        requires within { (0 < number) × (number ≤ length self.now.conditions.now) }
+        requires keeps { Keeps self.now.conditions.now last.old }
+        ensures status { IfOk result (λ s. s ≡ status_of self.now.conditions.now self.now.certs.now number) }
+        ensures keeps { Keeps self.now.conditions.now last.new }
+    {
+        let Some(cert) = self.certs.certificate(number) else {
+            return Ok(Status::Missing);
+        };
+        match self.facts(alloc, number as usize - 1, last) {
+            Ok(list) => replayed(alloc, &list, cert),
+            Err(FactsError::Fault(_)) => Ok(Status::TooLarge),
+            Err(FactsError::Memory) => Err(PoolFault::Memory),
+        }
+    }
+}
+
+impl<'a> Numbered for Checks<'a> {
+    ghost use Rattle.std.specs.Prelude.{length};
+    ghost use Rattle.og_pool.specs.Status.{status_of};
+
+    ghost count = { λ c. length c.conditions.now };
+
+    ghost status = { λ c. status_of c.conditions.now c.certs.now };
+
+    fn work<G: Gate>(
+        &self,
+        alloc: Global,
+        draws: &Draws,
+        mut drawer: Drawer,
+        gate: &G,
+    ) -> Result<(Drawer, Vec<Told>), PoolFault> {
+        let mut told = Vec::new(alloc);
+        let mut last = None;
+        while let Some(number) = draws.draw(&mut drawer) {
+            gate.before(number);
+            let status = self.status(alloc, number, &mut last)?;
+            gate.after(number);
+            told.push(Told { number, status })?;
+        }
+        Ok((drawer, told))
+    }
+}
+
+/// The status of each condition, in their order, found by so many workers. It is the same for every
+/// number of workers: a function of the condition and of its certificate.
+///
+/// The workers draw the conditions one after another, each in a thread of its own; the calling
+/// thread is one of them. `before(n)` is told before condition n is looked at, `after(n)` when its
+/// status is known.
+///
+/// # Errors
+///
+/// `Spawn` where a thread could not be started; those that were started have ended by then.
+/// `Memory` where an allocation was refused.
+pub fn check_all<'a, G: Gate, R: Threads + Wait + Sync>(
+    rt: &R,
+    alloc: Global,
+    conditions: &'a [Condition<'a>],
+    certs: &'a CertFile,
+    workers: u32,
+    gate: &G,
+) -> Result<Vec<Status>, PoolFault>
+    requires workers { (0 < workers) × (workers ≤ 64) }
+    requires few { length conditions.now < 2 ^ 32 }
+    ensures { IfOk result (λ v. (vec_len v ≡ length conditions.now)
+        × ((i : ℕ) → i < length conditions.now → slice_get v.items i ≡ Some (status_of conditions.now certs.now (i + 1)))) }
+{
+    let count = conditions.len() as u32;
+    let checks = Checks { conditions, certs };
+    let (draws, drawer) = Draws::new(alloc, count, workers)?;
+    let (drawer, told) = part(
+        rt,
+        alloc,
+        &draws,
+        drawer,
+        &checks,
+        workers,
+        gate,
+        PhantomData::<Brand>,
+    )?;
+    draws.close(drawer);
+    Ok(in_order(alloc, &checks, told.as_slice(), count)?)
+}

@@ -1,0 +1,20 @@
+//! Who is told of the workers' progress.
+
+/// Is told before and after each condition. What it does has no part in the answers.
+pub trait Gate: Sync {
+    /// A worker is about to look at the condition of this number, counted from 1.
+    fn before(&self, task: u32);
+
+    /// The status of this condition is known.
+    fn after(&self, task: u32);
+}
+
+/// A gate that does nothing.
+#[derive(Clone, Copy, Debug, Drop)]
+pub struct OpenGate;
+
+impl Gate for OpenGate {
+    fn before(&self, _task: u32) {}
+
+    fn after(&self, _task: u32) {}
+}
