@@ -1,5 +1,5 @@
 -- The answer of a replay, from the first fault.
-use Rattle.std.proofs.Common.{◌≡◌, ℕ, List, true, Some, None, Err, sym, ◌∙◌, subst}
+use Rattle.std.proofs.Common.{◌≡◌, ℕ, List, Some, None, Err, sym, ◌∙◌, subst}
 use Rattle.std.proofs.lemmas.Bool.{false_from_ne_true}
 use Rattle.og_facts.specs.Facts.{Fact}
 use Rattle.og_cert_text.specs.Tree.{Cert}

@@ -4,7 +4,7 @@ use Rattle.std.proofs.lemmas.List.{length-map}
 use Rattle.og_facts.specs.declared.fact.Fact.{Fact as FactType}
 use Rattle.og_facts.specs.Facts.{Fact, Atom}
 use Rattle.og_facts.specs.Plain.{plain_fact}
-use Rattle.og_cert_text.specs.Tree.{Cert, SplitOn, Certs, cert}
+use Rattle.og_cert_text.specs.Tree.{Cert, SplitOn}
 use Rattle.og_cert_text.specs.Lines.{cert_count}
 use Rattle.og_cert_text.specs.declared.cert.Cert.{Cert as CertType}
 use Rattle.og_cert_text.specs.declared.cert.CertStep.{CertStep}

@@ -1,5 +1,5 @@
 -- Facts that a certificate closes are not all true in a proper state.
-use Rattle.std.proofs.Common.{◌≡◌, ℕ, zero, suc, ◌+◌, ◌*◌, ◌≤◌, ℤ, pos, negsuc, ◌+ℤ◌, ◌*ℤ◌, List, [], ◌∷◌, ◌++◌, length, Bool, true, false, not, ◌&&◌, ◌||◌, cond, Some, Ok, Err, refl, sym, ap, ap₂, ◌∙◌, subst, arith, ⊎_elim, ok_or}
+use Rattle.std.proofs.Common.{◌≡◌, ℕ, zero, suc, ◌≤◌, ℤ, pos, negsuc, ◌*ℤ◌, List, [], ◌∷◌, ◌++◌, length, Bool, true, false, not, ◌&&◌, ◌||◌, cond, Some, Ok, Err, refl, sym, ap, ap₂, ◌∙◌, subst, arith, ⊎_elim, ok_or}
 use Rattle.std.specs.Prelude.{int_le, int_lt, nat_lt, slice_get, FitsSigned, ◌≤ℤ◌}
 use mir.Syntax.{w64}
 use Rattle.std.specs.List.{list_all, AllByRecursion}
@@ -12,15 +12,14 @@ use Rattle.og_linear.specs.Linear.{Terms, FormValue, form_value, val, val_terms,
 use Rattle.og_linear.specs.Arith.{add_scaled, cut, fits_form}
 use Rattle.og_linear.proofs.Values.{val-add_scaled, val-scaled}
 use Rattle.og_linear.proofs.Cuts.{cut_said}
-use Rattle.og_cond.specs.Condition.{Condition, IsValid, hypotheses_true, goal_true}
+use Rattle.og_cond.specs.Condition.{Condition, IsValid, goal_true}
 use Rattle.og_facts.specs.Facts.{Fact, Atom, Split, Parts, no_part, part, Facts, no_fact, fact, list_of_facts, list_of_parts, fact_true, some_part_true, facts_true, all_true_at, plus_one, negated, facts_of}
 use Rattle.og_facts.proofs.Refuted.{facts_said}
 use Rattle.og_facts.specs.Listed.{numbered}
 use Rattle.og_cert_text.specs.Tree.{Ref, Known, Low, High, Combination, Cert, Sum, Cut, Close, Branch, SplitOn, Certs, no_cert, cert}
 use Rattle.og_cert_text.specs.Lines.{cert_count}
-use Rattle.og_cert.specs.declared.fault.FaultKind.{FaultKind}
 use Rattle.og_cert.specs.declared.fault.FaultKind.TheVariants as kinds
-use Rattle.og_cert.specs.Checks.{ok_then, fact_at, atom_in, split_in, atom_at, parts_at, room, low_form, high_form, form_at, add_term, add_terms, combination, is_positive, closing, cut_at, otherwise, one_each}
+use Rattle.og_cert.specs.Checks.{fact_at, atom_in, split_in, atom_at, parts_at, room, low_form, high_form, form_at, add_term, add_terms, combination, is_positive, closing, cut_at, otherwise, one_each}
 use Rattle.og_cert.specs.Closes.{closes, closes_parts}
 use Rattle.og_cert.proofs.Passing.{then_ok, some_from_or, passed, ok_cond}
 

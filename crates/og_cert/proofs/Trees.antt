@@ -10,7 +10,7 @@ use Rattle.og_cert_text.specs.declared.cert.Cert.{Cert}
 use Rattle.og_cert_text.specs.declared.cert.Finish.{Row_of-Cert, end_of-Cert, more_of-Cert, items-the_row-Cert, items_hidden-the_row-Cert-0}
 use Rattle.og_cert_text.specs.declared.cert.Finish.TheViews as finish_view
 use Rattle.og_cert_text.specs.declared.cert.Finish.TheBlock.{hidden-the_row-Cert-0}
-use Rattle.og_cert_text.specs.Tree.{SplitOn, Certs, cert}
+use Rattle.og_cert_text.specs.Tree.{SplitOn, cert}
 use Rattle.og_cert_text.specs.Lines.{cert_count}
 use Rattle.og_cert_text.specs.Plain.{plain_finish, plain_certs, with_steps}
 use Rattle.og_cert.specs.Checks.{split_in}

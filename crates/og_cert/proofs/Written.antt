@@ -1,5 +1,5 @@
 -- The lines of a certificate are as many as are written.
-use Rattle.std.proofs.Common.{◌≡◌, ◌+◌, length, refl, arith}
+use Rattle.std.proofs.Common.{◌≡◌, length, refl, arith}
 use Rattle.std.proofs.lemmas.List.{length-append}
 use Rattle.og_cert_text.specs.Tree.{Cert, Sum, Cut, Close, Branch, SplitOn, Certs, no_cert, cert}
 use Rattle.og_cert_text.specs.Lines.{cert_lines, certs_lines}

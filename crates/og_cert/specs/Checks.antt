@@ -1,5 +1,5 @@
 -- The single checks of a replay, each over the facts held so far: what it gives, or the kind of its fault.
-use Rattle.std.specs.Prelude.{ℕ, ◌+◌, ℤ, pos, negsuc, List, [], ◌∷◌, length, Bool, false, ◌&&◌, if◌then◌else◌, nat_lt, nat_le, Result, Ok, Err, int_lt, ok_or}
+use Rattle.std.specs.Prelude.{ℕ, ◌+◌, pos, negsuc, List, [], ◌∷◌, length, Bool, false, ◌&&◌, if◌then◌else◌, nat_lt, nat_le, Result, Ok, Err, int_lt, ok_or}
 use Rattle.std.specs.List.{list_all}
 use Rattle.og_linear.specs.Linear.{FormValue, form_value}
 use Rattle.og_linear.specs.Arith.{add_scaled, fits_form, cut}

@@ -1,5 +1,5 @@
-use Rattle.std.proofs.Common.{◌≡◌, ◌&&◌, pos, FitsSigned, None, Some, rules, sym, ap, ◌∙◌}
-use Rattle.std.specs.Prelude.{slice_get, int_lt}
+use Rattle.std.proofs.Common.{◌&&◌, pos, FitsSigned, rules, sym, ap, ◌∙◌}
+use Rattle.std.specs.Prelude.{int_lt}
 use Rattle.std.proofs.lemmas.Int.{to_z-of_z}
 use mir.Syntax.{w128}
 use Rattle.og_cert.proofs.Terms.{some_term, no_term}

@@ -3,7 +3,7 @@ use Rattle.std.proofs.lemmas.Result.{err_from_is_err_and}
 use Rattle.og_facts.specs.declared.fact.Fact.{Fact}
 use Rattle.og_facts.specs.Facts as plain
 use Rattle.og_cert_text.specs.Tree.{SplitOn}
-use Rattle.og_cert_text.specs.Plain.{with_steps, plain_cert, plain_finish}
+use Rattle.og_cert_text.specs.Plain.{with_steps, plain_finish}
 use Rattle.og_cert.specs.Checks.{room}
 use Rattle.og_cert.specs.Faults.{fault_from}
 use Rattle.og_cert.specs.Steps.{split_for, certs_of}
