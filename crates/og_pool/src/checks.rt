@@ -33,8 +33,8 @@ pub(crate) struct Last {
 
 /// What the workers read.
 #[derive(Clone, Copy)]
-pub(crate) struct Checks<'a> {
-    pub(crate) conditions: &'a [Condition<'a>],
+pub(crate) struct Checks<'a, 'c> {
+    pub(crate) conditions: &'a [Condition<'c>],
     pub(crate) certs: &'a CertFile,
 }
 
@@ -49,7 +49,7 @@ fn replayed(alloc: Global, list: &FactList, cert: &Cert) -> Result<Status, PoolF
     }
 }
 
-impl<'a> Checks<'a> {
+impl<'a, 'c> Checks<'a, 'c> {
     // Whether the map that is kept is that of an action equal to this one.
     fn serves(&self, last: &Last, action: &Action) -> bool
         requires { IsLast self.now.conditions.now last.now }
@@ -113,7 +113,7 @@ impl<'a> Checks<'a> {
     }
 }
 
-impl<'a> Numbered for Checks<'a> {
+impl<'a, 'c> Numbered for Checks<'a, 'c> {
     ghost use Rattle.std.specs.Prelude.{length};
     ghost use Rattle.og_pool.specs.Status.{status_of};
 
@@ -151,11 +151,11 @@ impl<'a> Numbered for Checks<'a> {
 ///
 /// `Spawn` where a thread could not be started; those that were started have ended by then.
 /// `Memory` where an allocation was refused.
-pub fn check_all<'a, G: Gate, R: Threads + Wait + Sync>(
+pub fn check_all<G: Gate, R: Threads + Wait + Sync>(
     rt: &R,
     alloc: Global,
-    conditions: &'a [Condition<'a>],
-    certs: &'a CertFile,
+    conditions: &[Condition],
+    certs: &CertFile,
     workers: u32,
     gate: &G,
 ) -> Result<Vec<Status>, PoolFault>

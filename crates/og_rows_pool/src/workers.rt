@@ -1,5 +1,7 @@
 //! Statuses of conditions, found by workers.
 
+ghost use Rattle.std.specs.Prelude.{◌<◌, ◌≤◌};
+
 use crate::outlines::outline_of;
 use crate::sources::{UP_AND_DOWN, add_times, equal_processes};
 use og_cert::{FaultKind, ReplayError, ReplayFault, replay};
@@ -7,10 +9,14 @@ use og_cert_text::{Cert, CertFile, Finish, Source, Term};
 use og_cond::{Condition, conditions};
 use og_facts::{FactsError, facts};
 use og_pool::{Draws, Gate, OpenGate, Status, check_all};
+use og_typed::Outline;
 use std::alloc::{AllocError, Global};
+use std::process::Abort;
+use std::sync::Wait;
 use std::sync::atomic::{AtomicU64, Ordering};
 use std::test::Fail;
 use std::thread;
+use std::thread::Threads;
 
 #[test]
 fn two_drawers_in_turn(rt: HostRuntime) -> Result<(), Fail> {
@@ -114,19 +120,26 @@ fn eight(alloc: Global) -> Result<String, AllocError> {
     )
 }
 
-#[test]
-fn one_answer_for_all_workers(rt: HostRuntime) -> Result<(), Fail> {
-    let alloc = rt.alloc();
-    let outline = outline_of(alloc, eight(alloc)?.as_str())?;
-    let conditions = conditions(alloc, &outline)?;
+fn expect_one_answer<R: Threads + Wait + Sync + Abort>(
+    rt: &R,
+    alloc: Global,
+    outline: &Outline,
+) -> Result<(), Fail> {
+    let conditions = conditions(alloc, outline)?;
     assert_eq!(rt; conditions.len(), 4938);
     let file = most_closed(alloc, 4938)?;
     let alone = statuses_alone(alloc, &conditions, &file)?;
     for workers in [1, 2, 64] {
-        let statuses = check_all(&rt, alloc, &conditions, &file, workers, &OpenGate)?;
+        let statuses = check_all(rt, alloc, &conditions, &file, workers, &OpenGate)?;
         assert!(rt; statuses == alone, "of {workers} workers");
     }
     Ok(())
+}
+
+#[test]
+fn one_answer_for_all_workers(rt: HostRuntime) -> Result<(), Fail> {
+    let alloc = rt.alloc();
+    expect_one_answer(&rt, alloc, &outline_of(alloc, eight(alloc)?.as_str())?)
 }
 
 // `head`, so many doublings of x by 2147483648 in one await, and `tail`.
@@ -140,36 +153,46 @@ fn growing(alloc: Global, times: u32) -> Result<String, AllocError> {
     Ok(source)
 }
 
+fn expect_too_large<R: Threads + Wait + Sync + Abort>(
+    rt: &R,
+    alloc: Global,
+    outline: &Outline,
+    second: Status,
+    is_third: bool,
+) -> Result<(), Fail> {
+    let conditions = conditions(alloc, outline)?;
+    let mut file = CertFile::new(alloc);
+    file.add(2, closing(alloc, &[1])?)?;
+    file.add_same(3, 2)?;
+    let statuses = check_all(rt, alloc, &conditions, &file, 2, &OpenGate)?;
+    let alone = statuses_alone(alloc, &conditions, &file)?;
+    assert!(rt; statuses == alone);
+    assert!(rt; statuses[0] == Status::Missing && statuses[1] == second);
+    assert!(rt; (statuses[2] == Status::TooLarge) == is_third);
+    Ok(())
+}
+
 // With five the coefficient 2^155 leaves 128 bits; with four it does not.
 #[test]
 fn too_large_actions(rt: HostRuntime) -> Result<(), Fail> {
     let alloc = rt.alloc();
-    for (times, second) in [(5, Status::TooLarge), (4, Status::Proved)] {
-        let outline = outline_of(alloc, growing(alloc, times)?.as_str())?;
-        let conditions = conditions(alloc, &outline)?;
-        let mut file = CertFile::new(alloc);
-        file.add(2, closing(alloc, &[1])?)?;
-        file.add_same(3, 2)?;
-        let statuses = check_all(&rt, alloc, &conditions, &file, 2, &OpenGate)?;
-        let alone = statuses_alone(alloc, &conditions, &file)?;
-        assert!(rt; statuses == alone);
-        assert!(rt; statuses[0] == Status::Missing && statuses[1] == second);
-        assert!(rt; (statuses[2] == Status::TooLarge) == (times == 5));
-    }
-    Ok(())
+    let five = outline_of(alloc, growing(alloc, 5)?.as_str())?;
+    expect_too_large(&rt, alloc, &five, Status::TooLarge, true)?;
+    let four = outline_of(alloc, growing(alloc, 4)?.as_str())?;
+    expect_too_large(&rt, alloc, &four, Status::Proved, false)
 }
 
-// One step that adds and takes away at the greatest value: its range does not close.
-#[test]
-fn failed_range(rt: HostRuntime) -> Result<(), Fail> {
-    let alloc = rt.alloc();
-    let outline = outline_of(alloc, UP_AND_DOWN)?;
-    let conditions = conditions(alloc, &outline)?;
+fn expect_failed_range<R: Threads + Wait + Sync + Abort>(
+    rt: &R,
+    alloc: Global,
+    outline: &Outline,
+) -> Result<(), Fail> {
+    let conditions = conditions(alloc, outline)?;
     let mut file = CertFile::new(alloc);
     file.add(1, cases(alloc, 3, &[[2, 4], [1, 4]])?)?;
     file.add_same(2, 1)?;
     file.add(3, cases(alloc, 3, &[[2, 4], [1, 4], [2, 4], [1, 4]])?)?;
-    let statuses = check_all(&rt, alloc, &conditions, &file, 1, &OpenGate)?;
+    let statuses = check_all(rt, alloc, &conditions, &file, 1, &OpenGate)?;
     let expected = ReplayFault {
         kind: FaultKind::NotClosed,
         step: 3,
@@ -178,6 +201,13 @@ fn failed_range(rt: HostRuntime) -> Result<(), Fail> {
     assert!(rt; statuses[2] == Status::Failed(expected));
     assert!(rt; statuses[3] == Status::Missing);
     Ok(())
+}
+
+// One step that adds and takes away at the greatest value: its range does not close.
+#[test]
+fn failed_range(rt: HostRuntime) -> Result<(), Fail> {
+    let alloc = rt.alloc();
+    expect_failed_range(&rt, alloc, &outline_of(alloc, UP_AND_DOWN)?)
 }
 
 // Counts how often it is told of each condition, before and after.
@@ -216,21 +246,38 @@ fn each_once(counts: &[AtomicU64]) -> bool {
     counts.iter().enumerate().all(|(n, count)| count.load(Ordering::SeqCst) == u64::from(n > 0))
 }
 
+fn expect_each_once<R: Threads + Wait + Sync + Abort>(
+    rt: &R,
+    alloc: Global,
+    outline: &Outline,
+    workers: u32,
+) -> Result<(), Fail>
+    requires { (0 < workers) × (workers ≤ 64) }
+{
+    let conditions = conditions(alloc, outline)?;
+    let counts = Counts {
+        before: zeros(alloc, 4939)?,
+        after: zeros(alloc, 4939)?,
+    };
+    check_all(
+        rt,
+        alloc,
+        &conditions,
+        &CertFile::new(alloc),
+        workers,
+        &counts,
+    )?;
+    assert!(rt; each_once(&counts.before) && each_once(&counts.after));
+    Ok(())
+}
+
 #[test]
 fn gates_are_told_once_of_each(rt: HostRuntime) -> Result<(), Fail> {
     let alloc = rt.alloc();
     let outline = outline_of(alloc, eight(alloc)?.as_str())?;
-    let conditions = conditions(alloc, &outline)?;
-    let file = CertFile::new(alloc);
-    for workers in [1, 2, 64] {
-        let counts = Counts {
-            before: zeros(alloc, 4939)?,
-            after: zeros(alloc, 4939)?,
-        };
-        check_all(&rt, alloc, &conditions, &file, workers, &counts)?;
-        assert!(rt; each_once(&counts.before) && each_once(&counts.after));
-    }
-    Ok(())
+    expect_each_once(&rt, alloc, &outline, 1)?;
+    expect_each_once(&rt, alloc, &outline, 2)?;
+    expect_each_once(&rt, alloc, &outline, 64)
 }
 
 // Holds condition 1 until another one is done, for at most 100,000 turns.
@@ -262,21 +309,28 @@ impl Gate for HoldsFirst {
     }
 }
 
+fn expect_no_hold<R: Threads + Wait + Sync + Abort>(
+    rt: &R,
+    alloc: Global,
+    outline: &Outline,
+    until: u32,
+) -> Result<(), Fail> {
+    let conditions = conditions(alloc, outline)?;
+    let gate = HoldsFirst {
+        until,
+        done: AtomicU64::new(0),
+        missed: AtomicU64::new(0),
+    };
+    check_all(rt, alloc, &conditions, &CertFile::new(alloc), 2, &gate)?;
+    assert!(rt; gate.missed.load(Ordering::SeqCst) == 0, "until {until}");
+    Ok(())
+}
+
 // Two workers really run at once, and the one that is not held draws on.
 #[test]
 fn a_worker_draws_on(rt: HostRuntime) -> Result<(), Fail> {
     let alloc = rt.alloc();
     let outline = outline_of(alloc, eight(alloc)?.as_str())?;
-    let conditions = conditions(alloc, &outline)?;
-    let file = CertFile::new(alloc);
-    for until in [2, 3] {
-        let gate = HoldsFirst {
-            until,
-            done: AtomicU64::new(0),
-            missed: AtomicU64::new(0),
-        };
-        check_all(&rt, alloc, &conditions, &file, 2, &gate)?;
-        assert!(rt; gate.missed.load(Ordering::SeqCst) == 0, "until {until}");
-    }
-    Ok(())
+    expect_no_hold(&rt, alloc, &outline, 2)?;
+    expect_no_hold(&rt, alloc, &outline, 3)
 }
