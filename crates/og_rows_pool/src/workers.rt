@@ -66,7 +66,8 @@ fn cases(alloc: Global, fact: u32, closes: &[[u32; 2]]) -> Result<Cert, AllocErr
 // fifth, which has none.
 fn most_closed(alloc: Global, count: u32) -> Result<CertFile, Fail> {
     let mut file = CertFile::new(alloc);
-    for n in 1..count + 1 {
+    for i in 0..count {
+        let n = i + 1;
         if n % 5 != 0 {
             file.add(n, closing(alloc, &[1, 2])?)?;
         }
@@ -95,8 +96,10 @@ fn statuses_alone(
     file: &CertFile,
 ) -> Result<Vec<Status>, Fail> {
     let mut statuses = Vec::new(alloc);
-    for (i, condition) in conditions.iter().enumerate() {
-        let status = match file.certificate(i as u32 + 1) {
+    let mut number = 0u32;
+    for condition in conditions {
+        number = number.saturating_add(1);
+        let status = match file.certificate(number) {
             Some(cert) => status_alone(alloc, condition, cert)?,
             None => Status::Missing,
         };
@@ -142,13 +145,13 @@ fn one_answer_for_all_workers(rt: HostRuntime) -> Result<(), Fail> {
     expect_one_answer(&rt, alloc, &outline_of(alloc, eight(alloc)?.as_str())?)
 }
 
-// `head`, so many doublings of x by 2147483648 in one await, and `tail`.
-fn growing(alloc: Global, times: u32) -> Result<String, AllocError> {
+// An await in which x is multiplied by 2147483648, and so many times again.
+fn growing(alloc: Global, again: u32) -> Result<String, AllocError> {
     let mut source = String::from_str(
         alloc,
         "var x; {true} cobegin {true} await true then begin x := 2147483648*x",
     )?;
-    add_times(&mut source, "; x := 2147483648*x", times - 1)?;
+    add_times(&mut source, "; x := 2147483648*x", again)?;
     source.push_str(" end {true} coend {true}")?;
     Ok(source)
 }
@@ -167,8 +170,9 @@ fn expect_too_large<R: Threads + Wait + Sync + Abort>(
     let statuses = check_all(rt, alloc, &conditions, &file, 2, &OpenGate)?;
     let alone = statuses_alone(alloc, &conditions, &file)?;
     assert!(rt; statuses == alone);
-    assert!(rt; statuses[0] == Status::Missing && statuses[1] == second);
-    assert!(rt; (statuses[2] == Status::TooLarge) == is_third);
+    assert!(rt; statuses.first().copied() == Some(Status::Missing));
+    assert!(rt; statuses.get(1).copied() == Some(second));
+    assert!(rt; (statuses.get(2).copied() == Some(Status::TooLarge)) == is_third);
     Ok(())
 }
 
@@ -176,9 +180,9 @@ fn expect_too_large<R: Threads + Wait + Sync + Abort>(
 #[test]
 fn too_large_actions(rt: HostRuntime) -> Result<(), Fail> {
     let alloc = rt.alloc();
-    let five = outline_of(alloc, growing(alloc, 5)?.as_str())?;
+    let five = outline_of(alloc, growing(alloc, 4)?.as_str())?;
     expect_too_large(&rt, alloc, &five, Status::TooLarge, true)?;
-    let four = outline_of(alloc, growing(alloc, 4)?.as_str())?;
+    let four = outline_of(alloc, growing(alloc, 3)?.as_str())?;
     expect_too_large(&rt, alloc, &four, Status::Proved, false)
 }
 
@@ -197,9 +201,10 @@ fn expect_failed_range<R: Threads + Wait + Sync + Abort>(
         kind: FaultKind::NotClosed,
         step: 3,
     };
-    assert!(rt; statuses[0] == Status::Proved && statuses[1] == Status::Proved);
-    assert!(rt; statuses[2] == Status::Failed(expected));
-    assert!(rt; statuses[3] == Status::Missing);
+    assert!(rt; statuses.first().copied() == Some(Status::Proved));
+    assert!(rt; statuses.get(1).copied() == Some(Status::Proved));
+    assert!(rt; statuses.get(2).copied() == Some(Status::Failed(expected)));
+    assert!(rt; statuses.get(3).copied() == Some(Status::Missing));
     Ok(())
 }
 
