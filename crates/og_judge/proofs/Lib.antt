@@ -6,3 +6,5 @@ pub mod Stuck
 pub mod Projections
 pub mod Erased
 pub mod Examples
+pub mod Listing
+pub mod Refusing

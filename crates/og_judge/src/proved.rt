@@ -2,7 +2,7 @@
 
 ghost use Rattle.std.specs.Prelude.{◌≡◌, true};
 ghost use Rattle.og_typed.specs.Erase.{erased};
-ghost use Rattle.og_judge.specs.Sound.{IsSafe, IsUnblocked, IsSound, IsSoundErased, IsNeverStuck};
+ghost use Rattle.og_judge.specs.Sound.{IsProved, IsSafe, IsUnblocked, IsSound, IsSoundErased, IsNeverStuck};
 
 use og_typed::Outline;
 use std::marker::Model;
@@ -33,6 +33,14 @@ impl<'a> Model for Proved<'a> {
 }
 
 impl<'a> Proved<'a> {
+    // The outline, whose conditions are true as `unblocked` says.
+    pub(crate) fn new(outline: &'a Outline, unblocked: bool) -> Proved<'a>
+        requires { IsProved outline.now unblocked }
+        ensures { result ≡ (outline.now, unblocked) }
+    {
+        Proved { outline, unblocked }
+    }
+
     /// The outline, of which every run is as promised, with its auxiliaries and without them.
     /// Takes no memory, like `unblocked`.
     pub fn outline(&self) -> &'a Outline

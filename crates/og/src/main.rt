@@ -1,0 +1,183 @@
+//! The program `og`.
+#![tactic(auto)]
+
+ghost use Rattle.std.specs.Prelude.{◌<◌, ◌≤◌};
+
+use og_engine::{
+    Answer, EngineFault, Options, engine, engine_joined, erased, listed, read_source, write_answer,
+};
+use og_pool::OpenGate;
+use og_words::{Job, Usage, read_words};
+use std::alloc::AllocError;
+use std::env;
+use std::fs::File;
+use std::io::Write;
+use std::process::ExitCode;
+use std::sync::Wait;
+use std::thread::Threads;
+
+// The status of wrong words.
+const WRONG: u8 = 3;
+
+// The status where a device, memory or a thread is wanting.
+const FAULT: u8 = 4;
+
+// Ends with a text on standard error; where that cannot be written, the status alone tells.
+fn complain(rt: &HostRuntime, text: &str, status: u8) -> u8 {
+    let _ = rt.stderr().write_all(text.as_bytes());
+    status
+}
+
+fn fault(rt: &HostRuntime, fault: EngineFault) -> u8 {
+    let text = match fault {
+        EngineFault::Memory => "og: out of memory\n",
+        EngineFault::Spawn => "og: no thread\n",
+        EngineFault::ReadFailed => "og: read failed\n",
+        EngineFault::WriteFailed => "og: write failed\n",
+    };
+    complain(rt, text, FAULT)
+}
+
+fn finish(rt: &HostRuntime, outcome: Result<u8, EngineFault>) -> u8 {
+    match outcome {
+        Ok(status) => status,
+        Err(e) => fault(rt, e),
+    }
+}
+
+// Opens a file.
+fn open(rt: &HostRuntime, name: &str) -> Result<File, EngineFault> {
+    match File::open(rt, name) {
+        Ok(file) => Ok(file),
+        Err(_) => Err(EngineFault::ReadFailed),
+    }
+}
+
+// The bytes of a source; `-` is standard input.
+fn source_bytes(rt: &HostRuntime, name: &str) -> Result<Vec<u8>, EngineFault> {
+    if name == "-" {
+        return read_source(rt.alloc(), &mut rt.stdin());
+    }
+    read_source(rt.alloc(), &mut open(rt, name)?)
+}
+
+// Prints an answer.
+fn print(rt: &HostRuntime, answer: Answer) -> Result<u8, EngineFault> {
+    write_answer(&mut rt.stdout(), &answer)
+}
+
+// Prints the help that was asked for.
+fn show(rt: &HostRuntime, text: String) -> Result<u8, EngineFault> {
+    let text = text.into_bytes();
+    print(rt, Answer { text, status: 0 })
+}
+
+fn joined<H: Threads + Wait + Sync>(rt: &HostRuntime, threads: &H) -> Result<u8, EngineFault> {
+    let options = Options {
+        workers: 1,
+        json: false,
+    };
+    let gate = OpenGate;
+    engine_joined(
+        threads,
+        rt.alloc(),
+        &mut rt.stdin(),
+        &mut rt.stdout(),
+        options,
+        &gate,
+    )
+}
+
+fn check<H: Threads + Wait + Sync>(
+    rt: &HostRuntime,
+    threads: &H,
+    source: &str,
+    certs: &str,
+    options: Options,
+) -> Result<u8, EngineFault>
+    requires { (0 < options.workers) × (options.workers ≤ 64) }
+{
+    let gate = OpenGate;
+    let alloc = rt.alloc();
+    if source == "-" {
+        let mut certs = open(rt, certs)?;
+        return engine(
+            threads,
+            alloc,
+            &mut rt.stdin(),
+            &mut certs,
+            &mut rt.stdout(),
+            options,
+            &gate,
+        );
+    }
+    let mut source = open(rt, source)?;
+    let mut certs = open(rt, certs)?;
+    engine(
+        threads,
+        alloc,
+        &mut source,
+        &mut certs,
+        &mut rt.stdout(),
+        options,
+        &gate,
+    )
+}
+
+fn conditions(rt: &HostRuntime, source: &str) -> Result<u8, EngineFault> {
+    let source = source_bytes(rt, source)?;
+    print(rt, listed(rt.alloc(), &source)?)
+}
+
+fn erase(rt: &HostRuntime, source: &str) -> Result<u8, EngineFault> {
+    let source = source_bytes(rt, source)?;
+    print(rt, erased(rt.alloc(), &source)?)
+}
+
+fn run<H: Threads + Wait + Sync>(rt: &HostRuntime, threads: &H, words: &[String]) -> u8 {
+    match read_words(rt.alloc(), words) {
+        Err(Usage::Memory) => fault(rt, EngineFault::Memory),
+        Err(Usage::Asked(text)) => finish(rt, show(rt, text)),
+        Err(Usage::Wrong(text)) => complain(rt, text.as_str(), WRONG),
+        Ok(Job::Joined) => finish(rt, joined(rt, threads)),
+        Ok(
+            Job::Check {
+                source,
+                certs,
+                workers,
+                json,
+            },
+        ) => finish(
+            rt,
+            check(rt, threads, source, certs, Options { workers, json }),
+        ),
+        Ok(Job::Conditions { source }) => finish(rt, conditions(rt, source)),
+        Ok(Job::Erase { source }) => finish(rt, erase(rt, source)),
+        Ok(_) => complain(rt, "og: this command is not built yet\n", WRONG),
+    }
+}
+
+// The words after the program's name, or None where they are no text.
+fn words_of(rt: &HostRuntime) -> Result<Option<Vec<String>>, AllocError> {
+    let mut words = Vec::new(rt.alloc());
+    let Ok(all) = env::args(rt) else {
+        return Ok(None);
+    };
+    let mut is_name = true;
+    for word in all {
+        if is_name {
+            is_name = false;
+        } else {
+            words.push(word)?;
+        }
+    }
+    Ok(Some(words))
+}
+
+fn main(rt: HostRuntime) -> ExitCode {
+    ExitCode::from(match words_of(&rt) {
+        Err(_) => fault(&rt, EngineFault::Memory),
+        Ok(None) => complain(&rt, "og: a word is no text\n", WRONG),
+        Ok(Some(words)) => run(&rt, &rt, words.as_slice()),
+    })
+}

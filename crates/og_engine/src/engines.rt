@@ -1,0 +1,101 @@
+//! The engines: they read, judge and write.
+
+ghost use Rattle.std.specs.Prelude.{◌≡◌, ◌≢◌, ◌<◌, ◌≤◌, OnOk, IfOk, IfErr, IfSome};
+ghost use Rattle.std.specs.Io.KnownBytes.{Appends, Keeps};
+ghost use Rattle.og_engine.specs.Inputs.{source_of, certs_of, joined_of};
+ghost use Rattle.og_engine.specs.Answers.{Writes, WritesJoined};
+
+use crate::answer::{Answer, checked};
+use crate::fault::EngineFault;
+use crate::inputs::{read_certificates, read_joined, read_source};
+use og_input::split;
+use og_pool::Gate;
+use std::alloc::Global;
+use std::io::{Read, Write};
+use std::sync::Wait;
+use std::thread::Threads;
+
+/// How a check is made and reported.
+#[derive(Clone, Copy, Debug, PartialEq, Eq)]
+pub struct Options {
+    /// How many workers draw conditions: from 1 to 64.
+    pub workers: u32,
+    /// Whether a report is JSON with an LF.
+    pub json: bool,
+}
+
+/// Writes the answer's text and tells its status.
+///
+/// # Errors
+///
+/// `WriteFailed` where the writer failed; some bytes may have been written then.
+pub fn write_answer<W: Write>(out: &mut W, answer: &Answer) -> Result<u8, EngineFault>
+    ensures written { OnOk result (Appends (W.contents out.old) (W.contents out.new) answer.now.text.items) }
+    ensures status { IfOk result (λ status. status ≡ answer.now.status) }
+    ensures fault { IfErr result (λ e. e ≡ EngineFault.WriteFailed) }
+{
+    if out.write_all(answer.text.as_slice()).is_err() {
+        return Err(EngineFault::WriteFailed);
+    }
+    if out.flush().is_err() {
+        return Err(EngineFault::WriteFailed);
+    }
+    Ok(answer.status)
+}
+
+/// Reads a source and then certificates, each to its end or to one byte past its limit, judges, and
+/// writes the report, or the line of a refusal, and nothing else. The status is 0 where the outline
+/// is safe, 1 where it is not, 2 at a refusal. Each reader is read at most 100,000,000 times.
+///
+/// # Errors
+///
+/// `ReadFailed` where a reader failed or had not ended after so many reads, `Spawn` where a thread
+/// could not be started, `Memory` where an allocation was refused: nothing is written then.
+/// `WriteFailed` where the writer failed; some bytes may have been written then.
+pub fn engine<R: Read, S: Read, W: Write, G: Gate, H: Threads + Wait + Sync>(
+    rt: &H,
+    alloc: Global,
+    source: &mut R,
+    certs: &mut S,
+    out: &mut W,
+    options: Options,
+    gate: &G,
+) -> Result<u8, EngineFault>
+    requires { (0 < options.workers) × (options.workers ≤ 64) }
+    ensures answer { IfOk result (λ status. IfSome (R.remaining source.old) (λ s. IfSome (S.remaining certs.old) (λ c.
+        Writes options.json (source_of s) (certs_of c) (W.contents out.old) (W.contents out.new) status))) }
+    ensures unwritten { IfErr result (λ e. e ≢ EngineFault.WriteFailed → Keeps (W.contents out.old) (W.contents out.new)) }
+{
+    let source = read_source(alloc, source)?;
+    let certs = read_certificates(alloc, certs)?;
+    let answer = checked(rt, alloc, &source, &certs, options, gate)?;
+    let status = write_answer(out, &answer)?;
+    Ok(status)
+}
+
+/// Reads a source and certificates as one input, of at most 68,157,441 bytes, and goes on as
+/// `engine`. The source is all before the first line that is exactly `og-cert 1` or `og-cert 2`; the
+/// certificates are that line and the rest, or nothing where there is no such line.
+///
+/// # Errors
+///
+/// As `engine`.
+pub fn engine_joined<R: Read, W: Write, G: Gate, H: Threads + Wait + Sync>(
+    rt: &H,
+    alloc: Global,
+    input: &mut R,
+    out: &mut W,
+    options: Options,
+    gate: &G,
+) -> Result<u8, EngineFault>
+    requires { (0 < options.workers) × (options.workers ≤ 64) }
+    ensures answer { IfOk result (λ status. IfSome (R.remaining input.old) (λ i.
+        WritesJoined options.json (joined_of i) (W.contents out.old) (W.contents out.new) status)) }
+    ensures unwritten { IfErr result (λ e. e ≢ EngineFault.WriteFailed → Keeps (W.contents out.old) (W.contents out.new)) }
+{
+    let input = read_joined(alloc, input)?;
+    let (source, certs) = split(&input);
+    let answer = checked(rt, alloc, source, certs, options, gate)?;
+    let status = write_answer(out, &answer)?;
+    Ok(status)
+}

@@ -1,0 +1,14 @@
+//! From the bytes that are read to the bytes that are written.
+#![tactic(auto)]
+
+mod answer;
+mod commands;
+mod engines;
+mod fault;
+mod inputs;
+
+pub use answer::{Answer, checked};
+pub use commands::{erased, listed};
+pub use engines::{Options, engine, engine_joined, write_answer};
+pub use fault::EngineFault;
+pub use inputs::{read_certificates, read_joined, read_source};
