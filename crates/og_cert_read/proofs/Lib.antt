@@ -1,8 +1,12 @@
 pub mod Again
+pub mod Headers
 pub mod Joined
 pub mod LineSays
 pub mod LineSteps
 pub mod Numbers
+pub mod OpenLevels
+pub mod Pieces
 pub mod Says
 pub mod Split
+pub mod Taking
 pub mod Texts

@@ -169,7 +169,7 @@ pair_complete i rest h =
 abbrev Said : List ℕ → Line → Type 0
 Said text line = (text ≡ line_text line) × (is_line line ≡ true)
 
-after_sound : (ps text rest : List ℕ) → after ps text ≡ Some rest → text ≡ ps ++ rest
+pub after_sound : (ps text rest : List ℕ) → after ps text ≡ Some rest → text ≡ ps ++ rest
 after_sound [] text rest h = some_same text rest h
 after_sound (p ∷ ps) [] rest h = cc
 after_sound (p ∷ ps) (c ∷ cs) rest h =

@@ -11,7 +11,7 @@ use Rattle.og_cert_read.specs.Words.{before, behind, after}
 apart : (a b : ℕ) → (a ≡ b → ⊥) → (a == b) ≡ false
 apart a b h = grind (arith, nat_tests)
 
-same : (a b : ℕ) → a ≡ b → (a == b) ≡ true
+pub same : (a b : ℕ) → a ≡ b → (a == b) ≡ true
 same a b h = grind (arith, nat_tests)
 
 pub before_at : (text : List ℕ) (b i : ℕ) → i < length text → get_or text i 0 ≡ b → ((k : ℕ) → k < i → get_or text k 0 ≡ b → ⊥) → (take i text ≡ before b text) × (Some (drop (suc i) text) ≡ behind b text)

@@ -68,14 +68,15 @@ fn put_into(alloc: Global, level: Level, cert: Cert) -> Result<Put, AllocError>
 pub(crate) fn settle(alloc: Global, levels: &mut Vec<Level>, cert: Cert) -> Result<Option<Cert>, AllocError>
     ensures { IfOk result (λ r. IsSettled levels.old.items cert levels.new.items r) }
 {
-    let Some(level) = levels.pop() else {
-        return Ok(Some(cert));
-    };
-    match put_into(alloc, level, cert)? {
-        Put::Whole(whole) => settle(alloc, levels, whole),
-        Put::Open(level) => {
-            levels.push(level)?;
-            Ok(None)
+    let mut cert = cert;
+    while let Some(level) = levels.pop() {
+        match put_into(alloc, level, cert)? {
+            Put::Whole(whole) => cert = whole,
+            Put::Open(level) => {
+                levels.push(level)?;
+                return Ok(None);
+            }
         }
     }
+    Ok(Some(cert))
 }
