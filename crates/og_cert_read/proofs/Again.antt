@@ -13,20 +13,20 @@ use Rattle.og_cert_read.specs.Reading.{Frame, AfterSum, AfterCut, First, Second,
 use Rattle.og_cert_read.proofs.Numbers.{apart}
 
 -- these lines, and then others
-abbrev before : List Line → List (Option Line) → List (Option Line)
+abbrev pub before : List Line → List (Option Line) → List (Option Line)
 before [] others = others
 before (l ∷ ls) others = Some l ∷ before ls others
 
-before_append : (xs ys : List Line) (others : List (Option Line)) → before (xs ++ ys) others ≡ before xs (before ys others)
+pub before_append : (xs ys : List Line) (others : List (Option Line)) → before (xs ++ ys) others ≡ before xs (before ys others)
 before_append [] ys others = refl
 before_append (x ∷ xs) ys others = ap (λ ls. Some x ∷ ls) (before_append xs ys others)
 
-before_map : (xs : List Line) → before xs [] ≡ map Some xs
+pub before_map : (xs : List Line) → before xs [] ≡ map Some xs
 before_map [] = refl
 before_map (x ∷ xs) = ap (λ ls. Some x ∷ ls) (before_map xs)
 
 -- from here the lines give the same as from there
-abbrev Same : Version → Reading → List (Option Line) → Reading → List (Option Line) → Type 0
+abbrev pub Same : Version → Reading → List (Option Line) → Reading → List (Option Line) → Type 0
 Same v r ls q ms = (at : ℕ) (es : Entries) → ((later : ℕ) → read_lines v later q ms ≡ Ok es) → read_lines v at r ls ≡ Ok es
 
 deep_ok : (fs : List Frame) (next : Reading) (at : ℕ) (f : Reading → Result Entries (LineFault × ℕ)) → nat_lt (depth fs) most_depth ≡ true → goes at (deeper fs next) f ≡ f next
@@ -59,7 +59,7 @@ plug_start no_cert done n i ds c fs = refl
 plug_start (cert d cs) done n i ds c fs = refl
 
 mutual
-  cert_again : (c : Cert) (v : Version) (done : Entries) (n : ℕ) (fs : List Frame) (ms : List (Option Line)) → is_shallow (depth fs) c ≡ true → Same v (within done n fs) (before (cert_lines c) ms) (plug done n c fs) ms
+  pub cert_again : (c : Cert) (v : Version) (done : Entries) (n : ℕ) (fs : List Frame) (ms : List (Option Line)) → is_shallow (depth fs) c ≡ true → Same v (within done n fs) (before (cert_lines c) ms) (plug done n c fs) ms
   cert_again (Sum ts c) v done n fs ms s at es h = cert_again c v done n (AfterSum ts ∷ fs) ms s (at + 1) es h
   cert_again (Cut i d c) v done n fs ms s at es h = cert_again c v done n (AfterCut i d ∷ fs) ms s (at + 1) es h
   cert_again (Close ts) v done n fs ms s at es h = h (at + 1)
@@ -91,27 +91,27 @@ mutual
 -- ---- entries by rising numbers
 
 -- all are below
-abbrev below : ℕ → Entries → Type 0
+abbrev pub below : ℕ → Entries → Type 0
 below n [] = ⊤
 below n (e ∷ es) = (e.0 < n) × below n es
 
-below_none : (n : ℕ) (es : Entries) → below n es → certificate_of n es ≡ None
+pub below_none : (n : ℕ) (es : Entries) → below n es → certificate_of n es ≡ None
 below_none n [] h = refl
 below_none n (e ∷ es) h = ap (λ b. cond b (Some e.1) (certificate_of n es)) (apart n e.0 (λ k. omega (arith, k, h.0))) ∙ below_none n es h.1
 
 not_lt : (a b : ℕ) → b ≤ a → nat_lt a b ≡ false
 not_lt a b h = grind (arith, nat_tests)
 
-below_end : (n : ℕ) (c : Cert) (es : Entries) → below n es → with_entry n c es ≡ es ++ (n, c) ∷ []
+pub below_end : (n : ℕ) (c : Cert) (es : Entries) → below n es → with_entry n c es ≡ es ++ (n, c) ∷ []
 below_end n c [] h = refl
 below_end n c (e ∷ es) h =
     ap (λ b. cond b ((n, c) ∷ e ∷ es) (e ∷ with_entry n c es)) (not_lt n e.0 (omega (arith, h.0))) ∙ ap (λ xs. e ∷ xs) (below_end n c es h.1)
 
-below_more : (n m : ℕ) (c : Cert) (es : Entries) → n < m → below n es → below m (es ++ (n, c) ∷ [])
+pub below_more : (n m : ℕ) (c : Cert) (es : Entries) → n < m → below n es → below m (es ++ (n, c) ∷ [])
 below_more n m c [] lt h = (lt, tt)
 below_more n m c (e ∷ es) lt h = (omega (arith, lt, h.0), below_more n m c es lt h.1)
 
-below_up : (n m : ℕ) (es : Entries) → n ≤ m → below n es → below m es
+pub below_up : (n m : ℕ) (es : Entries) → n ≤ m → below n es → below m es
 below_up n m [] le h = tt
 below_up n m (e ∷ es) le h = (omega (arith, le, h.0), below_up n m es le h.1)
 

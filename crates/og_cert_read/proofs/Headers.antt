@@ -16,6 +16,9 @@ use Rattle.og_cert_read.specs.Read.{Gives, IsWrong, IsRead}
 use Rattle.og_cert_read.specs.Reader.{read_piece, lines_of, fault_at, IsFile}
 use Rattle.og_cert_read.proofs.LineSays.{says, after_sound}
 use Rattle.og_cert_read.proofs.Split.{same}
+use Rattle.og_cert_read.proofs.Texts.{one_answer}
+use Rattle.og_cert_text.specs.declared.fault.CertTextFault.TheVariants as faults
+use Rattle.og_cert_read.specs.Laws.{IsThisFile}
 
 piece_said : (p : Option (List ℕ)) → Says p (read_piece p)
 piece_said None = tt
@@ -76,3 +79,24 @@ pub no_version : (text : List ℕ) (r s : Option (Bor (List ℕ))) → option_ma
     → (v : Version) (rest : List ℕ) → text ≡ version_text v ++ rest → ⊥
 no_version text r s a b c d One rest e = none_front (version_text One) text rest r a b e
 no_version text r s a b c d Two rest e = none_front (version_text Two) text rest s c d e
+
+-- ---- what a text gives is what is read
+
+ok_same : (a b : Entries) → ◌≡◌ {A = Result Entries (LineFault × ℕ)} (Ok a) (Ok b) → a ≡ b
+ok_same a b e = cc
+
+no_fault : (es : Entries) (e : LineFault × ℕ) → ◌≡◌ {A = Result Entries (LineFault × ℕ)} (Ok es) (Err e) → ⊥
+no_fault es e h = cc
+
+never_long : (n : ℕ) → n ≤ most_text → most_text < n → ⊥
+unfolding most_text
+never_long n a b = omega (arith, a, b)
+
+pub given_is_read : (text : List ℕ) (es : Entries) (r : Result CertFile CertTextError) → Gives text (Ok es) → IsRead text r → IsThisFile es r
+given_is_read text es (Ok file) g h = ok_same (shown file) es (one_answer text (Ok (shown file)) (Ok es) h g)
+given_is_read text es (Err errors.Memory) g h = tt
+given_is_read text es (Err (errors.Fault faults.CertsTooLong)) g h = never_long (length text) g.0 h
+given_is_read text es (Err (errors.Fault faults.BadVersion)) g h = h.1 g.1 g.2 g.3
+given_is_read text es (Err (errors.Fault (faults.BadLine at))) g h = no_fault es (BadLine, at) (one_answer text (Ok es) (Err (BadLine, at)) g h)
+given_is_read text es (Err (errors.Fault (faults.Twice at))) g h = no_fault es (Twice, at) (one_answer text (Ok es) (Err (Twice, at)) g h)
+given_is_read text es (Err (errors.Fault (faults.TooDeep at))) g h = no_fault es (TooDeep, at) (one_answer text (Ok es) (Err (TooDeep, at)) g h)

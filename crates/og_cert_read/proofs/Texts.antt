@@ -72,7 +72,7 @@ piece : (w rest : List ℕ) → Lacks 10 w → pieces (w ++ 10 ∷ rest) ≡ Som
 piece [] rest l = refl
 piece (c ∷ cs) rest l = ap (λ t. cond t (Some [] ∷ pieces (cs ++ 10 ∷ rest)) (with_byte c (pieces (cs ++ 10 ∷ rest)))) l.0 ∙ ap (with_byte c) (piece cs rest l.1)
 
-lines_say : (lines : List Line) → list_all is_line lines ≡ true → EachSays (pieces (lines_text lines)) (map Some lines)
+pub lines_say : (lines : List Line) → list_all is_line lines ≡ true → EachSays (pieces (lines_text lines)) (map Some lines)
 lines_say [] h = tt
 lines_say (line ∷ lines) h =
     let p = and_parts (is_line line) (list_all is_line lines) h in
@@ -107,7 +107,7 @@ said_once (Some bytes) None h = from (line_of bytes) refl
     from None e = refl
     from (Some line) e = let s = line_sound bytes line e in absurd (h line s.0 s.1)
 
-each_once : (ps : List (Option (List ℕ))) (ls : List (Option Line)) → EachSays ps ls → ls ≡ map read_piece ps
+pub each_once : (ps : List (Option (List ℕ))) (ls : List (Option Line)) → EachSays ps ls → ls ≡ map read_piece ps
 each_once [] [] h = refl
 each_once [] (l ∷ ls) h = absurd h
 each_once (p ∷ ps) [] h = absurd h

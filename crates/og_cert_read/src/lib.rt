@@ -11,6 +11,8 @@ mod line;
 mod read;
 mod reader;
 mod words;
+mod write;
 
 pub use laws::reading_laws;
 pub use read::read_certs;
+pub use write::write_certs_2;
