@@ -1,9 +1,8 @@
 -- A text and its version.
 use Rattle.std.proofs.Common.{◌≡◌, ℕ, ◌+◌, ◌<◌, ◌≤◌, List, [], ◌∷◌, ◌++◌, map, length, refl, ap, sym, ◌∙◌, subst, true, cond, Option, Some, None, option_map, Result, Ok, Err, arith, length-append}
-use Rattle.std.specs.Prelude.{◌==◌, ⊤}
+use Rattle.std.specs.Prelude.{◌==◌}
 use denote.Bor.{Bor}
 use Rattle.og_cert_text.specs.declared.file.CertFile.{CertFile}
-use Rattle.og_cert_text.specs.declared.fault.CertTextFault.{CertTextFault}
 use Rattle.og_cert_text.specs.declared.fault.CertTextError.{CertTextError}
 use Rattle.og_cert_text.specs.declared.fault.CertTextError.TheVariants as errors
 use Rattle.og_cert_text.specs.Files.{Entries}

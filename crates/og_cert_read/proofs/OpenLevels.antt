@@ -1,8 +1,8 @@
 -- The certificates that are open round a line.
-use Rattle.std.proofs.Common.{◌≡◌, ℕ, suc, ◌+◌, ◌-◌, ◌<◌, ◌≤◌, List, [], ◌∷◌, ◌++◌, map, length, Vec, Global, vec_len, refl, ap, sym, ◌∙◌, subst, ap₂, sub-one, ◌&&◌, true, false, Option, Some, None, arith, length-append, take}
-use Rattle.std.specs.Prelude.{nat_le, nat_lt, ⊤}
+use Rattle.std.proofs.Common.{◌≡◌, ℕ, suc, ◌+◌, ◌-◌, ◌<◌, ◌≤◌, List, [], ◌∷◌, ◌++◌, map, length, Vec, Global, refl, ap, sym, ◌∙◌, subst, ap₂, true, Option, Some, None, arith, length-append, take}
+use Rattle.std.specs.Prelude.{nat_le}
 use Rattle.std.specs.List.{list_all}
-use Rattle.std.proofs.lemmas.List.{length-map, map-append, length-take}
+use Rattle.std.proofs.lemmas.List.{map-append, length-take}
 use Rattle.std.proofs.lemmas.List.Folds.{list_all-append}
 use Rattle.og_cert_text.specs.declared.cert.CertStep.{CertStep}
 use Rattle.og_cert_text.specs.declared.cert.CertStep.TheVariants as step_type
@@ -11,17 +11,16 @@ use Rattle.og_cert_text.specs.declared.cert.Finish as finish_type
 use Rattle.og_linear.specs.Linear.{FormValue}
 use Rattle.og_cert_text.specs.Tree as tree
 use Rattle.og_cert_text.specs.Plain.{combination_of, with_steps, plain_cert, plain_finish, step_line}
-use Rattle.og_cert_text.specs.Lines.{is_number, is_form, is_line, is_shallow, are_shallow, cert_lines, certs_lines, cert_count}
+use Rattle.og_cert_text.specs.Lines.{is_number, is_form, is_line, are_shallow, cert_lines, certs_lines}
 use Rattle.og_cert_text.specs.Files.{Entries}
 use Rattle.og_cert_text.proofs.Forms.{lt_true, le_true, both_true}
 use Rattle.og_cert_text.proofs.Plains.{plain_split, steps_shallow, steps_good, count_list}
 use Rattle.og_cert_read.specs.declared.levels.Fork.{Fork}
 use Rattle.og_cert_read.specs.declared.levels.Fork.TheVariants as its
 use Rattle.og_cert_read.specs.declared.levels.Level.{Level}
-use Rattle.og_cert_read.specs.declared.levels.Put.{Put}
 use Rattle.og_cert_read.specs.declared.levels.Put.TheVariants as puts
 use Rattle.og_cert_read.specs.Reading.{Frame, AfterSum, AfterCut, First, Second, Part, plug, within, depth}
-use Rattle.og_cert_read.specs.Levels.{step_frame, fork_frame, steps_frames, level_frames, levels_frames, IsGood, AreGood, IsGoodFrame, AreGoodFrames, IsPut, IsSettled}
+use Rattle.og_cert_read.specs.Levels.{step_frame, fork_frame, steps_frames, level_frames, levels_frames, IsGood, AreGood, AreGoodFrames, IsPut, IsSettled}
 
 -- ---- steps and levels as frames
 
@@ -105,29 +104,32 @@ Opens k c ss j =
     × (AreGoodFrames (k ∷ steps_frames ss fs) → IsGood (depth (k ∷ steps_frames ss fs)) c → AreGoodFrames (j ∷ steps_frames ss fs))
 
 puts_second : (f : FormValue) (b c : tree.Cert) (ss : List CertStep) → Puts (Second f b) c ss (with_steps ss (tree.Branch f b c))
-puts_second f b c ss fs =
-    (λ done n. plug_steps ss done n (tree.Branch f b c) fs,
-    λ h g. let s = good_steps ss fs h.1 in
-    let e = depth_steps ss fs in
-    (s.0, subst (λ d. IsGood d (with_steps ss (tree.Branch f b c))) e (good_with (depth (steps_frames ss fs)) ss (tree.Branch f b c) s.1 (good_branch (depth (steps_frames ss fs)) f b c h.0.0 h.0.1 h.0.2 g))))
+puts_second f b c ss fs = (
+  λ done n. plug_steps ss done n (tree.Branch f b c) fs,
+  λ h g. let s = good_steps ss fs h.1 in
+      let e = depth_steps ss fs in
+      (s.0, subst (λ d. IsGood d (with_steps ss (tree.Branch f b c))) e (good_with (depth (steps_frames ss fs)) ss (tree.Branch f b c) s.1 (good_branch (depth (steps_frames ss fs)) f b c h.0.0 h.0.1 h.0.2 g))),
+)
 
 puts_last : (i : ℕ) (cs : List tree.Cert) (c : tree.Cert) (ss : List CertStep) → Puts (Part i 0 cs) c ss (with_steps ss (tree.SplitOn i (tree.cert_list (cs ++ c ∷ []))))
 puts_last i cs c ss fs =
-    let w = tree.SplitOn i (tree.cert_list (cs ++ c ∷ [])) in
-    (λ done n. plug_steps ss done n w fs,
-    λ h g. let s = good_steps ss fs h.1 in
-    let d = depth (steps_frames ss fs) in
-    let few : length (cs ++ c ∷ []) ≤ 10000 = omega (arith, length-append {A = tree.Cert} cs (c ∷ []), h.0.2) in
-    (s.0, subst (λ m. IsGood m (with_steps ss w)) (depth_steps ss fs) (good_with d ss w s.1 (good_split d i (cs ++ c ∷ []) h.0.0 h.0.1 few (good_end (d + 1) cs c h.0.3 g)))))
+    let w = tree.SplitOn i (tree.cert_list (cs ++ c ∷ [])) in (
+      λ done n. plug_steps ss done n w fs,
+      λ h g. let s = good_steps ss fs h.1 in
+          let d = depth (steps_frames ss fs) in
+          let few : length (cs ++ c ∷ []) ≤ 10000 = omega (arith, length-append {A = tree.Cert} cs (c ∷ []), h.0.2) in
+          (s.0, subst (λ m. IsGood m (with_steps ss w)) (depth_steps ss fs) (good_with d ss w s.1 (good_split d i (cs ++ c ∷ []) h.0.0 h.0.1 few (good_end (d + 1) cs c h.0.3 g)))),
+    )
 
 opens_first : (f : FormValue) (c : tree.Cert) (ss : List CertStep) → Opens (First f) c ss (Second f c)
 opens_first f c ss fs = (λ done n. refl, λ h g. ((h.0.0, h.0.1, g), h.1))
 
 opens_part : (i k : ℕ) (cs : List tree.Cert) (c : tree.Cert) (ss : List CertStep) → Opens (Part i (suc k) cs) c ss (Part i k (cs ++ c ∷ []))
-opens_part i k cs c ss fs =
-    (λ done n. refl,
-    λ h g. let few : length (cs ++ c ∷ []) + k + 1 ≤ 10000 = omega (arith, length-append {A = tree.Cert} cs (c ∷ []), h.0.2) in
-    ((h.0.0, h.0.1, few, good_end (depth (steps_frames ss fs) + 1) cs c h.0.3 g), h.1))
+opens_part i k cs c ss fs = (
+  λ done n. refl,
+  λ h g. let few : length (cs ++ c ∷ []) + k + 1 ≤ 10000 = omega (arith, length-append {A = tree.Cert} cs (c ∷ []), h.0.2) in
+      ((h.0.0, h.0.1, few, good_end (depth (steps_frames ss fs) + 1) cs c h.0.3 g), h.1),
+)
 
 -- ---- the same of the program's levels
 
@@ -170,22 +172,25 @@ put_part level cert i k cs v e some items =
 pub settle_whole : (old rest new : List Level) (level : Level) (cert whole : Cert) (r : Option Cert) → old ≡ rest ++ level ∷ [] → IsPut level cert (puts.Whole whole) → IsSettled rest whole new r → IsSettled old cert new r
 settle_whole old rest new level cert whole (Some w) e put s =
     let p = put (levels_frames rest []) in
-    let is : levels_frames old [] ≡ level_frames level (levels_frames rest []) = ap (λ ls. levels_frames ls []) e ∙ levels_end rest level [] in
-    (λ done n. ap (plug done n (plain_cert cert)) is ∙ p.0 done n ∙ s.0 done n,
-    λ h g. let q = p.1 (subst AreGoodFrames is h) (subst (λ fs. IsGood (depth fs) (plain_cert cert)) is g) in s.1 q.0 q.1)
+    let is : levels_frames old [] ≡ level_frames level (levels_frames rest []) = ap (λ ls. levels_frames ls []) e ∙ levels_end rest level [] in (
+      λ done n. ap (plug done n (plain_cert cert)) is ∙ p.0 done n ∙ s.0 done n,
+      λ h g. let q = p.1 (subst AreGoodFrames is h) (subst (λ fs. IsGood (depth fs) (plain_cert cert)) is g) in s.1 q.0 q.1,
+    )
 settle_whole old rest new level cert whole None e put s =
     let p = put (levels_frames rest []) in
-    let is : levels_frames old [] ≡ level_frames level (levels_frames rest []) = ap (λ ls. levels_frames ls []) e ∙ levels_end rest level [] in
-    (λ done n. ap (plug done n (plain_cert cert)) is ∙ p.0 done n ∙ s.0 done n,
-    λ h g. let q = p.1 (subst AreGoodFrames is h) (subst (λ fs. IsGood (depth fs) (plain_cert cert)) is g) in s.1 q.0 q.1)
+    let is : levels_frames old [] ≡ level_frames level (levels_frames rest []) = ap (λ ls. levels_frames ls []) e ∙ levels_end rest level [] in (
+      λ done n. ap (plug done n (plain_cert cert)) is ∙ p.0 done n ∙ s.0 done n,
+      λ h g. let q = p.1 (subst AreGoodFrames is h) (subst (λ fs. IsGood (depth fs) (plain_cert cert)) is g) in s.1 q.0 q.1,
+    )
 
 pub settle_open : (old rest new : List Level) (level l : Level) (cert : Cert) → old ≡ rest ++ level ∷ [] → IsPut level cert (puts.Open l) → new ≡ rest ++ l ∷ [] → IsSettled old cert new None
 settle_open old rest new level l cert e put later =
     let p = put (levels_frames rest []) in
     let is : levels_frames old [] ≡ level_frames level (levels_frames rest []) = ap (λ ls. levels_frames ls []) e ∙ levels_end rest level [] in
-    let then : levels_frames new [] ≡ level_frames l (levels_frames rest []) = ap (λ ls. levels_frames ls []) later ∙ levels_end rest l [] in
-    (λ done n. ap (plug done n (plain_cert cert)) is ∙ p.0 done n ∙ ap (within done n) (sym then),
-    λ h g. subst AreGoodFrames (sym then) (p.1 (subst AreGoodFrames is h) (subst (λ fs. IsGood (depth fs) (plain_cert cert)) is g)))
+    let then : levels_frames new [] ≡ level_frames l (levels_frames rest []) = ap (λ ls. levels_frames ls []) later ∙ levels_end rest l [] in (
+      λ done n. ap (plug done n (plain_cert cert)) is ∙ p.0 done n ∙ ap (within done n) (sym then),
+      λ h g. subst AreGoodFrames (sym then) (p.1 (subst AreGoodFrames is h) (subst (λ fs. IsGood (depth fs) (plain_cert cert)) is g)),
+    )
 
 none_left : (old : List Level) → length old ≡ 0 → old ≡ []
 none_left [] h = refl
@@ -193,9 +198,10 @@ none_left (l ∷ ls) h = absurd (omega (arith, h))
 
 pub settle_end : (old : List Level) (cert : Cert) (new : List Level) → length old ≡ 0 → IsSettled old cert new (Some cert)
 settle_end old cert new h =
-    let e = none_left old h in
-    (λ done n. ap (λ ls. plug done n (plain_cert cert) (levels_frames ls [])) e,
-    λ p g. subst (λ ls. IsGood (depth (levels_frames ls [])) (plain_cert cert)) e g)
+    let e = none_left old h in (
+      λ done n. ap (λ ls. plug done n (plain_cert cert) (levels_frames ls [])) e,
+      λ p g. subst (λ ls. IsGood (depth (levels_frames ls [])) (plain_cert cert)) e g,
+    )
 
 pub empty_before : (old new : List Level) (n : ℕ) → old ≡ new ++ [] → new ≡ take (n - 1) old → n ≡ 0 → length old ≡ 0
 empty_before old new n a b zero =

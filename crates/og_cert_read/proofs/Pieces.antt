@@ -1,6 +1,6 @@
 -- A text and its first line.
-use Rattle.std.proofs.Common.{◌≡◌, ℕ, ◌+◌, ◌<◌, List, [], ◌∷◌, map, length, refl, ap, ap₂, sym, ◌∙◌, subst, true, false, cond, Bool, Option, Some, None, Result, Ok, Err, arith}
-use Rattle.std.specs.Prelude.{◌==◌, ⊤}
+use Rattle.std.proofs.Common.{◌≡◌, ℕ, ◌+◌, ◌<◌, List, [], ◌∷◌, map, length, refl, ap, sym, ◌∙◌, subst, true, false, cond, Bool, Option, Some, None, Result, Ok, Err, arith}
+use Rattle.std.specs.Prelude.{◌==◌}
 use Rattle.std.specs.Result.{IsErr, IsErrAnd, MatchResult}
 use denote.Bor.{Bor}
 use Rattle.og_cert_text.specs.declared.fault.CertTextError.{CertTextError}
@@ -13,7 +13,6 @@ use Rattle.og_cert_read.specs.Words.{before, behind, line_of}
 use Rattle.og_cert_read.specs.Reading.{Reading, LineFault, BadLine, line_at, goes, read_lines}
 use Rattle.og_cert_read.specs.Reader.{read_piece, lines_of, refused, IsRefusal, IsStopped}
 use Rattle.og_cert_read.proofs.Numbers.{some_same}
-use Rattle.og_cert_read.proofs.Says.{split_text}
 
 no_lf : (text : List ℕ) → behind 10 text ≡ None → 0 < length text → pieces text ≡ None ∷ []
 no_lf [] h lt = absurd (omega arith)
@@ -59,10 +58,12 @@ no_line v at r text rest e h none p = stopped e at _ p (ap (read_lines v at r) (
 
 pub line_refused : (v : Version) (at : ℕ) (r : Reading) (text rest : List ℕ) (line : Line) (e : CertTextError) → behind 10 text ≡ Some rest → Some line ≡ line_of (before 10 text) → IsRefusal e at (line_at v r.done r.place line) → IsStopped e (read_lines v at r (lines_of text))
 line_refused v at r text rest line errors.Memory h is fault = tt
-line_refused v at r text rest line (errors.Fault f) h is fault =
-    (fault.0, at,
-    ap (read_lines v at r) (first_line text rest (Some line) h is) ∙ ap (λ a. goes at a (λ next. read_lines v (at + 1) next (lines_of rest))) fault.1,
-    fault.2)
+line_refused v at r text rest line (errors.Fault f) h is fault = (
+  fault.0,
+  at,
+  ap (read_lines v at r) (first_line text rest (Some line) h is) ∙ ap (λ a. goes at a (λ next. read_lines v (at + 1) next (lines_of rest))) fault.1,
+  fault.2,
+)
 
 pub line_taken : (v : Version) (at : ℕ) (r new : Reading) (text rest : List ℕ) (line : Line) → behind 10 text ≡ Some rest → Some line ≡ line_of (before 10 text) → line_at v r.done r.place line ≡ Ok new
     → read_lines v at r (lines_of text) ≡ read_lines v (at + 1) new (lines_of rest)

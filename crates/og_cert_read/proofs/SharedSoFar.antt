@@ -1,12 +1,12 @@
 -- A file's text in version 2, as far as it is written.
-use Rattle.std.proofs.Common.{◌≡◌, ℕ, ◌<◌, List, [], ◌∷◌, ◌++◌, length, refl, ap, sym, ◌∙◌, Option, Some, None, Vec, append_assoc}
+use Rattle.std.proofs.Common.{◌≡◌, ℕ, List, [], ◌∷◌, ◌++◌, refl, ap, sym, ◌∙◌, Vec}
 use Rattle.std.specs.Global.{Global}
 use Rattle.std.specs.BTreeMap.{BTreeMap, is_at}
 use Rattle.std.specs.Map.{lookup}
 use Rattle.std.specs.Ordering.{nat_cmp}
 use Rattle.std.specs.Cmp.Lexicographic.{slice_cmp}
 use Rattle.og_cert_text.specs.Tree.{Cert}
-use Rattle.og_cert_text.specs.Lines.{Line, ForCondition}
+use Rattle.og_cert_text.specs.Lines.{ForCondition}
 use Rattle.og_cert_text.specs.Files.{Entries, above}
 use Rattle.og_cert_text.specs.Text.{Two, version_text, listed_lines, listing_lines, lines_text}
 use Rattle.og_cert_text.proofs.Writing.{lines_both, one_more}
@@ -39,10 +39,10 @@ so_far_goes t0 t1 old new last n c es next put noted s =
       done = s.done ++ (n, c) ∷ [];
       known = λ t. noted t ∙ ap (λ o. or_this o t (cert_text c) n) (s.known t) ∙ sym (first_end t s.done n c);
       whole =
-        one_more t0 t1 (lines_text (ForCondition n ∷ listed_lines (listed_as (first_with (cert_text c) s.done) c))) (behind_text s.done (above last es)) (behind_text (s.done ++ (n, c) ∷ []) (above n es)) (shared_text es)
-        (put ∙ ap (λ o. t0 ++ lines_text (ForCondition n ∷ listed_lines (listed_as o c))) (s.known (cert_text c)))
-        (ap (behind_text s.done) next ∙ lines_both (ForCondition n ∷ listed_lines (listed_as (first_with (cert_text c) s.done) c)) (listing_lines (listing_behind (s.done ++ (n, c) ∷ []) (above n es))))
-        s.whole;
+          one_more t0 t1 (lines_text (ForCondition n ∷ listed_lines (listed_as (first_with (cert_text c) s.done) c))) (behind_text s.done (above last es)) (behind_text (s.done ++ (n, c) ∷ []) (above n es)) (shared_text es)
+          (put ∙ ap (λ o. t0 ++ lines_text (ForCondition n ∷ listed_lines (listed_as o c))) (s.known (cert_text c)))
+          (ap (behind_text s.done) next ∙ lines_both (ForCondition n ∷ listed_lines (listed_as (first_with (cert_text c) s.done) c)) (listing_lines (listing_behind (s.done ++ (n, c) ∷ []) (above n es))))
+          s.whole;
     }
 
 pub so_far_ends : (text : List ℕ) (firsts : BTreeMap (Vec ℕ Global) ℕ) (last : ℕ) (es : Entries) → above last es ≡ [] → IsSoFar text firsts last es → text ≡ shared_text es

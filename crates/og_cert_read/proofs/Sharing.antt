@@ -1,24 +1,23 @@
 -- Version 2's text of a file.
-use Rattle.std.proofs.Common.{◌≡◌, ℕ, ◌+◌, ◌<◌, ◌≤◌, List, [], ◌∷◌, ◌++◌, map, length, refl, ap, ap₂, sym, ◌∙◌, subst, ◌&&◌, true, false, cond, Bool, Option, Some, None, Result, Ok, Err, append_assoc, length-append, arith}
-use Rattle.std.specs.Prelude.{nat_lt, nat_le, is_some, ◌==◌, ⊤}
+use Rattle.std.proofs.Common.{◌≡◌, ℕ, ◌+◌, ◌<◌, ◌≤◌, List, [], ◌∷◌, ◌++◌, map, length, refl, ap, sym, ◌∙◌, subst, ◌&&◌, true, false, cond, Bool, Option, Some, None, Result, Ok, Err, append_assoc, length-append, arith}
+use Rattle.std.specs.Prelude.{nat_lt, nat_le, is_some}
 use Rattle.std.specs.Str.{bytes_eq}
 use Rattle.std.specs.Cmp.Lexicographic.{bytes_decides}
 use Rattle.std.specs.List.{list_all}
-use Rattle.std.proofs.lemmas.Bool.{cond-true}
 use Rattle.std.proofs.lemmas.Bool.Decides.{nat_tests}
 use Rattle.std.proofs.lemmas.List.Folds.{list_all-append}
 use Rattle.og_cert_text.specs.Tree.{Cert, Close}
-use Rattle.og_cert_text.specs.Lines.{Line, ForCondition, SameLine, is_line, is_number, is_shallow, is_well_formed, cert_lines}
+use Rattle.og_cert_text.specs.Lines.{Line, ForCondition, is_line, is_number, is_shallow, is_well_formed, cert_lines}
 use Rattle.og_cert_text.specs.Files.{Entries, certificate_of, with_entry, is_file, rise_from}
-use Rattle.og_cert_text.specs.Text.{Version, One, Two, version_text, Listed, Whole, SameAs, listed_lines, listing_lines, lines_text, file_text}
+use Rattle.og_cert_text.specs.Text.{One, Two, version_text, Whole, SameAs, listed_lines, listing_lines, lines_text, file_text}
 use Rattle.og_cert_text.proofs.Forms.{and_parts, le_from, le_true, both_true}
 use Rattle.og_cert_text.proofs.Writing.{lines_both}
 use Rattle.og_cert_read.specs.Text.{most_text, pieces}
-use Rattle.og_cert_read.specs.Reading.{Reading, within, between, LineFault, BadLine, Twice, goes, same_as, or_bad, read_lines, nothing_read}
+use Rattle.og_cert_read.specs.Reading.{within, between, LineFault, Twice, goes, or_bad, read_lines, nothing_read}
 use Rattle.og_cert_read.specs.Read.{Gives}
 use Rattle.og_cert_read.specs.Reader.{read_piece}
 use Rattle.og_cert_read.specs.Shared.{listed_text, cert_text, first_with, listed_as, listing_behind, shared_text}
-use Rattle.og_cert_read.proofs.Numbers.{apart, some_same}
+use Rattle.og_cert_read.proofs.Numbers.{apart}
 use Rattle.og_cert_read.proofs.Split.{same}
 use Rattle.og_cert_read.proofs.Again.{before, before_append, before_map, cert_again, below, below_none, below_end, below_more, below_up, whole_lines}
 use Rattle.og_cert_read.proofs.Texts.{lines_say, each_once}
@@ -172,9 +171,15 @@ shared_good (x ∷ es) done low b risen held rise good =
 pub shared_is_read : (es : Entries) → is_file es ≡ true → length (shared_text es) ≤ most_text → Gives (shared_text es) (Ok es)
 shared_is_read es h small =
     let p = and_parts (rise_from 0 es) (list_all (λ e. is_number e.0 && is_well_formed e.1) es) h in
-    let lines = shared_lines [] es in
-    (small, Two, lines_text lines, refl, map Some lines, lines_say lines (shared_good es [] 0 tt refl refl p.0 p.1),
-    ap (read_lines Two 2 nothing_read) (sym (before_map lines)) ∙ shared_again es [] es 0 tt refl refl p.0 p.1 refl 2)
+    let lines = shared_lines [] es in (
+      small,
+      Two,
+      lines_text lines,
+      refl,
+      map Some lines,
+      lines_say lines (shared_good es [] 0 tt refl refl p.0 p.1),
+      ap (read_lines Two 2 nothing_read) (sym (before_map lines)) ∙ shared_again es [] es 0 tt refl refl p.0 p.1 refl 2,
+    )
 
 -- ---- and not longer
 

@@ -1,9 +1,8 @@
 -- What a line makes of the certificates that are open.
-use Rattle.std.proofs.Common.{◌≡◌, ℕ, zero, suc, ◌+◌, ◌<◌, ◌≤◌, List, [], ◌∷◌, ◌++◌, map, length, Vec, Global, refl, ap, ap₂, sym, ◌∙◌, subst, ◌&&◌, true, false, cond, Option, Some, None, Result, Ok, Err, arith}
-use Rattle.std.specs.Prelude.{nat_lt, nat_le, OnOk}
+use Rattle.std.proofs.Common.{◌≡◌, ℕ, ◌+◌, ◌<◌, ◌≤◌, List, [], ◌∷◌, ◌++◌, map, length, Vec, Global, refl, ap, ap₂, sym, ◌∙◌, subst, true, Option, Some, None, Result, Ok, Err, arith}
+use Rattle.std.specs.Prelude.{nat_lt, OnOk}
 use Rattle.std.specs.declared.alloc.AllocError.{AllocError}
-use Rattle.std.specs.List.{list_all}
-use Rattle.std.proofs.lemmas.Bool.{cond-true, cond-false}
+use Rattle.std.proofs.lemmas.Bool.{cond-true}
 use Rattle.og_cert_text.specs.declared.cert.CertStep.{CertStep}
 use Rattle.og_cert_text.specs.declared.cert.CertStep.TheVariants as step_type
 use Rattle.og_cert_text.specs.declared.cert.Cert.{Cert}
@@ -11,7 +10,7 @@ use Rattle.og_cert_text.specs.declared.cert.Finish as finish_type
 use Rattle.og_cert_text.specs.declared.file.CertFile.{CertFile}
 use Rattle.og_cert_text.specs.declared.fault.CertTextError.{CertTextError}
 use Rattle.og_cert_text.specs.Tree as tree
-use Rattle.og_cert_text.specs.Plain.{combination_of, with_steps, plain_cert, plain_finish, step_line}
+use Rattle.og_cert_text.specs.Plain.{with_steps, plain_cert, plain_finish, step_line}
 use Rattle.og_cert_text.specs.Lines.{is_number, is_factor, is_line, most_depth}
 use Rattle.og_cert_text.specs.Files.{Entries, certificate_of, with_entry}
 use Rattle.og_cert_text.specs.Shown.{shown}
@@ -20,7 +19,7 @@ use Rattle.og_cert_text.proofs.Forms.{lt_true, and_parts}
 use Rattle.og_cert_text.proofs.Plains.{plain_split}
 use Rattle.og_cert_read.specs.declared.levels.Level.{Level}
 use Rattle.og_cert_read.specs.declared.reader.Reader.{Reader}
-use Rattle.og_cert_read.specs.Reading.{Frame, Reading, within, between, plug, depth, LineFault, BadLine, TooDeep, deeper, split_frames, same_as}
+use Rattle.og_cert_read.specs.Reading.{Frame, Reading, within, plug, depth, LineFault, BadLine, TooDeep, deeper, split_frames, same_as}
 use Rattle.og_cert_read.specs.Levels.{step_frame, fork_frame, steps_frames, level_frames, levels_frames, IsGood, IsGoodFrame, AreGoodFrames}
 use Rattle.og_cert_read.specs.Reader.{place_in, reading_of, IsSoundAt, refused, IsRefusal}
 use Rattle.og_cert_read.proofs.OpenLevels.{plug_steps, depth_steps, depth_levels, steps_end, levels_end, good_steps, good_with, good_split}
@@ -50,9 +49,11 @@ Open ls c new =
 good_finish : (ss rs : List CertStep) (ls : List Level) (c : tree.Cert) → rs ≡ ss → AreGoodFrames (frames ss ls) → IsGood (depth (frames ss ls)) c
     → AreGoodFrames (levels_frames ls []) × IsGood (depth (levels_frames ls [])) (with_steps rs c)
 good_finish ss rs ls c e h g =
-    let s = good_steps ss (levels_frames ls []) h in
-    (s.0, subst (λ x. IsGood (depth (levels_frames ls [])) (with_steps x c)) (sym e)
-    (good_with (depth (levels_frames ls [])) ss c s.1 (subst (λ d. IsGood d c) (depth_steps ss (levels_frames ls [])) g)))
+    let s = good_steps ss (levels_frames ls []) h in (
+      s.0,
+      subst (λ x. IsGood (depth (levels_frames ls [])) (with_steps x c)) (sym e)
+          (good_with (depth (levels_frames ls [])) ss c s.1 (subst (λ d. IsGood d c) (depth_steps ss (levels_frames ls [])) g)),
+    )
 
 sound_parts : (num : Option ℕ) (n : ℕ) (file : CertFile) (fs : List Frame) → num ≡ Some n → IsSoundAt num file fs → (is_number n ≡ true) × (certificate_of n (shown file) ≡ None) × AreGoodFrames fs
 sound_parts num n file fs e s = let r = subst (λ o. IsSoundAt o file fs) e s in (r.0.0, r.0.1, r.1)

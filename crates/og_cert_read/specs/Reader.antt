@@ -14,7 +14,7 @@ use Rattle.og_cert_read.specs.declared.reader.Version.TheVariants as versions
 use Rattle.og_cert_read.specs.declared.reader.Reader.{Reader}
 use Rattle.og_cert_read.specs.Text.{pieces}
 use Rattle.og_cert_read.specs.Words.{line_of}
-use Rattle.og_cert_read.specs.Reading.{Frame, Place, Between, Within, Reading, LineFault, BadLine, Twice, TooDeep, read_lines, nothing_read}
+use Rattle.og_cert_read.specs.Reading.{Frame, Place, Between, Within, Reading, LineFault, BadLine, Twice, TooDeep, read_lines}
 use Rattle.og_cert_read.specs.Levels.{steps_frames, levels_frames, AreGoodFrames}
 
 abbrev pub version_of : Version → text.Version

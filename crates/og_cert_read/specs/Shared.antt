@@ -2,7 +2,6 @@
 use Rattle.std.specs.Prelude.{ℕ, List, [], ◌∷◌, ◌++◌, length, if◌then◌else◌, nat_lt, Option, Some, None}
 use Rattle.std.specs.Str.{bytes_eq}
 use Rattle.og_cert_text.specs.Tree.{Cert}
-use Rattle.og_cert_text.specs.Lines.{cert_lines}
 use Rattle.og_cert_text.specs.Files.{Entries}
 use Rattle.og_cert_text.specs.Text.{Two, Listed, Whole, SameAs, Listing, listed_lines, lines_text, listing_text}
 

@@ -65,7 +65,11 @@ fn put_into(alloc: Global, level: Level, cert: Cert) -> Result<Put, AllocError>
 
 /// Puts a complete certificate into the levels round it, the innermost last, and each certificate
 /// that is complete by that too. Gives the outermost certificate, if that is complete.
-pub(crate) fn settle(alloc: Global, levels: &mut Vec<Level>, cert: Cert) -> Result<Option<Cert>, AllocError>
+pub(crate) fn settle(
+    alloc: Global,
+    levels: &mut Vec<Level>,
+    cert: Cert,
+) -> Result<Option<Cert>, AllocError>
     ensures { IfOk result (λ r. IsSettled levels.old.items cert levels.new.items r) }
 {
     let mut cert = cert;

@@ -134,7 +134,14 @@ impl Reader {
     }
 
     // Takes the line of a split.
-    fn split(&mut self, alloc: Global, n: u32, fact: u32, count: u32, at: u32) -> Result<(), CertTextError>
+    fn split(
+        &mut self,
+        alloc: Global,
+        n: u32,
+        fact: u32,
+        count: u32,
+        at: u32,
+    ) -> Result<(), CertTextError>
         requires number { self.old.number ≡ Some n }
         requires sound { IsSound self.old }
         requires good { is_line (SplitLine fact count) ≡ true }
@@ -150,7 +157,14 @@ impl Reader {
     }
 
     // Takes a line within the certificate of condition n.
-    fn within(&mut self, alloc: Global, version: Version, n: u32, line: Line, at: u32) -> Result<(), CertTextError>
+    fn within(
+        &mut self,
+        alloc: Global,
+        version: Version,
+        n: u32,
+        line: Line,
+        at: u32,
+    ) -> Result<(), CertTextError>
         requires number { self.old.number ≡ Some n }
         requires sound { IsSound self.old }
         requires good { is_line (said_line line) ≡ true }
@@ -189,7 +203,13 @@ impl Reader {
     }
 
     // Takes a line.
-    fn take(&mut self, alloc: Global, version: Version, line: Line, at: u32) -> Result<(), CertTextError>
+    fn take(
+        &mut self,
+        alloc: Global,
+        version: Version,
+        line: Line,
+        at: u32,
+    ) -> Result<(), CertTextError>
         requires sound { IsSound self.old }
         requires good { is_line (said_line line) ≡ true }
         ensures { IsTaken result at (line_at (version_of version) (shown self.old.file) (place_of self.old) (said_line line)) self.new }
@@ -201,7 +221,13 @@ impl Reader {
     }
 
     /// Takes the first line of the text, and gives what stands behind it.
-    pub(crate) fn next<'a>(&mut self, alloc: Global, version: Version, text: &'a [u8], at: u32) -> Result<&'a [u8], CertTextError>
+    pub(crate) fn next<'a>(
+        &mut self,
+        alloc: Global,
+        version: Version,
+        text: &'a [u8],
+        at: u32,
+    ) -> Result<&'a [u8], CertTextError>
         requires some { 0 < length text.now }
         requires sound { IsSound self.old }
         ensures { MatchResult result (λ rest. IsNext (version_of version) at text.now rest.now self.old self.new) (λ e. IsStopped e (read_lines (version_of version) at (reading_of self.old) (lines_of text.now))) }

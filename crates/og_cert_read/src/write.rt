@@ -38,7 +38,12 @@ fn put_again(text: &mut Vec<u8>, k: u32, lines: &[u8]) -> Result<(), AllocError>
 }
 
 // An entry, behind those whose certificates have their first numbers in the map.
-fn put_entry(text: &mut Vec<u8>, firsts: &mut BTreeMap<Vec<u8>, u32>, n: u32, cert: &Cert) -> Result<(), AllocError>
+fn put_entry(
+    text: &mut Vec<u8>,
+    firsts: &mut BTreeMap<Vec<u8>, u32>,
+    n: u32,
+    cert: &Cert,
+) -> Result<(), AllocError>
     ensures text { OnOk result (text.new.items ≡ text.old.items ++ lines_text (ForCondition n ∷ listed_lines (listed_as (found (cert_text (plain_cert cert.now)) firsts.old) (plain_cert cert.now)))) }
     ensures firsts { OnOk result ((t : List ℕ) → found t firsts.new ≡ or_this (found t firsts.old) t (cert_text (plain_cert cert.now)) n) }
 {

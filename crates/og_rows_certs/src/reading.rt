@@ -32,8 +32,7 @@ fn expect_told(rt: &impl Abort, alloc: Global, rows: &[(&str, &str)]) -> Result<
     Ok(())
 }
 
-const FOUR: &str =
-    "og-cert 1|cond 1|close 1*1|cond 2|close 1*1|cond 3|close 1*1|cond 4|close 1*1|";
+const FOUR: &str = "og-cert 1|cond 1|close 1*1|cond 2|close 1*1|cond 3|close 1*1|cond 4|close 1*1|";
 
 #[test]
 fn first_lines(rt: HostRuntime) -> Result<(), Fail> {
@@ -73,14 +72,26 @@ fn lines_out_of_place(rt: HostRuntime) -> Result<(), Fail> {
             "og-cert 1|cond 1|close 1*1\r|cond 2|close 1*1|",
             "20 BadLine at line 3",
         ),
-        ("og-cert 1|cond 1|close 1*1|cond 1|close 1*1|", "21 Twice at line 4"),
+        (
+            "og-cert 1|cond 1|close 1*1|cond 1|close 1*1|",
+            "21 Twice at line 4",
+        ),
         // A last line without its end is bad before anything is asked of it.
         ("og-cert 1|cond 1|close 1*1|cond 1", "20 BadLine at line 4"),
-        ("og-cert 1|cond 1|close 1*1|close 1*1|", "20 BadLine at line 4"),
+        (
+            "og-cert 1|cond 1|close 1*1|close 1*1|",
+            "20 BadLine at line 4",
+        ),
         ("og-cert 1|close 1*1|", "20 BadLine at line 2"),
         ("og-cert 1|cond 1|cond 2|", "20 BadLine at line 3"),
-        ("og-cert 1|cond 1|branch 0|close 1*1|", "20 BadLine at line 5"),
-        ("og-cert 1|cond 1|split 1 2|close 1*1|", "20 BadLine at line 5"),
+        (
+            "og-cert 1|cond 1|branch 0|close 1*1|",
+            "20 BadLine at line 5",
+        ),
+        (
+            "og-cert 1|cond 1|split 1 2|close 1*1|",
+            "20 BadLine at line 5",
+        ),
         ("og-cert 1|cond 1|split 1 0|", "read"),
         ("og-cert 1||", "20 BadLine at line 2"),
         ("og-cert 1|cond 2|close 1*1|cond 1|close 1*1|", "read"),
@@ -152,7 +163,10 @@ fn parts_of_lines(rt: HostRuntime) -> Result<(), Fail> {
     let rows = [
         ("og-cert 1|cond 0|close 1*1|", "20 BadLine at line 2"),
         ("og-cert 1|cond 01|close 1*1|", "20 BadLine at line 2"),
-        ("og-cert 1|cond 1000000000|close 1*1|", "20 BadLine at line 2"),
+        (
+            "og-cert 1|cond 1000000000|close 1*1|",
+            "20 BadLine at line 2",
+        ),
         ("og-cert 1|cond 999999999|close 1*1|", "read"),
     ];
     expect_told(&rt, alloc, &rows)
@@ -180,16 +194,37 @@ fn depth_is_limited(rt: HostRuntime) -> Result<(), Fail> {
 fn version_2(rt: HostRuntime) -> Result<(), Fail> {
     let rows = [
         ("og-cert 2|cond 1|close 1*1|cond 2|same 1|", "read"),
-        ("og-cert 2|cond 9|close 1*1|cond 2|same 9|cond 3|same 2|", "read"),
+        (
+            "og-cert 2|cond 9|close 1*1|cond 2|same 9|cond 3|same 2|",
+            "read",
+        ),
         ("og-cert 2|cond 1|same 2|", "20 BadLine at line 3"),
         ("og-cert 2|cond 1|same 1|", "20 BadLine at line 3"),
-        ("og-cert 2|cond 1|same 2|cond 2|close 1*1|", "20 BadLine at line 3"),
-        ("og-cert 2|cond 1|close 1*1|cond 2|same 01|", "20 BadLine at line 5"),
-        ("og-cert 2|cond 1|close 1*1|cond 2|sum 1*1|same 1|", "20 BadLine at line 6"),
-        ("og-cert 2|cond 1|close 1*1|cond 2|branch 0|same 1|", "20 BadLine at line 6"),
-        ("og-cert 2|cond 1|close 1*1|cond 2|same 1|same 1|", "20 BadLine at line 6"),
+        (
+            "og-cert 2|cond 1|same 2|cond 2|close 1*1|",
+            "20 BadLine at line 3",
+        ),
+        (
+            "og-cert 2|cond 1|close 1*1|cond 2|same 01|",
+            "20 BadLine at line 5",
+        ),
+        (
+            "og-cert 2|cond 1|close 1*1|cond 2|sum 1*1|same 1|",
+            "20 BadLine at line 6",
+        ),
+        (
+            "og-cert 2|cond 1|close 1*1|cond 2|branch 0|same 1|",
+            "20 BadLine at line 6",
+        ),
+        (
+            "og-cert 2|cond 1|close 1*1|cond 2|same 1|same 1|",
+            "20 BadLine at line 6",
+        ),
         ("og-cert 2|cond 1|close 1*1|same 1|", "20 BadLine at line 4"),
-        ("og-cert 1|cond 1|close 1*1|cond 2|same 1|", "20 BadLine at line 5"),
+        (
+            "og-cert 1|cond 1|close 1*1|cond 2|same 1|",
+            "20 BadLine at line 5",
+        ),
     ];
     expect_told(&rt, rt.alloc(), &rows)
 }
@@ -218,7 +253,10 @@ fn what_is_read_is_written(rt: HostRuntime) -> Result<(), Fail> {
 fn version_2_is_written(rt: HostRuntime) -> Result<(), Fail> {
     let alloc = rt.alloc();
     let rows = [
-        (FOUR, "og-cert 2|cond 1|close 1*1|cond 2|same 1|cond 3|same 1|cond 4|same 1|"),
+        (
+            FOUR,
+            "og-cert 2|cond 1|close 1*1|cond 2|same 1|cond 3|same 1|cond 4|same 1|",
+        ),
         // The least number that has the certificate, whatever the text named.
         (
             "og-cert 2|cond 9|close 1*1|cond 7|close 1*2|cond 2|same 9|cond 8|same 7|cond 9999|same 2|",

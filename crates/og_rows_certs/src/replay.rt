@@ -188,8 +188,7 @@ fn ranges(rt: HostRuntime) -> Result<(), Fail> {
     )
 }
 
-const ODD: &str =
-    "var x, y;\n{2*x = 2*y + 1}\ncobegin\n{false} skip {false}\ncoend\n{false}\n";
+const ODD: &str = "var x, y;\n{2*x = 2*y + 1}\ncobegin\n{false} skip {false}\ncoend\n{false}\n";
 
 #[test]
 fn cuts(rt: HostRuntime) -> Result<(), Fail> {

@@ -27,6 +27,7 @@ returns-in-Some-after c =
     (front_of (version_text Two) c.args.text.now c.after-2.result c.in-Some-after.rest c.after-2.ensures c.in-Some-after.is) c.read_behind-in-Some-after.ensures
 
 pub returns : goal.returns
-returns c =
-    (not_long (length c.args.text.now) (omega (arith, c.if-text-gt-TEXT_LIMIT.false)),
-    no_version c.args.text.now c.after.result c.after-2.result c.after.ensures c.in_default.is c.after-2.ensures c.in_default-after.is)
+returns c = (
+  not_long (length c.args.text.now) (omega (arith, c.if-text-gt-TEXT_LIMIT.false)),
+  no_version c.args.text.now c.after.result c.after-2.result c.after.ensures c.in_default.is c.after-2.ensures c.in_default-after.is,
+)

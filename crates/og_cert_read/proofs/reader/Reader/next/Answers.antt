@@ -34,8 +34,8 @@ returns c =
     record {
       less = behind_less c.args.text.now c.in-Some.rest.now (sym c.split_at_byte.ensures.behind ∙ ap (option_map (λ s. s.now)) c.in-Some.is);
       same =
-        line_taken (version_of c.args.version) c.args.at (reading_of c.args.self.now) (reading_of c.take.new.self) c.args.text.now c.in-Some.rest.now (said_line c.in-Some-2.line)
-        (sym c.split_at_byte.ensures.behind ∙ ap (option_map (λ s. s.now)) c.in-Some.is)
-        (sym (ap (option_map said_line) c.in-Some-2.is) ∙ c.in_ok-line.ensures ∙ ap line_of c.split_at_byte.ensures.before) c.in_ok-take.ensures.0;
+          line_taken (version_of c.args.version) c.args.at (reading_of c.args.self.now) (reading_of c.take.new.self) c.args.text.now c.in-Some.rest.now (said_line c.in-Some-2.line)
+          (sym c.split_at_byte.ensures.behind ∙ ap (option_map (λ s. s.now)) c.in-Some.is)
+          (sym (ap (option_map said_line) c.in-Some-2.is) ∙ c.in_ok-line.ensures ∙ ap line_of c.split_at_byte.ensures.before) c.in_ok-take.ensures.0;
       sound = c.in_ok-take.ensures.1;
     }

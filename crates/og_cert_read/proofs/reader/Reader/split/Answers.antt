@@ -1,4 +1,3 @@
-use Rattle.std.proofs.Common.{◌≤◌}
 use Rattle.std.specs.Prelude.{nat_le}
 use Rattle.og_cert_text.specs.Lines.{is_number}
 use Rattle.og_cert_text.specs.Shown.{shown}
