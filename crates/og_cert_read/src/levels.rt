@@ -52,6 +52,7 @@ fn put_into(alloc: Global, level: Level, cert: Cert) -> Result<Put, AllocError>
         Fork::Part(fact, wanted, mut certs) => {
             certs.push(cert)?;
             if wanted == 0 {
+                certs.shrink_to_fit();
                 let finish = Finish::Split(fact, certs);
                 return Ok(Put::Whole(Cert { steps, finish }));
             }

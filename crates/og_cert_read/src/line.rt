@@ -42,6 +42,7 @@ fn combination(alloc: Global, text: &[u8]) -> Result<Option<Vec<Term>>, AllocErr
         terms.push(t)?;
         rest = later;
     }
+    terms.shrink_to_fit();
     Ok(Some(terms))
 }
 

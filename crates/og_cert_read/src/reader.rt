@@ -96,7 +96,8 @@ impl Reader {
         ensures reading { OnOk result (reading_of self.new ≡ plug (shown self.old.file) n (plain_finish finish) (frames_of self.old)) }
         ensures sound { OnOk result (IsSound self.new) }
     {
-        let steps = mem::replace(&mut self.steps, Vec::new(alloc));
+        let mut steps = mem::replace(&mut self.steps, Vec::new(alloc));
+        steps.shrink_to_fit();
         let cert = Cert { steps, finish };
         match settle(alloc, &mut self.levels, cert)? {
             None => Ok(()),
