@@ -82,8 +82,8 @@ impl CertFile {
         Some(*number)
     }
 
-    /// The entry with the least number above n.
-    pub(crate) fn entry_above(&self, n: u32) -> Option<(u32, &Cert)>
+    /// The entry with the least number above n. Takes no memory.
+    pub fn entry_above(&self, n: u32) -> Option<(u32, &Cert)>
         ensures { IsNextEntry n (shown self.now) (option_map (λ e. (e.0, plain_cert e.1.now)) result) }
     {
         let above = (Bound::Excluded(n), Bound::Unbounded);

@@ -15,4 +15,4 @@ mod write;
 pub use cert::{Cert, CertStep, Finish, Source, Term};
 pub use fault::{CertFileError, CertFileFault, CertTextError, CertTextFault};
 pub use file::CertFile;
-pub use write::write_certs;
+pub use write::{put_cert, write_certs};

@@ -133,10 +133,10 @@ fn put_steps(text: &mut Vec<u8>, steps: &[CertStep]) -> Result<(), AllocError>
     Ok(())
 }
 
-/// The lines of the certificate.
+/// Adds the lines of the certificate to the text. An error leaves the text with a part of them.
 #[cycle(put)]
 #[tactic(auto, using(crate::proofs::Writing::steps_text))]
-pub(crate) fn put_cert(text: &mut Vec<u8>, cert: &Cert) -> Result<(), AllocError>
+pub fn put_cert(text: &mut Vec<u8>, cert: &Cert) -> Result<(), AllocError>
     ensures { OnOk result (text.new.items ≡ text.old.items ++ lines_text (cert_lines (plain_cert cert.now))) }
 {
     put_steps(text, &cert.steps)?;

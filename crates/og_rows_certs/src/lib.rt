@@ -8,6 +8,10 @@ mod facts;
 #[cfg(test)]
 mod outlines;
 #[cfg(test)]
+mod reading;
+#[cfg(test)]
+mod replay;
+#[cfg(test)]
 mod sources;
 #[cfg(test)]
 mod texts;

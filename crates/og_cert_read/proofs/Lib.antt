@@ -1,0 +1,15 @@
+pub mod Again
+pub mod Firsts
+pub mod Headers
+pub mod Joined
+pub mod LineSays
+pub mod LineSteps
+pub mod Numbers
+pub mod OpenLevels
+pub mod Pieces
+pub mod Says
+pub mod SharedSoFar
+pub mod Sharing
+pub mod Split
+pub mod Taking
+pub mod Texts

@@ -1,0 +1,10 @@
+pub mod Firsts
+pub mod Laws
+pub mod Levels
+pub mod Read
+pub mod Reader
+pub mod Reading
+pub mod Said
+pub mod Shared
+pub mod Text
+pub mod Words

@@ -1,0 +1,87 @@
+//! The certificates that are open round the line that is read.
+
+ghost use Rattle.std.specs.Prelude.{IfOk};
+ghost use Rattle.og_cert_read.specs.Levels.{IsPut, IsSettled};
+
+use og_cert_text::{Cert, CertStep, Finish};
+use og_linear::Form;
+use std::alloc::{AllocError, Global};
+
+/// A branch or a split that is open, with what is read of it.
+#[derive(Drop)]
+pub(crate) enum Fork {
+    /// The first certificate of the branch is read.
+    First(Form),
+    /// The second is read, behind this first one.
+    Second(Form, Cert),
+    /// A certificate of the split of this fact is read, behind these, and so many are wanted after
+    /// it.
+    Part(u32, u32, Vec<Cert>),
+}
+
+/// An open certificate: its steps, and the branch or split behind them.
+#[derive(Drop)]
+pub(crate) struct Level {
+    pub(crate) steps: Vec<CertStep>,
+    pub(crate) fork: Fork,
+}
+
+/// What becomes of a level when a certificate within it is complete.
+#[derive(Drop)]
+pub(crate) enum Put {
+    /// The level's certificate is complete too.
+    Whole(Cert),
+    /// The level stays open.
+    Open(Level),
+}
+
+// Puts a complete certificate into the level round it.
+fn put_into(alloc: Global, level: Level, cert: Cert) -> Result<Put, AllocError>
+    ensures { IfOk result (λ p. IsPut level cert p) }
+{
+    let Level { steps, fork } = level;
+    match fork {
+        Fork::First(form) => Ok(Put::Open(Level {
+            steps,
+            fork: Fork::Second(form, cert),
+        })),
+        Fork::Second(form, first) => {
+            let finish = Finish::Branch(form, Box::new(alloc, first)?, Box::new(alloc, cert)?);
+            Ok(Put::Whole(Cert { steps, finish }))
+        }
+        Fork::Part(fact, wanted, mut certs) => {
+            certs.push(cert)?;
+            if wanted == 0 {
+                certs.shrink_to_fit();
+                let finish = Finish::Split(fact, certs);
+                return Ok(Put::Whole(Cert { steps, finish }));
+            }
+            Ok(Put::Open(Level {
+                steps,
+                fork: Fork::Part(fact, wanted - 1, certs),
+            }))
+        }
+    }
+}
+
+/// Puts a complete certificate into the levels round it, the innermost last, and each certificate
+/// that is complete by that too. Gives the outermost certificate, if that is complete.
+pub(crate) fn settle(
+    alloc: Global,
+    levels: &mut Vec<Level>,
+    cert: Cert,
+) -> Result<Option<Cert>, AllocError>
+    ensures { IfOk result (λ r. IsSettled levels.old.items cert levels.new.items r) }
+{
+    let mut cert = cert;
+    while let Some(level) = levels.pop() {
+        match put_into(alloc, level, cert)? {
+            Put::Whole(whole) => cert = whole,
+            Put::Open(level) => {
+                levels.push(level)?;
+                return Ok(None);
+            }
+        }
+    }
+    Ok(Some(cert))
+}

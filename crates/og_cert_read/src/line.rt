@@ -1,0 +1,159 @@
+//! One line of a certificate text.
+
+ghost use Rattle.std.specs.Prelude.{◌≡◌, true, IfOk, Some, option_map, length};
+ghost use Rattle.og_linear.specs.Linear.{form_value};
+ghost use Rattle.og_linear.specs.Arith.{fits_terms};
+ghost use Rattle.og_linear.specs.Answer.{IsAnswer};
+ghost use Rattle.og_linear.specs.declared.fault.FormFault.TheVariants as faults;
+ghost use Rattle.og_cert_text.specs.Lines.{rises_from};
+ghost use Rattle.og_cert_text.specs.Plain.{combination_of};
+ghost use Rattle.og_cert_read.specs.Words as words;
+ghost use Rattle.og_cert_read.specs.Said.{said_line};
+
+use crate::limits::PARTS_LIMIT;
+use crate::words::{after, factor, index, number, part, split_at_byte, term, whole};
+use og_cert_text::Term;
+use og_linear::{Form, FormError};
+use std::alloc::{AllocError, Global};
+
+/// What a line says.
+#[derive(Drop)]
+pub(crate) enum Line {
+    Condition(u32),
+    Same(u32),
+    Sum(Vec<Term>),
+    Cut(u32, u64),
+    Branch(Form),
+    Split(u32, u32),
+    Close(Vec<Term>),
+}
+
+// The terms that the words are.
+fn combination(alloc: Global, text: &[u8]) -> Result<Option<Vec<Term>>, AllocError>
+    ensures { IfOk result (λ r. option_map (λ v. combination_of v.items) r ≡ words.terms_of (words.words_in text.now)) }
+{
+    let mut terms = Vec::new(alloc);
+    let mut rest = Some(text);
+    while let Some(words) = rest {
+        let (word, later) = split_at_byte(words, b' ');
+        let Some(t) = term(word) else {
+            return Ok(None);
+        };
+        terms.push(t)?;
+        rest = later;
+    }
+    terms.shrink_to_fit();
+    Ok(Some(terms))
+}
+
+// The variables with their coefficients that the words are, where the variables rise.
+fn parts(alloc: Global, text: Option<&[u8]>) -> Result<Option<Vec<(u32, i128)>>, AllocError>
+    ensures { IfOk result (λ r. option_map (λ v. v.items) r ≡ words.parts_of 0 (words.words_of (option_map (λ s. s.now) text.entry))) }
+{
+    let mut parts = Vec::new(alloc);
+    let mut low: u64 = 0;
+    let mut rest = text;
+    while let Some(words) = rest {
+        let (word, later) = split_at_byte(words, b' ');
+        let Some((v, a)) = part(word) else {
+            return Ok(None);
+        };
+        if (v as u64) < low {
+            return Ok(None);
+        }
+        parts.push((v, a))?;
+        low = v as u64 + 1;
+        rest = later;
+    }
+    Ok(Some(parts))
+}
+
+// The number of a fact, and what stands behind it and a space.
+fn index_and_rest(text: &[u8]) -> Option<(u32, &[u8])>
+    ensures { option_map (λ p. (p.0, p.1.now)) result ≡ words.index_and_rest text.now }
+{
+    let (word, rest) = split_at_byte(text, b' ');
+    let fact = index(word)?;
+    Some((fact, rest?))
+}
+
+fn cut(text: &[u8]) -> Option<Line>
+    ensures { option_map said_line result ≡ words.cut_of text.now }
+{
+    let (fact, rest) = index_and_rest(text)?;
+    Some(Line::Cut(fact, factor(rest)?))
+}
+
+fn split(text: &[u8]) -> Option<Line>
+    ensures { option_map said_line result ≡ words.split_of text.now }
+{
+    let (fact, rest) = index_and_rest(text)?;
+    let count = number(rest, PARTS_LIMIT as u128)?;
+    Some(Line::Split(fact, count as u32))
+}
+
+// The form with these variables. They rise, so that halves of them are added without loss.
+fn sum_of(alloc: Global, constant: i128, parts: &[(u32, i128)]) -> Result<Form, FormError>
+    requires rises { rises_from 0 parts.now ≡ true }
+    requires fits { fits_terms parts.now ≡ true }
+    ensures { IsAnswer (λ f. f) faults.TooLarge result (Some (form_value parts.now constant)) }
+{
+    if parts.is_empty() {
+        return Ok(Form::constant(alloc, constant));
+    }
+    if parts.len() == 1 {
+        let (v, a) = parts[0];
+        let mut form = Form::constant(alloc, constant);
+        form.add_scaled(a, &Form::variable(alloc, v)?)?;
+        return Ok(form);
+    }
+    let (front, later) = parts.split_at(parts.len() / 2);
+    let mut form = sum_of(alloc, constant, front)?;
+    form.add_scaled(1, &sum_of(alloc, 0, later)?)?;
+    Ok(form)
+}
+
+// The form that the words are.
+fn form(alloc: Global, text: &[u8]) -> Result<Option<Form>, AllocError>
+    ensures { IfOk result (λ r. r ≡ words.form_of text.now) }
+{
+    let (word, behind) = split_at_byte(text, b' ');
+    let Some(constant) = whole(word) else {
+        return Ok(None);
+    };
+    let Some(parts) = parts(alloc, behind)? else {
+        return Ok(None);
+    };
+    match sum_of(alloc, constant, &parts) {
+        Ok(form) => Ok(Some(form)),
+        Err(_) => Err(AllocError),
+    }
+}
+
+/// The line that the bytes are, without its LF.
+pub(crate) fn read_line(alloc: Global, text: &[u8]) -> Result<Option<Line>, AllocError>
+    ensures { IfOk result (λ r. option_map said_line r ≡ words.line_of text.now) }
+{
+    if let Some(rest) = after(b"sum ", text) {
+        return Ok(combination(alloc, rest)?.map(Line::Sum));
+    }
+    if let Some(rest) = after(b"close ", text) {
+        return Ok(combination(alloc, rest)?.map(Line::Close));
+    }
+    if let Some(rest) = after(b"cut ", text) {
+        return Ok(cut(rest));
+    }
+    if let Some(rest) = after(b"branch ", text) {
+        return Ok(form(alloc, rest)?.map(Line::Branch));
+    }
+    if let Some(rest) = after(b"split ", text) {
+        return Ok(split(rest));
+    }
+    if let Some(rest) = after(b"cond ", text) {
+        return Ok(index(rest).map(Line::Condition));
+    }
+    if let Some(rest) = after(b"same ", text) {
+        return Ok(index(rest).map(Line::Same));
+    }
+    Ok(None)
+}

@@ -1,0 +1,161 @@
+//! The words of a line.
+
+ghost use Rattle.std.specs.Prelude.{◌≡◌, ◌≤◌, ◌<◌, IfOk, ◌-◌, negsuc, IfSome, option_map, Some};
+ghost use Rattle.og_cert_text.specs.Plain.{ref_of};
+ghost use Rattle.og_cert_read.specs.Words as words;
+
+use crate::limits::{FACTOR_LIMIT, NUMBER_LIMIT};
+use og_cert_text::{Source, Term};
+
+/// The bytes before the first such byte, and those behind it.
+pub(crate) fn split_at_byte(text: &[u8], byte: u8) -> (&[u8], Option<&[u8]>)
+    ensures before { result.0.now ≡ words.before byte text.now }
+    ensures behind { option_map (λ s. s.now) result.1 ≡ words.behind byte text.now }
+{
+    for (i, b) in text.iter().enumerate() {
+        if *b == byte {
+            return (&text[..i], Some(&text[i + 1..]));
+        }
+    }
+    (text, None)
+}
+
+/// What stands behind these bytes at the front.
+pub(crate) fn after<'a>(front: &[u8], text: &'a [u8]) -> Option<&'a [u8]>
+    ensures { option_map (λ s. s.now) result ≡ words.after front.now text.now }
+{
+    text.strip_prefix(front)
+}
+
+// The value with one digit more.
+fn next_value(value: u128, byte: u8, most: u128) -> Option<u128>
+    requires most { most ≤ 170141183460469231731687303715884105728 }
+    requires value { value ≤ most }
+    ensures { result ≡ words.next_of most value byte }
+{
+    if byte < b'0' || b'9' < byte {
+        return None;
+    }
+    let next = value.checked_mul(10)?.checked_add((byte - b'0') as u128)?;
+    if next > most {
+        return None;
+    }
+    Some(next)
+}
+
+// The number with these digits.
+fn digits(word: &[u8], most: u128) -> Option<u128>
+    requires { most ≤ 170141183460469231731687303715884105728 }
+    ensures value { result ≡ words.read_from most 0 word.now }
+    ensures within { IfSome result (λ n. n ≤ most) }
+{
+    let mut value: u128 = 0;
+    for b in word {
+        value = next_value(value, *b, most)?;
+    }
+    Some(value)
+}
+
+/// The number that is the whole word, without leading zeros and up to a limit.
+pub(crate) fn number(word: &[u8], most: u128) -> Option<u128>
+    requires { most ≤ 170141183460469231731687303715884105728 }
+    ensures value { result ≡ words.number_of most word.now }
+    ensures within { IfSome result (λ n. n ≤ most) }
+{
+    match word {
+        [] => None,
+        [b'0', _, ..] => None,
+        _ => digits(word, most),
+    }
+}
+
+/// The number of a condition or a fact.
+pub(crate) fn index(word: &[u8]) -> Option<u32>
+    ensures { result ≡ words.index_of word.now }
+{
+    match number(word, NUMBER_LIMIT as u128)? {
+        0 => None,
+        n => Some(n as u32),
+    }
+}
+
+/// The number of a variable.
+pub(crate) fn variable(word: &[u8]) -> Option<u32>
+    ensures { result ≡ words.variable_of word.now }
+{
+    let v = number(word, NUMBER_LIMIT as u128)?;
+    Some(v as u32)
+}
+
+/// A multiplier or a divisor.
+pub(crate) fn factor(word: &[u8]) -> Option<u64>
+    ensures { result ≡ words.factor_of word.now }
+{
+    let m = number(word, FACTOR_LIMIT as u128)?;
+    Some(m as u64)
+}
+
+// The number below 0.
+fn negated(n: u128) -> i128
+    requires some { 0 < n }
+    requires within { n ≤ 170141183460469231731687303715884105728 }
+    ensures { result ≡ negsuc (n - 1) }
+{
+    -1 - (n - 1) as i128
+}
+
+/// A whole number with its sign.
+pub(crate) fn whole(word: &[u8]) -> Option<i128>
+    ensures { result ≡ words.whole_of word.now }
+{
+    if let [b'-', digits @ ..] = word {
+        return match number(digits, i128::MAX as u128 + 1)? {
+            0 => None,
+            n => Some(negated(n)),
+        };
+    }
+    let n = number(word, i128::MAX as u128)?;
+    Some(n as i128)
+}
+
+fn source(word: &[u8]) -> Option<Source>
+    ensures { option_map ref_of result ≡ words.source_of word.now }
+{
+    match word {
+        [b'l', digits @ ..] => Some(Source::Low(variable(digits)?)),
+        [b'u', digits @ ..] => Some(Source::High(variable(digits)?)),
+        _ => Some(Source::Known(index(word)?)),
+    }
+}
+
+/// A term of a combination.
+pub(crate) fn term(word: &[u8]) -> Option<Term>
+    ensures { option_map (λ t. (t.times, ref_of t.source)) result ≡ words.term_of word.now }
+{
+    let (times, behind) = split_at_byte(word, b'*');
+    let times = factor(times)?;
+    let source = source(behind?)?;
+    Some(Term { times, source })
+}
+
+fn named_variable(word: &[u8]) -> Option<u32>
+    ensures { result ≡ words.named_variable word.now }
+{
+    match word {
+        [b'v', digits @ ..] => variable(digits),
+        _ => None,
+    }
+}
+
+/// A variable of a form, with its coefficient.
+pub(crate) fn part(word: &[u8]) -> Option<(u32, i128)>
+    ensures { result ≡ words.part_of word.now }
+{
+    let (coefficient, behind) = split_at_byte(word, b'*');
+    let coefficient = whole(coefficient)?;
+    let variable = named_variable(behind?)?;
+    if coefficient == 0 {
+        return None;
+    }
+    Some((variable, coefficient))
+}
