@@ -9,8 +9,6 @@ mod checking;
 #[cfg(test)]
 mod commands;
 #[cfg(test)]
-mod devices;
-#[cfg(test)]
 mod refused;
 #[cfg(test)]
 mod whole;
