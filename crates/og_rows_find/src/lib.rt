@@ -1,0 +1,11 @@
+//! Worked examples of the finder.
+//!
+//! There is nothing to run here but the tests.
+#![tactic(auto)]
+
+#[cfg(test)]
+mod finding;
+#[cfg(test)]
+mod outlines;
+#[cfg(test)]
+mod sources;
