@@ -1,6 +1,7 @@
 //! The finder: certificates of conditions, found by case splits and Fourier-Motzkin elimination.
 #![tactic(auto)]
 
+mod all;
 mod bounds;
 mod certificate;
 mod eliminate;
@@ -13,9 +14,15 @@ mod narrow;
 mod open;
 mod part;
 mod proof;
+mod repeats;
 mod rows;
 mod search;
 mod stop;
+mod truth;
 mod values;
+mod verdict;
 
-pub use find::find;
+pub use all::{find_all, has_all};
+pub use find::{examine, find};
+pub use og_cert::Cert;
+pub use verdict::Verdict;

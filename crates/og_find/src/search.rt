@@ -70,8 +70,8 @@ impl<'a> Search<'a> {
     }
 
     /// The values at which the search ended, where it ended by them.
-    pub(crate) fn model(&self) -> &Model {
-        &self.model
+    pub(crate) fn into_model(self) -> Model {
+        self.model
     }
 
     fn view<'v>(&'v self, bounds: &'v Bounds) -> View<'v, 'a> {
