@@ -7,7 +7,8 @@ ghost use Rattle.og_cert_text.specs.Shown.{shown};
 ghost use Rattle.og_cert_text.specs.Files.{certificate_of};
 ghost use Rattle.og_find.specs.Found.{AreOf, Closes, Gains};
 
-use crate::find::{examine_facts, is_closing};
+use crate::finding::{examine_facts, is_closing};
+use crate::levels::TOP;
 use crate::part::part_of;
 use crate::repeats::Searched;
 use crate::verdict::Verdict;
@@ -63,7 +64,7 @@ fn add_found(
 ) -> Result<(), AllocError>
     ensures { OnOk result (Gains list.now n (shown file.old) (shown file.new)) }
 {
-    let part = part_of(alloc, list.as_slice())?;
+    let part = part_of(alloc, list.as_slice(), TOP)?;
     if let Some(k) = searched.equal(alloc, conditions, &part)? {
         return share(alloc, file, list, n, k);
     }

@@ -5,7 +5,7 @@ mod all;
 mod bounds;
 mod certificate;
 mod eliminate;
-mod find;
+mod finding;
 mod leaf;
 mod levels;
 mod linear;
@@ -23,6 +23,6 @@ mod values;
 mod verdict;
 
 pub use all::{find_all, has_all};
-pub use find::{examine, find};
+pub use finding::{examine, find};
 pub use og_cert::Cert;
 pub use verdict::Verdict;

@@ -30,9 +30,9 @@ pub(crate) struct Choice {
     pub(crate) parts: Vec<Part>,
 }
 
-/// The facts, apart by their kind.
+/// The facts, apart by their kind. Choices that have so many choices round them are left out.
 #[cycle(reading)]
-pub(crate) fn part_of(alloc: Global, facts: &[Fact]) -> Result<Part, AllocError> {
+pub(crate) fn part_of(alloc: Global, facts: &[Fact], depth: u32) -> Result<Part, AllocError> {
     let mut atoms = Vec::new(alloc);
     let mut choices = Vec::new(alloc);
     for (index, fact) in facts.iter().enumerate() {
@@ -42,8 +42,10 @@ pub(crate) fn part_of(alloc: Global, facts: &[Fact]) -> Result<Part, AllocError>
                 atoms.push(Atom { index, form })?;
             }
             Fact::Split(parts) => {
-                let parts = parts_of(alloc, parts)?;
-                choices.push(Choice { index, parts })?;
+                if let Some(below) = depth.checked_sub(1) {
+                    let parts = parts_of(alloc, parts, below)?;
+                    choices.push(Choice { index, parts })?;
+                }
             }
         }
     }
@@ -55,10 +57,10 @@ pub(crate) fn part_of(alloc: Global, facts: &[Fact]) -> Result<Part, AllocError>
 }
 
 #[cycle(reading)]
-fn parts_of(alloc: Global, parts: &[Vec<Fact>]) -> Result<Vec<Part>, AllocError> {
+fn parts_of(alloc: Global, parts: &[Vec<Fact>], depth: u32) -> Result<Vec<Part>, AllocError> {
     let mut out = Vec::with_capacity(alloc, parts.len())?;
     for facts in parts {
-        out.push(part_of(alloc, facts)?)?;
+        out.push(part_of(alloc, facts, depth)?)?;
     }
     Ok(out)
 }

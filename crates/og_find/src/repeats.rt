@@ -1,5 +1,6 @@
 //! Equal lists of facts.
 
+use crate::levels::TOP;
 use crate::linear::{Linear, next_mark};
 use crate::part::{Atom, Choice, Part, part_of};
 use og_cond::Condition;
@@ -132,7 +133,7 @@ impl Searched {
         };
         match facts(alloc, condition) {
             Ok(list) => {
-                let other = part_of(alloc, list.as_slice())?;
+                let other = part_of(alloc, list.as_slice(), TOP)?;
                 Ok(if is_same_part(part, &other) { Some(number) } else { None })
             }
             Err(FactsError::Memory) => Err(AllocError),

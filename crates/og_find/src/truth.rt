@@ -47,34 +47,38 @@ fn is_at_most_zero(form: &Form, state: &State) -> bool
 }
 
 #[cycle(truth)]
-fn is_true(fact: &Fact, state: &State) -> bool
+fn is_true(fact: &Fact, state: &State, depth: u32) -> bool
     ensures { IsTrue result → fact_true state.now (plain_fact fact.now) ≡ true }
 {
     match fact {
         Fact::Atom(form) => is_at_most_zero(form, state),
-        Fact::Split(parts) => some_true(parts, state),
+        Fact::Split(parts) => match depth.checked_sub(1) {
+            Some(below) => some_true(parts, state, below),
+            None => false,
+        },
     }
 }
 
 #[cycle(truth)]
-fn some_true(parts: &[Vec<Fact>], state: &State) -> bool
+fn some_true(parts: &[Vec<Fact>], state: &State, depth: u32) -> bool
     ensures { IsTrue result → some_part_true state.now (parts_of_list (map shown parts.now)) ≡ true }
 {
     for part in parts {
-        if all_true(part, state) {
+        if all_true(part, state, depth) {
             return true;
         }
     }
     false
 }
 
-/// Whether all facts are true in the state. One whose value leaves `i128` counts as false.
+/// Whether all facts are true in the state. One whose value leaves `i128` counts as false, and so
+/// does a choice that has so many choices round it.
 #[cycle(truth)]
-pub(crate) fn all_true(facts: &[Fact], state: &State) -> bool
+pub(crate) fn all_true(facts: &[Fact], state: &State, depth: u32) -> bool
     ensures { IsTrue result → all_true_at state.now (map plain_fact facts.now) ≡ true }
 {
     for fact in facts {
-        if !is_true(fact, state) {
+        if !is_true(fact, state, depth) {
             return false;
         }
     }

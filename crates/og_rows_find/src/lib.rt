@@ -4,8 +4,10 @@
 #![tactic(auto)]
 
 #[cfg(test)]
-mod finding;
+mod hostile;
 #[cfg(test)]
 mod outlines;
+#[cfg(test)]
+mod searching;
 #[cfg(test)]
 mod sources;

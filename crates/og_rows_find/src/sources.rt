@@ -1,4 +1,4 @@
-//! Source texts that several examples share, and texts that are made of many equal parts.
+//! Source texts, and texts that are made of many equal parts.
 
 use std::alloc::{AllocError, Global};
 
@@ -14,30 +14,12 @@ pub(crate) const EQUAL_ADD: &str =
 pub(crate) const TOLD_ADD: &str =
     "var x; aux a = 0, b = 0;\n{x = 0}\ncobegin\n{x = a + b and a = 0 and b <= 1}\nawait true then begin x := x + 1; a := 1 end\n{x = a + b and a = 1 and b <= 1}\n//\n{x = a + b and b = 0 and a <= 1}\nawait true then begin x := x + 1; b := 1 end\n{x = a + b and b = 1 and a <= 1}\ncoend\n{x = 2}\n";
 
-pub(crate) const SKIP_AND_ASSIGN: &str =
-    "var y;\n{y = 0}\ncobegin\n{y = 0} skip {y = 0}\n//\n{true} y := 1 {true}\ncoend\n{true}\n";
-
-pub(crate) const ONE_BELOW: &str =
-    "var x;\n{x = 9223372036854775806}\ncobegin\n{x = 9223372036854775806} x := x + 1 {x = 9223372036854775807}\ncoend\n{x = 9223372036854775807}\n";
-
-pub(crate) const UP_AND_DOWN: &str =
-    "var x;\n{x = 9223372036854775807}\ncobegin\n{x = 9223372036854775807}\nawait true then begin x := x + 1; x := x - 1 end\n{x = 9223372036854775807}\ncoend\n{x = 9223372036854775807}\n";
-
-pub(crate) const EACH_WAITS: &str =
-    "var a, b;\n{a = 0 and b = 0}\ncobegin\n{true} await b = 1 then a := 1 {true}\n//\n{true} await a = 1 then b := 1 {true}\ncoend\n{true}\n";
-
-pub(crate) const ONE_SKIP: &str = "{true}\ncobegin\n{true} skip {true}\ncoend\n{true}\n";
-
-pub(crate) const AUXILIARY_LOOP: &str =
-    "aux a = 0;\n{true}\ncobegin\n{true} while true do begin {true} a := 0 {true} end {true}\ncoend\n{true}\n";
-
 // An `if` in a `while`, and a process that assigns what both rest on.
 pub(crate) const NESTED: &str =
     "var x, y;\n{x = 0 and y = 0}\ncobegin\n{x = 0}\nwhile y = 0 do begin\n  {x = 0}\n  if x = 0 then begin\n    {x = 0}\n    skip\n    {x = 0}\n  end\n  {x = 0}\nend\n{true}\n//\n{true}\nx := 1\n{true}\ncoend\n{true}\n";
 
-// One process between a prologue and an epilogue.
-pub(crate) const WITH_MAIN: &str =
-    "var x;\n{true}\nbegin\n{true} x := 0 {x = 0}\nend\ncobegin\n{x = 0} await true then x := x + 1 {x = 1}\ncoend\nbegin\n{x = 1} x := x + 1 {x = 2}\nend\n{x = 2}\n";
+pub(crate) const NOT_EVEN: &str =
+    "var x, y;\n{2*x = 2*y + 1}\ncobegin\n{false} skip {false}\ncoend\n{false}\n";
 
 // Adds the part to the text, as often as `times` says.
 pub(crate) fn add_times(out: &mut String, part: &str, times: u32) -> Result<(), AllocError> {
@@ -63,4 +45,24 @@ pub(crate) fn equal_processes(
     }
     out.push_str(tail)?;
     Ok(out)
+}
+
+// Equal processes of so many assignments and then so many skips, every assertion `x >= 0`.
+pub(crate) fn alike(
+    alloc: Global,
+    assigns: u32,
+    skips: u32,
+    others: u32,
+) -> Result<String, AllocError> {
+    let mut process = String::new(alloc);
+    add_times(&mut process, "{x >= 0} x := 1\n", assigns)?;
+    add_times(&mut process, "{x >= 0} skip\n", skips)?;
+    process.push_str("{x >= 0}\n")?;
+    equal_processes(
+        alloc,
+        "var x;\n{x >= 0}\ncobegin\n",
+        process.as_str(),
+        others,
+        "coend\n{x >= 0}\n",
+    )
 }

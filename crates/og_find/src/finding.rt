@@ -8,6 +8,7 @@ ghost use Rattle.og_cert_text.specs.Plain.{plain_cert};
 ghost use Rattle.og_find.specs.Found.{Certifies, Closes, IsVerdict, IsVerdictOn};
 
 use crate::certificate::certificate;
+use crate::levels::TOP;
 use crate::model::Model;
 use crate::part::{Part, part_of};
 use crate::search::Search;
@@ -85,7 +86,7 @@ fn state_of(alloc: Global, list: &FactList, model: &Model) -> Result<Option<Stat
         None => return Ok(None),
     };
     let state = State::new(values);
-    if all_true(list.as_slice(), &state) {
+    if all_true(list.as_slice(), &state, TOP) {
         Ok(Some(state))
     } else {
         Ok(None)
@@ -134,7 +135,7 @@ pub fn examine(
 {
     match facts(alloc, condition) {
         Ok(list) => {
-            let part = part_of(alloc, list.as_slice())?;
+            let part = part_of(alloc, list.as_slice(), TOP)?;
             examine_facts(alloc, &list, &part, budget)
         }
         Err(FactsError::Memory) => Err(AllocError),
