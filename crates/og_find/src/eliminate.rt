@@ -41,11 +41,19 @@ struct Count {
     below: usize,
 }
 
+// Rows in which the variable is positive, each of which goes with each in which it is negative.
+#[derive(Debug, Drop)]
+struct Product {
+    above: Vec<usize>,
+    below: Vec<usize>,
+}
+
 // What is eliminated next, and the pairs of rows whose sums take its place.
 #[derive(Debug, Drop)]
 struct Plan {
     var: u32,
-    pairs: Vec<(usize, usize)>,
+    first: Product,
+    second: Product,
 }
 
 // Where rows with the same terms stand, and with those with the sign changed.
@@ -305,72 +313,71 @@ fn choose_variable(counts: &[Count]) -> Option<u32> {
     best
 }
 
-// Each row with the variable beside that side of the equality that takes it away.
-fn pairs_by_equality(
+// The rows in which the variable is positive and those in which it is negative, but for two rows.
+fn sides(
     rows: &Rows,
     work: &[usize],
-    sides: (usize, usize),
     var: u32,
-) -> Result<Vec<(usize, usize)>, AllocError> {
-    let (above, below) = if rows.form(sides.0).coefficient(var) > 0 {
-        sides
-    } else {
-        (sides.1, sides.0)
-    };
-    let mut pairs = Vec::new(rows.alloc());
+    but: Option<(usize, usize)>,
+) -> Result<Product, AllocError> {
+    let mut above = Vec::new(rows.alloc());
+    let mut below = Vec::new(rows.alloc());
     for r in work {
-        if *r == above || *r == below {
-            continue;
-        }
+        let is_left_out = match but {
+            Some((first, second)) => *r == first || *r == second,
+            None => false,
+        };
         let c = rows.form(*r).coefficient(var);
-        if c > 0 {
-            pairs.push((*r, below))?;
-        } else if c < 0 {
-            pairs.push((above, *r))?;
+        if c > 0 && !is_left_out {
+            above.push(*r)?;
+        } else if c < 0 && !is_left_out {
+            below.push(*r)?;
         }
     }
-    Ok(pairs)
+    Ok(Product { above, below })
 }
 
-// Adds the row beside each of those in which the variable has the other sign.
-fn push_pairs(
+// Each row with the variable goes with that side of the equality that takes it away.
+fn plan_by_equality(
     rows: &Rows,
     work: &[usize],
-    above: usize,
+    pair: (usize, usize),
     var: u32,
-    pairs: &mut Vec<(usize, usize)>,
-) -> Result<(), AllocError> {
-    for r in work {
-        if rows.form(*r).coefficient(var) < 0 {
-            pairs.push((above, *r))?;
-        }
-    }
-    Ok(())
-}
-
-// Each row in which the variable is positive beside each in which it is negative.
-fn all_pairs(rows: &Rows, work: &[usize], var: u32) -> Result<Vec<(usize, usize)>, AllocError> {
-    let mut pairs = Vec::new(rows.alloc());
-    for r in work {
-        if rows.form(*r).coefficient(var) > 0 {
-            push_pairs(rows, work, *r, var, &mut pairs)?;
-        }
-    }
-    Ok(pairs)
+) -> Result<Plan, AllocError> {
+    let (above, below) = if rows.form(pair.0).coefficient(var) > 0 {
+        pair
+    } else {
+        (pair.1, pair.0)
+    };
+    let others = sides(rows, work, var, Some(pair))?;
+    Ok(Plan {
+        var,
+        first: Product {
+            above: others.above,
+            below: vec![in rows.alloc(); below]?,
+        },
+        second: Product {
+            above: vec![in rows.alloc(); above]?,
+            below: others.below,
+        },
+    })
 }
 
 // What is eliminated next, if a variable is left.
 fn plan_next(rows: &Rows, work: &[usize], variables: u32) -> Result<Option<Plan>, AllocError> {
     let counts = counts_of(rows, work, variables)?;
-    if let Some((first, second, var)) = choose_equality(rows, work, &counts)? {
-        let pairs = pairs_by_equality(rows, work, (first, second), var)?;
-        return Ok(Some(Plan { var, pairs }));
+    if let Some((one, other, var)) = choose_equality(rows, work, &counts)? {
+        return Ok(Some(plan_by_equality(rows, work, (one, other), var)?));
     }
     match choose_variable(&counts) {
-        Some(var) => {
-            let pairs = all_pairs(rows, work, var)?;
-            Ok(Some(Plan { var, pairs }))
-        }
+        Some(var) => Ok(Some(Plan {
+            var,
+            first: sides(rows, work, var, None)?,
+            second: Product {
+                above: Vec::new(rows.alloc()),
+                below: Vec::new(rows.alloc()),
+            },
+        })),
         None => Ok(None),
     }
 }
@@ -391,15 +398,17 @@ fn add_pair(rows: &mut Rows, pair: (usize, usize), var: u32) -> Result<Added, St
     }
 }
 
-// Adds the sums of a plan to the rows that are left. Tells the row that closes where one does.
-fn combine(
+// Adds the sums of a row with each of those below. Tells the row that closes where one does.
+fn combine_row(
     rows: &mut Rows,
     rest: &mut Vec<usize>,
-    plan: &Plan,
+    above: usize,
+    below: &[usize],
+    var: u32,
     bounds: &Bounds,
 ) -> Result<Option<usize>, Stop> {
-    for pair in &plan.pairs {
-        match add_pair(rows, *pair, plan.var)? {
+    for other in below {
+        match add_pair(rows, (above, *other), var)? {
             Added::Closed(row) => return Ok(Some(row)),
             Added::Nothing => {}
             Added::Row(row) => {
@@ -413,6 +422,38 @@ fn combine(
         }
     }
     Ok(None)
+}
+
+// Adds the sums of all pairs, as long as there are not too many rows.
+fn combine(
+    rows: &mut Rows,
+    rest: &mut Vec<usize>,
+    product: &Product,
+    var: u32,
+    bounds: &Bounds,
+) -> Result<Option<usize>, Stop> {
+    for above in &product.above {
+        if let Some(row) = combine_row(rows, rest, *above, &product.below, var, bounds)? {
+            return Ok(Some(row));
+        }
+        if rest.len() > ROWS_LIMIT {
+            return Ok(None);
+        }
+    }
+    Ok(None)
+}
+
+// Adds the sums of a plan to the rows that are left. Tells the row that closes where one does.
+fn follow(
+    rows: &mut Rows,
+    rest: &mut Vec<usize>,
+    plan: &Plan,
+    bounds: &Bounds,
+) -> Result<Option<usize>, Stop> {
+    if let Some(row) = combine(rows, rest, &plan.first, plan.var, bounds)? {
+        return Ok(Some(row));
+    }
+    combine(rows, rest, &plan.second, plan.var, bounds)
 }
 
 // The rows in which the variable occurs, and the others.
@@ -452,7 +493,7 @@ fn eliminate_all(
             var: next.var,
             rows: with,
         })?;
-        if let Some(row) = combine(rows, &mut rest, &next, bounds)? {
+        if let Some(row) = follow(rows, &mut rest, &next, bounds)? {
             return Ok(Some(Outcome::Closed(row)));
         }
         if rest.len() > ROWS_LIMIT {
@@ -492,6 +533,12 @@ fn model_of(
     }
 }
 
+// What it costs to compare so many rows with each other: a step for each 10,000 pairs or so.
+fn steps_for(count: usize) -> u64 {
+    let hundreds = (count / 100) as u64;
+    hundreds.saturating_mul(hundreds)
+}
+
 /// Eliminates all variables. With ranges, each variable is bounded by the range of `i64` too.
 ///
 /// Values that hold already are the answer, and a variable keeps its value where it can.
@@ -506,6 +553,7 @@ pub(crate) fn eliminate(
     if rows.all_hold(base, kept) {
         return Ok(Outcome::Model(kept.copy()?));
     }
+    rows.spend(steps_for(base.len()))?;
     let mut work = Vec::new(rows.alloc());
     if let Some(row) = put_all(rows, &mut work, base, bounds)? {
         return Ok(Outcome::Closed(row));

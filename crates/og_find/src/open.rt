@@ -16,7 +16,17 @@ pub(crate) struct Open<'a> {
     pub(crate) level: u32,
     pub(crate) index: usize,
     pub(crate) parts: &'a [Part],
+    pub(crate) size: usize,
     pub(crate) is_taken: bool,
+}
+
+/// How many facts there are in the parts of these choices.
+pub(crate) fn weight(open: &[Open]) -> usize {
+    let mut weight = 0usize;
+    for one in open {
+        weight = weight.saturating_add(one.size);
+    }
+    weight
 }
 
 // Whether the choice is open, and not true of the values if there are some.

@@ -22,12 +22,14 @@ pub(crate) struct Part {
     pub(crate) count: usize,
 }
 
-/// A choice of parts, and its place among the facts that it stands with, from 0.
+/// A choice of parts, its place among the facts that it stands with, from 0, and how many facts
+/// there are in its parts, in all.
 #[cycle(part)]
 #[derive(Debug, Drop)]
 pub(crate) struct Choice {
     pub(crate) index: usize,
     pub(crate) parts: Vec<Part>,
+    pub(crate) size: usize,
 }
 
 /// The facts, apart by their kind. Choices that have so many choices round them are left out.
@@ -44,7 +46,8 @@ pub(crate) fn part_of(alloc: Global, facts: &[Fact], depth: u32) -> Result<Part,
             Fact::Split(parts) => {
                 if let Some(below) = depth.checked_sub(1) {
                     let parts = parts_of(alloc, parts, below)?;
-                    choices.push(Choice { index, parts })?;
+                    let size = size_of_parts(&parts);
+                    choices.push(Choice { index, parts, size })?;
                 }
             }
         }
@@ -63,6 +66,23 @@ fn parts_of(alloc: Global, parts: &[Vec<Fact>], depth: u32) -> Result<Vec<Part>,
         out.push(part_of(alloc, facts, depth)?)?;
     }
     Ok(out)
+}
+
+// How many facts there are, with those in the parts of choices.
+fn size_of_part(part: &Part) -> usize {
+    let mut size = part.count;
+    for choice in &part.choices {
+        size = size.saturating_add(choice.size);
+    }
+    size
+}
+
+fn size_of_parts(parts: &[Part]) -> usize {
+    let mut size = 0usize;
+    for part in parts {
+        size = size.saturating_add(size_of_part(part));
+    }
+    size
 }
 
 impl Part {

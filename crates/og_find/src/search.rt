@@ -7,7 +7,7 @@ use crate::levels::{Levels, TOP};
 use crate::linear::Linear;
 use crate::model::Model;
 use crate::narrow::{Closed, close_within, narrow, note_bound};
-use crate::open::{Open, View, all_hold, common_to_choice, forced, pick};
+use crate::open::{Open, View, all_hold, common_to_choice, forced, pick, weight};
 use crate::part::Part;
 use crate::proof::{Case, Proof, Tree};
 use crate::rows::{Added, Origin, Rows};
@@ -122,20 +122,34 @@ impl<'a> Search<'a> {
                 level,
                 index: choice.index,
                 parts: &choice.parts,
+                size: choice.size,
                 is_taken: false,
             })?;
         }
         Ok(())
     }
 
-    // Takes in the facts of a level, one step for the level and one for each fact of a part.
+    // Takes a step for a level, and one for each 1,000 facts that are looked through there.
+    fn spend_level(&mut self) -> Result<(), Stop> {
+        let thousands = (weight(&self.open) / 1000) as u64;
+        self.rows.spend(thousands.saturating_add(1))
+    }
+
+    // Takes a step for each 10,000 looks at a fact or a row, where each choice is looked into.
+    fn spend_looks(&mut self) -> Result<(), Stop> {
+        let looks = weight(&self.open).saturating_add(self.base.len());
+        let all = self.open.len().saturating_mul(looks);
+        self.rows.spend((all / 10_000) as u64)
+    }
+
+    // Takes in the facts of a level, one step for each fact of a part.
     fn take_in(
         &mut self,
         entry: Entry<'a>,
         level: u32,
         bounds: &mut Bounds,
     ) -> Result<Closed, Stop> {
-        self.rows.spend(1)?;
+        self.spend_level()?;
         match entry {
             Entry::Side(form) => self.take_atom(form, level, 0, bounds),
             Entry::Part(part) => {
@@ -211,6 +225,7 @@ impl<'a> Search<'a> {
         if let Some((i, form)) = common_to_choice(self.alloc, &self.open, bounds, &self.model)? {
             return Ok(Decision::Branch(form, Some(i)));
         }
+        self.spend_looks()?;
         match pick(self.view(bounds), Some(&self.model))? {
             Some(i) => Ok(Decision::Split(i)),
             None => Err(Stop::Stuck),
@@ -219,10 +234,11 @@ impl<'a> Search<'a> {
 
     // What is done where no values were found.
     fn decide_without(
-        &self,
+        &mut self,
         gap: Option<(u32, i128)>,
         bounds: &Bounds,
     ) -> Result<Decision, Stop> {
+        self.spend_looks()?;
         if let Some(i) = pick(self.view(bounds), None)? {
             return Ok(Decision::Split(i));
         }
