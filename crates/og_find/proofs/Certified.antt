@@ -1,6 +1,6 @@
 -- What certificates of a list of facts say of its condition.
-use Rattle.std.proofs.Common.{◌≡◌, ◌⊎◌, inl, inr, ℕ, ◌-◌, ◌<◌, ℤ, List, [], ◌∷◌, length, Bool, true, false, ◌&&◌, not, Some, Ok, refl, sym, ap, ap₂, ◌∙◌, subst}
-use Rattle.std.specs.Prelude.{nat_lt, slice_get, IsSomeAnd, IsOkAnd, IfOk, OnOk, Result, Err, if◌then◌else◌}
+use Rattle.std.proofs.Common.{◌≡◌, inl, inr, ℕ, ◌-◌, ◌<◌, ℤ, List, [], ◌∷◌, length, Bool, true, false, ◌&&◌, not, Some, Ok, refl, sym, ◌∙◌, subst}
+use Rattle.std.specs.Prelude.{nat_lt, slice_get, IsOkAnd, IfOk, OnOk, Result, Err, if◌then◌else◌}
 use Rattle.std.specs.List.{AllByRecursion}
 use Rattle.og_linear.specs.Linear.{IsProper}
 use Rattle.og_cond.specs.Condition.{Condition, IsValid, hypotheses_true, goal_true}

@@ -36,7 +36,7 @@ terms_end ts s i e = ap (λ l. val_terms l s) (past ts i e)
 pub all_turn : (s : List ℤ) (fs : List its.Fact) (i : ℕ) (f : its.Fact) → i < length fs → f ≡ get_or fs i f → fact_true s (plain_fact f) ≡ true → all_true_at s (map plain_fact (drop (i + 1) fs)) ≡ all_true_at s (map plain_fact (drop i fs))
 all_turn s fs i f h e t =
     sym (ap (λ l. all_true_at s (map plain_fact l)) (drop_item fs i f h e)
-        ∙ ap (λ b. b && all_true_at s (map plain_fact (drop (i + 1) fs))) t)
+    ∙ ap (λ b. b && all_true_at s (map plain_fact (drop (i + 1) fs))) t)
 
 or_true : (b : Bool) → (b || true) ≡ true
 or_true true = refl

@@ -121,7 +121,15 @@ pub fn find_all(
             Some(next) => next,
             None => break,
         };
-        add_one(alloc, &mut file, &mut searched, conditions, condition, n, budget)?;
+        add_one(
+            alloc,
+            &mut file,
+            &mut searched,
+            conditions,
+            condition,
+            n,
+            budget,
+        )?;
     }
     Ok(file)
 }

@@ -457,11 +457,7 @@ fn follow(
 }
 
 // The rows in which the variable occurs, and the others.
-fn apart(
-    rows: &Rows,
-    work: &[usize],
-    var: u32,
-) -> Result<(Vec<usize>, Vec<usize>), AllocError> {
+fn apart(rows: &Rows, work: &[usize], var: u32) -> Result<(Vec<usize>, Vec<usize>), AllocError> {
     let mut with = Vec::new(rows.alloc());
     let mut without = Vec::new(rows.alloc());
     for r in work {

@@ -30,7 +30,12 @@ enum Claim {
 }
 
 // Searches among the facts.
-fn search_among(alloc: Global, part: &Part, variables: u32, budget: u64) -> Result<Claim, AllocError> {
+fn search_among(
+    alloc: Global,
+    part: &Part,
+    variables: u32,
+    budget: u64,
+) -> Result<Claim, AllocError> {
     let mut search = Search::new(alloc, variables, budget)?;
     let found = match search.run(part) {
         Ok(proof) => certificate(alloc, &proof, part.count),
@@ -45,11 +50,7 @@ fn search_among(alloc: Global, part: &Part, variables: u32, budget: u64) -> Resu
 }
 
 // Whether the certificate is well formed and closes the facts.
-pub(crate) fn is_closing(
-    alloc: Global,
-    list: &FactList,
-    cert: &Cert,
-) -> Result<bool, AllocError>
+pub(crate) fn is_closing(alloc: Global, list: &FactList, cert: &Cert) -> Result<bool, AllocError>
     ensures { IfOk result (λ yes. IsTrue yes → Closes list.now (plain_cert cert.now)) }
 {
     if !cert.is_well_formed() {
@@ -126,11 +127,7 @@ pub(crate) fn examine_facts(
 /// # Errors
 ///
 /// `AllocError` where an allocation was refused.
-pub fn examine(
-    alloc: Global,
-    condition: &Condition,
-    budget: u64,
-) -> Result<Verdict, AllocError>
+pub fn examine(alloc: Global, condition: &Condition, budget: u64) -> Result<Verdict, AllocError>
     ensures { IfOk result (IsVerdict (seen condition.now)) }
 {
     match facts(alloc, condition) {

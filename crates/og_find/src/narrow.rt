@@ -146,11 +146,7 @@ fn narrow_by(rows: &mut Rows, r: usize, bounds: &mut Bounds) -> Result<Closed, S
 }
 
 /// Adds the bounds that follow from the rows of several variables, each row once and in order.
-pub(crate) fn narrow(
-    rows: &mut Rows,
-    base: &[usize],
-    bounds: &mut Bounds,
-) -> Result<Closed, Stop> {
+pub(crate) fn narrow(rows: &mut Rows, base: &[usize], bounds: &mut Bounds) -> Result<Closed, Stop> {
     for r in base {
         if rows.form(*r).terms.len() > 1 {
             if let Some(row) = narrow_by(rows, *r, bounds)? {

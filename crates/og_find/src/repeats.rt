@@ -134,7 +134,11 @@ impl Searched {
         match facts(alloc, condition) {
             Ok(list) => {
                 let other = part_of(alloc, list.as_slice(), TOP)?;
-                Ok(if is_same_part(part, &other) { Some(number) } else { None })
+                Ok(if is_same_part(part, &other) {
+                    Some(number)
+                } else {
+                    None
+                })
             }
             Err(FactsError::Memory) => Err(AllocError),
             Err(FactsError::Fault(_)) => Ok(None),

@@ -175,13 +175,7 @@ impl Rows {
     }
 
     /// Adds the sum of two multiples of rows, where its numbers fit.
-    pub(crate) fn add_sum(
-        &mut self,
-        m: i128,
-        p: usize,
-        k: i128,
-        q: usize,
-    ) -> Result<Added, Stop> {
+    pub(crate) fn add_sum(&mut self, m: i128, p: usize, k: i128, q: usize) -> Result<Added, Stop> {
         let form = combined(self.alloc, m, self.form(p), k, self.form(q))?;
         match form {
             Some(form) => {
@@ -193,7 +187,12 @@ impl Rows {
     }
 
     /// The row of a bound of the variable.
-    pub(crate) fn bound_row(&mut self, var: u32, is_lower: bool, bound: Bound) -> Result<usize, Stop> {
+    pub(crate) fn bound_row(
+        &mut self,
+        var: u32,
+        is_lower: bool,
+        bound: Bound,
+    ) -> Result<usize, Stop> {
         if let Some(row) = bound.row {
             return Ok(row);
         }
@@ -242,4 +241,3 @@ impl Rows {
         true
     }
 }
-

@@ -57,7 +57,11 @@ pub(crate) struct Search<'a> {
 }
 
 impl<'a> Search<'a> {
-    pub(crate) fn new(alloc: Global, variables: u32, budget: u64) -> Result<Search<'a>, AllocError> {
+    pub(crate) fn new(
+        alloc: Global,
+        variables: u32,
+        budget: u64,
+    ) -> Result<Search<'a>, AllocError> {
         Ok(Search {
             alloc,
             variables,
@@ -101,12 +105,7 @@ impl<'a> Search<'a> {
         }
     }
 
-    fn take_atoms(
-        &mut self,
-        part: &Part,
-        level: u32,
-        bounds: &mut Bounds,
-    ) -> Result<Closed, Stop> {
+    fn take_atoms(&mut self, part: &Part, level: u32, bounds: &mut Bounds) -> Result<Closed, Stop> {
         for atom in &part.atoms {
             let form = atom.form.copy()?;
             if let Some(row) = self.take_atom(form, level, atom.index, bounds)? {
@@ -173,12 +172,7 @@ impl<'a> Search<'a> {
     }
 
     // Takes in the facts of a level and the bounds that follow. Tells the row that closes.
-    fn begin(
-        &mut self,
-        entry: Entry<'a>,
-        level: u32,
-        bounds: &mut Bounds,
-    ) -> Result<Closed, Stop> {
+    fn begin(&mut self, entry: Entry<'a>, level: u32, bounds: &mut Bounds) -> Result<Closed, Stop> {
         let from = self.base.len();
         if let Some(row) = self.take_in(entry, level, bounds)? {
             return Ok(Some(row));

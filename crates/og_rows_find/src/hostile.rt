@@ -208,7 +208,10 @@ fn are_alike(alloc: Global, a: &Cert, b: &Cert) -> Result<bool, AllocError> {
 }
 
 fn expect_alike(rt: &impl Abort, alloc: Global, condition: &Condition) -> Result<(), Fail> {
-    match (find(alloc, condition, BUDGET)?, find(alloc, condition, LARGE)?) {
+    match (
+        find(alloc, condition, BUDGET)?,
+        find(alloc, condition, LARGE)?,
+    ) {
         (Some(one), Some(other)) => assert!(rt; are_alike(alloc, &one, &other)?),
         _ => panic!(rt; "none is found"),
     }

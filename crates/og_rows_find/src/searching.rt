@@ -1,7 +1,7 @@
 //! Certificates that are found, and states in which conditions are false.
 
 use crate::outlines::outline_of;
-use crate::sources::{EQUAL_ADD, NESTED, NOT_EVEN, TOLD_ADD, TWO_ADD, alike, add_times};
+use crate::sources::{EQUAL_ADD, NESTED, NOT_EVEN, TOLD_ADD, TWO_ADD, add_times, alike};
 use og_cert_text::{CertFile, write_certs};
 use og_cond::{Condition, conditions};
 use og_find::{Verdict, examine, find, find_all, has_all};

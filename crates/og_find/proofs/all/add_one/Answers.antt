@@ -13,5 +13,5 @@ returns-in-Ok c =
     let after = shown c.add_found.new.file in
     let list = c.in-Ok.list in
     on_ok c.add_found.result (Gains list c.args.n before after) (AreOf cs after)
-      (λ g. gained cs condition list c.args.n before after c.requires.above c.requires.own c.in-Ok.ensures.0 c.in-Ok.ensures.1 g c.requires.before)
-      c.add_found.ensures
+    (λ g. gained cs condition list c.args.n before after c.requires.above c.requires.own c.in-Ok.ensures.0 c.in-Ok.ensures.1 g c.requires.before)
+    c.add_found.ensures

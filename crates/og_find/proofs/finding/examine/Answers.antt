@@ -8,5 +8,5 @@ returns-in_ok-part-in-Ok c =
     let condition = seen c.args.condition.now in
     let list = c.in-Ok.list in
     if_ok c.examine_facts.result (IsVerdictOn list) (IsVerdict condition)
-      (λ v h. verdict_on condition list v c.in-Ok.ensures.0 c.in-Ok.ensures.1 h)
-      c.examine_facts.ensures
+    (λ v h. verdict_on condition list v c.in-Ok.ensures.0 c.in-Ok.ensures.1 h)
+    c.examine_facts.ensures

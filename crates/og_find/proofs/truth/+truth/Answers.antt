@@ -18,4 +18,4 @@ pub some_true-returns-then-all_true : goal.some_true-returns-then-all_true
 some_true-returns-then-all_true t c = λ yes.
     let s = c.args.state.now in
     some_at s c.args.parts.now c.loop-part.part-index c.part-item.result c.loop-part-test.true c.part-item.is
-      (ap (λ l. all_true_at s (map plain_fact l)) (sym c.deref.ensures.value) ∙ c.all_true.ensures c.if-all_true.true)
+    (ap (λ l. all_true_at s (map plain_fact l)) (sym c.deref.ensures.value) ∙ c.all_true.ensures c.if-all_true.true)

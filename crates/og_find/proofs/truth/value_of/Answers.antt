@@ -22,7 +22,7 @@ loop-i-preserved c =
     let range : FitsSigned w128 c.in-Some.c = search rules in
     let short : FitsSigned w64 c.value_at.result = search rules in
     let added : next ≡ sum +ℤ c.in-Some.c *ℤ value_at s c.in-Some.var =
-        c.in_ok-sum-in-Some.ensures
-        ∙ ap₂ (λ (k v : ℤ). sum +ℤ k *ℤ v) (to_z-of_z w128 c.in-Some.c range) (to_z-of_z w64 c.value_at.result short ∙ c.value_at.ensures) in
+    c.in_ok-sum-in-Some.ensures
+    ∙ ap₂ (λ (k v : ℤ). sum +ℤ k *ℤ v) (to_z-of_z w128 c.in-Some.c range) (to_z-of_z w64 c.value_at.result short ∙ c.value_at.ensures) in
     ap (λ (z : ℤ). val_terms (drop (c.loop-i.i + 1) f.terms) s +ℤ z) same
     ∙ value_turn f s c.loop-i.i c.in-Some.var c.in-Some.c _ next found added c.loop-i.invariant
