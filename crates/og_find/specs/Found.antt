@@ -1,0 +1,50 @@
+-- What is found for conditions.
+use Rattle.std.specs.Prelude.{◌≡◌, ◌⊎◌, ℕ, ◌-◌, ◌<◌, ℤ, List, length, true, false, ⊤, IsSomeAnd, IsOkAnd, slice_get}
+use Rattle.std.specs.List.{AllByRecursion}
+use Rattle.og_linear.specs.Linear.{IsProper}
+use Rattle.og_cond.specs.Condition.{Condition, hypotheses_true, goal_true}
+use Rattle.og_facts.specs.Facts.{facts_of, all_true_at}
+use Rattle.og_facts.specs.Listed.{Listed}
+use Rattle.og_cert_text.specs.Tree.{Cert}
+use Rattle.og_cert_text.specs.Plain.{plain_cert}
+use Rattle.og_cert_text.specs.Lines.{is_well_formed}
+use Rattle.og_cert_text.specs.Files.{Entries, with_entry}
+use Rattle.og_cert.specs.Closes.{closes}
+use Rattle.og_find.specs.declared.verdict.Verdict.{Verdict}
+use Rattle.og_find.specs.declared.verdict.Verdict.TheVariants as verdicts
+
+-- the certificate is well formed, and it closes the facts of the condition
+abbrev pub Certifies : Condition → Cert → Type 0
+Certifies c proof = (is_well_formed proof ≡ true) × IsOkAnd (facts_of c) (λ fs. closes c.variables fs proof ≡ true)
+
+-- a state of i64 values, one for each variable, in which the hypotheses are true and the goal is false
+abbrev pub IsFalseAt : Condition → List ℤ → Type 0
+IsFalseAt c s = IsProper s × (length s ≡ c.variables) × (hypotheses_true s c.hypotheses ≡ true) × (goal_true s c.action c.goal ≡ false)
+
+-- what is told of the condition is so
+abbrev pub IsVerdict : Condition → Verdict → Type 0
+IsVerdict c (verdicts.True cert) = Certifies c (plain_cert cert)
+IsVerdict c (verdicts.False s) = IsFalseAt c s
+IsVerdict c verdicts.Open = ⊤
+
+-- the entry is of a condition of the list, counted from 1, and certifies it
+abbrev pub IsOfOne : List Condition → ℕ × Cert → Type 0
+IsOfOne cs e = (0 < e.0) × IsSomeAnd (slice_get cs (e.0 - 1)) (λ c. Certifies c e.1)
+
+-- each entry is of a condition, and certifies it
+abbrev pub AreOf : List Condition → Entries → Type 0
+AreOf cs = AllByRecursion (IsOfOne cs)
+
+-- ---- of a list of facts
+
+abbrev pub Closes : Listed → Cert → Type 0
+Closes list proof = (is_well_formed proof ≡ true) × (closes list.variables list.facts proof ≡ true)
+
+abbrev pub IsVerdictOn : Listed → Verdict → Type 0
+IsVerdictOn list (verdicts.True cert) = Closes list (plain_cert cert)
+IsVerdictOn list (verdicts.False s) = IsProper s × (length s ≡ list.variables) × (all_true_at s list.facts ≡ true)
+IsVerdictOn list verdicts.Open = ⊤
+
+-- the file is as before, or it has a certificate more, which closes the facts
+abbrev pub Gains : Listed → ℕ → Entries → Entries → Type 0
+Gains list n before after = (after ≡ before) ⊎ ((c : Cert) × Closes list c × (after ≡ with_entry n c before))

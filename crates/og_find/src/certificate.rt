@@ -1,0 +1,150 @@
+//! The certificate of a refutation: its facts get their numbers.
+
+use crate::levels::TOP;
+use crate::linear::Linear;
+use crate::proof::{Case, Line, Multiple, Name, Proof, Tree};
+use crate::stop::Stop;
+use og_cert::{Cert, CertStep, Finish, Source, Term};
+use og_linear::{Form, FormError};
+use std::alloc::Global;
+
+// How many facts stand before those of each level.
+#[derive(Drop)]
+struct Starts {
+    alloc: Global,
+    starts: Vec<usize>,
+}
+
+impl Starts {
+    fn set(&mut self, level: u32, start: usize) {
+        if let Some(place) = self.starts.get_mut(level as usize) {
+            *place = start;
+        }
+    }
+
+    fn number(&self, level: u32, index: usize) -> Option<u32> {
+        let start = self.starts.get(level as usize).copied()?;
+        number_behind(start, index)
+    }
+}
+
+// The number of a fact with this place behind others.
+fn number_behind(start: usize, index: usize) -> Option<u32> {
+    let number = start.checked_add(index)?.checked_add(1)?;
+    u32::try_from(number).ok()
+}
+
+// What the name stands for, where the leaf's lines stand behind so many facts.
+fn source_of(starts: &Starts, count: usize, name: Name) -> Option<Source> {
+    match name {
+        Name::Given(level, index) => Some(Source::Known(starts.number(level, index)?)),
+        Name::Low(var) => Some(Source::Low(var)),
+        Name::High(var) => Some(Source::High(var)),
+        Name::Line(place) => Some(Source::Known(number_behind(count, place)?)),
+    }
+}
+
+fn term_of(starts: &Starts, count: usize, multiple: Multiple) -> Option<Term> {
+    Some(Term {
+        times: u64::try_from(multiple.times).ok()?,
+        source: source_of(starts, count, multiple.name)?,
+    })
+}
+
+fn terms_of(starts: &Starts, count: usize, sum: &[Multiple]) -> Result<Vec<Term>, Stop> {
+    let mut terms = Vec::with_capacity(starts.alloc, sum.len())?;
+    for multiple in sum {
+        terms.push(term_of(starts, count, *multiple).ok_or(Stop::Stuck)?)?;
+    }
+    Ok(terms)
+}
+
+fn cut_of(starts: &Starts, count: usize, name: Name, divisor: i128) -> Option<CertStep> {
+    let divisor = u64::try_from(divisor).ok()?;
+    match source_of(starts, count, name)? {
+        Source::Known(number) => Some(CertStep::Cut(number, divisor)),
+        _ => None,
+    }
+}
+
+fn step_of(starts: &Starts, count: usize, line: &Line) -> Result<CertStep, Stop> {
+    match line {
+        Line::Sum(sum) => Ok(CertStep::Sum(terms_of(starts, count, sum)?)),
+        Line::Cut(name, divisor) => cut_of(starts, count, *name, *divisor).ok_or(Stop::Stuck),
+    }
+}
+
+fn leaf_of(starts: &Starts, count: usize, lines: &[Line], end: &[Multiple]) -> Result<Cert, Stop> {
+    let mut steps = Vec::with_capacity(starts.alloc, lines.len())?;
+    for line in lines {
+        steps.push(step_of(starts, count, line)?)?;
+    }
+    Ok(Cert {
+        steps,
+        finish: Finish::Close(terms_of(starts, count, end)?),
+    })
+}
+
+fn form_of(alloc: Global, row: &Linear) -> Result<Form, FormError> {
+    let mut form = Form::constant(alloc, row.constant);
+    for t in &row.terms {
+        form.add_scaled(t.1, &Form::variable(alloc, t.0)?)?;
+    }
+    Ok(form)
+}
+
+// The form of a branch.
+fn branch_form(alloc: Global, row: &Linear) -> Result<Form, Stop> {
+    match form_of(alloc, row) {
+        Ok(form) => Ok(form),
+        Err(FormError::Memory) => Err(Stop::Memory),
+        Err(FormError::Fault(_)) => Err(Stop::Stuck),
+    }
+}
+
+// The certificate of a refutation that stands behind so many facts.
+#[cycle(numbering)]
+fn cert_of(proof: &Proof, count: usize, starts: &mut Starts) -> Result<Cert, Stop> {
+    let alloc = starts.alloc;
+    let finish = match &proof.tree {
+        Tree::Leaf(lines, end) => return leaf_of(starts, count, lines, end),
+        Tree::Split(level, index, cases) => {
+            let number = starts.number(*level, *index).ok_or(Stop::Stuck)?;
+            Finish::Split(number, certs_of(cases, count, starts)?)
+        }
+        Tree::Branch(level, row, first, second) => {
+            let form = branch_form(alloc, row)?;
+            let behind = count.checked_add(1).ok_or(Stop::Stuck)?;
+            starts.set(*level, count);
+            let low = cert_of(first, behind, starts)?;
+            starts.set(*level, count);
+            let high = cert_of(second, behind, starts)?;
+            Finish::Branch(form, Box::new(alloc, low)?, Box::new(alloc, high)?)
+        }
+    };
+    Ok(Cert {
+        steps: Vec::new(alloc),
+        finish,
+    })
+}
+
+#[cycle(numbering)]
+fn certs_of(cases: &[Case], count: usize, starts: &mut Starts) -> Result<Vec<Cert>, Stop> {
+    let mut certs = Vec::with_capacity(starts.alloc, cases.len())?;
+    for case in cases {
+        let behind = count.checked_add(case.count).ok_or(Stop::Stuck)?;
+        starts.set(case.level, count);
+        certs.push(cert_of(&case.proof, behind, starts)?)?;
+    }
+    Ok(certs)
+}
+
+/// The certificate of a refutation of so many facts.
+pub(crate) fn certificate(alloc: Global, proof: &Proof, count: usize) -> Result<Cert, Stop> {
+    let mut starts = Starts {
+        alloc,
+        starts: vec![in alloc; 0; TOP as usize + 1]?,
+    };
+    starts.set(TOP, 0);
+    cert_of(proof, count, &mut starts)
+}

@@ -1,0 +1,160 @@
+//! Certificates of conditions, and states in which conditions are false.
+
+ghost use Rattle.std.specs.Prelude.{◌≡◌, length, true, IfOk, IfSome, OnSome, IsTrue, vec_len};
+ghost use Rattle.og_cond.specs.Condition as plain;
+ghost use Rattle.og_cond.specs.Seen.{seen};
+ghost use Rattle.og_facts.specs.Facts.{all_true_at};
+ghost use Rattle.og_cert_text.specs.Plain.{plain_cert};
+ghost use Rattle.og_find.specs.Found.{Certifies, Closes, IsVerdict, IsVerdictOn};
+
+use crate::certificate::certificate;
+use crate::levels::TOP;
+use crate::model::Model;
+use crate::part::{Part, part_of};
+use crate::search::Search;
+use crate::stop::Stop;
+use crate::truth::all_true;
+use crate::verdict::Verdict;
+use og_cert::{Cert, ReplayError, replay};
+use og_cond::Condition;
+use og_facts::{FactList, FactsError, facts};
+use og_linear::State;
+use std::alloc::{AllocError, Global};
+
+// What a search ends with, before it is checked.
+#[derive(Debug, Drop)]
+enum Claim {
+    Closed(Cert),
+    Values(Model),
+    Nothing,
+}
+
+// Searches among the facts.
+fn search_among(
+    alloc: Global,
+    part: &Part,
+    variables: u32,
+    budget: u64,
+) -> Result<Claim, AllocError> {
+    let mut search = Search::new(alloc, variables, budget)?;
+    let found = match search.run(part) {
+        Ok(proof) => certificate(alloc, &proof, part.count),
+        Err(stop) => Err(stop),
+    };
+    match found {
+        Ok(cert) => Ok(Claim::Closed(cert)),
+        Err(Stop::Memory) => Err(AllocError),
+        Err(Stop::Model) => Ok(Claim::Values(search.into_model())),
+        Err(_) => Ok(Claim::Nothing),
+    }
+}
+
+// Whether the certificate is well formed and closes the facts.
+pub(crate) fn is_closing(alloc: Global, list: &FactList, cert: &Cert) -> Result<bool, AllocError>
+    ensures { IfOk result (λ yes. IsTrue yes → Closes list.now (plain_cert cert.now)) }
+{
+    if !cert.is_well_formed() {
+        return Ok(false);
+    }
+    match replay(alloc, list, cert) {
+        Ok(()) => Ok(true),
+        Err(ReplayError::Memory) => Err(AllocError),
+        Err(ReplayError::Fault(_)) => Ok(false),
+    }
+}
+
+// The values of the first variables, where each is an i64.
+fn values_of(alloc: Global, model: &Model, variables: u32) -> Result<Option<Vec<i64>>, AllocError>
+    ensures { IfOk result (λ some. IfSome some (λ v. vec_len v ≡ variables)) }
+{
+    let mut values = Vec::with_capacity(alloc, variables as usize)?;
+    for var in 0..variables {
+        match i64::try_from(model.value(var)) {
+            Ok(value) => values.push(value)?,
+            Err(_) => return Ok(None),
+        }
+    }
+    Ok(Some(values))
+}
+
+// The state of these values, if all facts are true in it.
+fn state_of(alloc: Global, list: &FactList, model: &Model) -> Result<Option<State>, AllocError>
+    ensures { IfOk result (λ some. IfSome some (λ s.
+        (length s ≡ list.now.variables) × (all_true_at s list.now.facts ≡ true))) }
+{
+    let values = match values_of(alloc, model, list.variables())? {
+        Some(values) => values,
+        None => return Ok(None),
+    };
+    let state = State::new(values);
+    if all_true(list.as_slice(), &state, TOP) {
+        Ok(Some(state))
+    } else {
+        Ok(None)
+    }
+}
+
+/// The verdict on a condition with these facts, by a search and a check of what it claims.
+pub(crate) fn examine_facts(
+    alloc: Global,
+    list: &FactList,
+    part: &Part,
+    budget: u64,
+) -> Result<Verdict, AllocError>
+    ensures { IfOk result (IsVerdictOn list.now) }
+{
+    match search_among(alloc, part, list.variables(), budget)? {
+        Claim::Closed(cert) => {
+            if is_closing(alloc, list, &cert)? {
+                return Ok(Verdict::True(cert));
+            }
+        }
+        Claim::Values(model) => {
+            if let Some(state) = state_of(alloc, list, &model)? {
+                return Ok(Verdict::False(state));
+            }
+        }
+        Claim::Nothing => {}
+    }
+    Ok(Verdict::Open)
+}
+
+/// What a search within the budget tells of the condition.
+///
+/// One step of the budget is one fact added, or one branch or part begun. The verdict is the same
+/// each time.
+///
+/// # Errors
+///
+/// `AllocError` where an allocation was refused.
+pub fn examine(alloc: Global, condition: &Condition, budget: u64) -> Result<Verdict, AllocError>
+    ensures { IfOk result (IsVerdict (seen condition.now)) }
+{
+    match facts(alloc, condition) {
+        Ok(list) => {
+            let part = part_of(alloc, list.as_slice(), TOP)?;
+            examine_facts(alloc, &list, &part, budget)
+        }
+        Err(FactsError::Memory) => Err(AllocError),
+        Err(FactsError::Fault(_)) => Ok(Verdict::Open),
+    }
+}
+
+/// A certificate of the condition, if a search within the budget finds one: then the condition is
+/// true in every state of `i64` values. None says nothing of the condition.
+///
+/// One step of the budget is one fact added, or one branch or part begun. The answer is the same
+/// each time.
+///
+/// # Errors
+///
+/// `AllocError` where an allocation was refused.
+pub fn find(alloc: Global, condition: &Condition, budget: u64) -> Result<Option<Cert>, AllocError>
+    ensures certified { IfOk result (λ found. IfSome found (λ cert. Certifies (seen condition.now) (plain_cert cert))) }
+    ensures valid { IfOk result (λ found. OnSome found (plain.IsValid (seen condition.now))) }
+{
+    match examine(alloc, condition, budget)? {
+        Verdict::True(cert) => Ok(Some(cert)),
+        _ => Ok(None),
+    }
+}

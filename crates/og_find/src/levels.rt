@@ -1,0 +1,45 @@
+//! Sets of levels: how deep the facts were met that a row rests on.
+
+/// The level of the condition's own facts. Each level below has one less, down to 0.
+pub(crate) const TOP: u32 = 200;
+
+/// A set of levels from 0 to 255.
+#[derive(Clone, Copy, Debug, PartialEq, Eq)]
+pub(crate) struct Levels {
+    low: u128,
+    high: u128,
+}
+
+impl Levels {
+    pub(crate) const NONE: Levels = Levels { low: 0, high: 0 };
+
+    /// The set of this level alone.
+    pub(crate) fn one(level: u32) -> Levels {
+        let low = 1u128.checked_shl(level).unwrap_or(0);
+        let high = match level.checked_sub(128) {
+            Some(above) => 1u128.checked_shl(above).unwrap_or(0),
+            None => 0,
+        };
+        Levels { low, high }
+    }
+
+    pub(crate) fn union(self, other: Levels) -> Levels {
+        Levels {
+            low: self.low | other.low,
+            high: self.high | other.high,
+        }
+    }
+
+    pub(crate) fn has(self, level: u32) -> bool {
+        let one = Levels::one(level);
+        self.low & one.low != 0 || self.high & one.high != 0
+    }
+
+    pub(crate) fn without(self, level: u32) -> Levels {
+        let one = Levels::one(level);
+        Levels {
+            low: self.low & !one.low,
+            high: self.high & !one.high,
+        }
+    }
+}

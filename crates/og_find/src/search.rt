@@ -1,0 +1,365 @@
+//! The search: it takes in facts, closes or picks a choice, and goes into each part.
+
+use crate::bounds::Bounds;
+use crate::eliminate::{Outcome, eliminate};
+use crate::leaf::leaf;
+use crate::levels::{Levels, TOP};
+use crate::linear::Linear;
+use crate::model::Model;
+use crate::narrow::{Closed, close_within, narrow, note_bound};
+use crate::open::{Open, View, all_hold, common_to_choice, forced, pick, weight};
+use crate::part::Part;
+use crate::proof::{Case, Proof, Tree};
+use crate::rows::{Added, Origin, Rows};
+use crate::stop::Stop;
+use std::alloc::{AllocError, Global};
+
+/// Below this level a choice is taken only where it is false of the values.
+const EAGER_LEVEL: u32 = 50;
+
+/// The greatest number, in magnitude, at which a variable's values are divided.
+const GAP_LIMIT: u128 = 1 << 120;
+
+// The facts with which a level begins.
+#[derive(Drop)]
+enum Entry<'a> {
+    // Those of a part.
+    Part(&'a Part),
+    // One side of a branch.
+    Side(Linear),
+}
+
+// What is done at a level.
+#[derive(Drop)]
+enum Decision {
+    // It closes with this row.
+    Close(usize),
+    // It goes into the parts of this choice.
+    Split(usize),
+    // It goes into both sides of the form, and on the second into this choice.
+    Branch(Linear, Option<usize>),
+}
+
+/// A search among the facts of a condition.
+#[derive(Drop)]
+pub(crate) struct Search<'a> {
+    alloc: Global,
+    variables: u32,
+    rows: Rows,
+    // The rows of the facts on the path.
+    base: Vec<usize>,
+    // The choices on the path.
+    open: Vec<Open<'a>>,
+    // The values that were tried last.
+    model: Model,
+    // The choice to be taken next, whatever the values.
+    next: Option<usize>,
+}
+
+impl<'a> Search<'a> {
+    pub(crate) fn new(
+        alloc: Global,
+        variables: u32,
+        budget: u64,
+    ) -> Result<Search<'a>, AllocError> {
+        Ok(Search {
+            alloc,
+            variables,
+            rows: Rows::new(alloc, budget),
+            base: Vec::new(alloc),
+            open: Vec::new(alloc),
+            model: Model::new(alloc, variables as usize)?,
+            next: None,
+        })
+    }
+
+    /// The values at which the search ended, where it ended by them.
+    pub(crate) fn into_model(self) -> Model {
+        self.model
+    }
+
+    fn view<'v>(&'v self, bounds: &'v Bounds) -> View<'v, 'a> {
+        View {
+            rows: &self.rows,
+            base: &self.base,
+            open: &self.open,
+            bounds,
+        }
+    }
+
+    // Adds a fact as a row. Tells the row that closes where one does.
+    fn take_atom(
+        &mut self,
+        form: Linear,
+        level: u32,
+        index: usize,
+        bounds: &mut Bounds,
+    ) -> Result<Closed, Stop> {
+        match self.rows.add(form, Origin::Given(level, index))? {
+            Added::Closed(row) => Ok(Some(row)),
+            Added::Nothing => Ok(None),
+            Added::Row(row) => {
+                self.base.push(row)?;
+                note_bound(&mut self.rows, row, bounds)
+            }
+        }
+    }
+
+    fn take_atoms(&mut self, part: &Part, level: u32, bounds: &mut Bounds) -> Result<Closed, Stop> {
+        for atom in &part.atoms {
+            let form = atom.form.copy()?;
+            if let Some(row) = self.take_atom(form, level, atom.index, bounds)? {
+                return Ok(Some(row));
+            }
+        }
+        Ok(None)
+    }
+
+    fn take_choices(&mut self, part: &'a Part, level: u32) -> Result<(), AllocError> {
+        for choice in &part.choices {
+            self.open.push(Open {
+                level,
+                index: choice.index,
+                parts: &choice.parts,
+                size: choice.size,
+                is_taken: false,
+            })?;
+        }
+        Ok(())
+    }
+
+    // Takes a step for a level, and one for each 1,000 facts that are looked through there.
+    fn spend_level(&mut self) -> Result<(), Stop> {
+        let thousands = (weight(&self.open) / 1000) as u64;
+        self.rows.spend(thousands.saturating_add(1))
+    }
+
+    // Takes a step for each 10,000 looks at a fact or a row, where each choice is looked into.
+    fn spend_looks(&mut self) -> Result<(), Stop> {
+        let looks = weight(&self.open).saturating_add(self.base.len());
+        let all = self.open.len().saturating_mul(looks);
+        self.rows.spend((all / 10_000) as u64)
+    }
+
+    // Takes in the facts of a level, one step for each fact of a part.
+    fn take_in(
+        &mut self,
+        entry: Entry<'a>,
+        level: u32,
+        bounds: &mut Bounds,
+    ) -> Result<Closed, Stop> {
+        self.spend_level()?;
+        match entry {
+            Entry::Side(form) => self.take_atom(form, level, 0, bounds),
+            Entry::Part(part) => {
+                if level < TOP {
+                    self.rows.spend(part.count as u64)?;
+                }
+                self.take_choices(part, level)?;
+                self.take_atoms(part, level, bounds)
+            }
+        }
+    }
+
+    // Closes where one of the new rows is false within the bounds.
+    fn close_new(&mut self, from: usize, bounds: &Bounds) -> Result<Closed, Stop> {
+        for r in self.base.iter().skip(from) {
+            if let Some(row) = close_within(&mut self.rows, *r, bounds)? {
+                return Ok(Some(row));
+            }
+        }
+        Ok(None)
+    }
+
+    // Takes in the facts of a level and the bounds that follow. Tells the row that closes.
+    fn begin(&mut self, entry: Entry<'a>, level: u32, bounds: &mut Bounds) -> Result<Closed, Stop> {
+        let from = self.base.len();
+        if let Some(row) = self.take_in(entry, level, bounds)? {
+            return Ok(Some(row));
+        }
+        if let Some(row) = self.close_new(from, bounds)? {
+            return Ok(Some(row));
+        }
+        narrow(&mut self.rows, &self.base, bounds)
+    }
+
+    // Eliminates all variables, at first without the range of `i64`.
+    fn eliminate(&mut self, bounds: &Bounds) -> Result<Outcome, Stop> {
+        let mark = self.rows.len();
+        for with_ranges in [false, true] {
+            let outcome = eliminate(
+                &mut self.rows,
+                &self.base,
+                bounds,
+                &self.model,
+                self.variables,
+                with_ranges,
+            )?;
+            match outcome {
+                Outcome::Closed(row) => return Ok(Outcome::Closed(row)),
+                Outcome::OutOfRange => self.rows.forget(mark),
+                other => {
+                    self.rows.forget(mark);
+                    return Ok(other);
+                }
+            }
+        }
+        Ok(Outcome::Unknown)
+    }
+
+    // What is done where all rows hold of these values.
+    fn decide_at(&mut self, model: Model, bounds: &Bounds) -> Result<Decision, Stop> {
+        self.model = model;
+        if all_hold(&self.open, &self.model) {
+            return Err(Stop::Model);
+        }
+        if let Some(i) = forced(&self.open, bounds, Some(&self.model)) {
+            return Ok(Decision::Split(i));
+        }
+        if let Some((i, form)) = common_to_choice(self.alloc, &self.open, bounds, &self.model)? {
+            return Ok(Decision::Branch(form, Some(i)));
+        }
+        self.spend_looks()?;
+        match pick(self.view(bounds), Some(&self.model))? {
+            Some(i) => Ok(Decision::Split(i)),
+            None => Err(Stop::Stuck),
+        }
+    }
+
+    // What is done where no values were found.
+    fn decide_without(
+        &mut self,
+        gap: Option<(u32, i128)>,
+        bounds: &Bounds,
+    ) -> Result<Decision, Stop> {
+        self.spend_looks()?;
+        if let Some(i) = pick(self.view(bounds), None)? {
+            return Ok(Decision::Split(i));
+        }
+        let (var, value) = match gap {
+            Some(gap) => gap,
+            None => return Err(Stop::Stuck),
+        };
+        if value.unsigned_abs() > GAP_LIMIT {
+            return Err(Stop::Stuck);
+        }
+        let constant = value.checked_neg().ok_or(Stop::Stuck)?;
+        let form = Linear::single(self.alloc, var, 1, constant)?;
+        Ok(Decision::Branch(form, None))
+    }
+
+    // What is done at a level whose facts were taken in.
+    fn go_on(&mut self, level: u32, bounds: &Bounds) -> Result<Decision, Stop> {
+        if let Some(i) = self.next.take() {
+            return Ok(Decision::Split(i));
+        }
+        if level > EAGER_LEVEL {
+            if let Some(i) = forced(&self.open, bounds, None) {
+                return Ok(Decision::Split(i));
+            }
+        }
+        match self.eliminate(bounds)? {
+            Outcome::Closed(row) => Ok(Decision::Close(row)),
+            Outcome::Model(model) => self.decide_at(model, bounds),
+            Outcome::Gap(var, value) => self.decide_without(Some((var, value)), bounds),
+            Outcome::OutOfRange => self.decide_without(None, bounds),
+            Outcome::Unknown => self.decide_without(None, bounds),
+        }
+    }
+
+    // Marks the choice as taken or not. Tells it, if it is there.
+    fn set_taken(&mut self, i: usize, is_taken: bool) -> Option<Open<'a>> {
+        let open = self.open.get_mut(i)?;
+        open.is_taken = is_taken;
+        Some(*open)
+    }
+
+    // Searches at a level, and leaves the path as it was.
+    #[cycle(search)]
+    fn at_level(&mut self, level: u32, entry: Entry<'a>, bounds: &Bounds) -> Result<Proof, Stop> {
+        let (rows, base, open) = (self.rows.len(), self.base.len(), self.open.len());
+        let proof = self.refute(level, entry, bounds)?;
+        self.rows.forget(rows);
+        self.base.truncate(base);
+        self.open.truncate(open);
+        Ok(proof)
+    }
+
+    #[cycle(search)]
+    fn refute(&mut self, level: u32, entry: Entry<'a>, bounds: &Bounds) -> Result<Proof, Stop> {
+        let mut own = bounds.copy()?;
+        if let Some(row) = self.begin(entry, level, &mut own)? {
+            self.next = None;
+            return Ok(leaf(&self.rows, row)?);
+        }
+        let below = match level.checked_sub(1) {
+            Some(below) => below,
+            None => return Err(Stop::Stuck),
+        };
+        match self.go_on(level, &own)? {
+            Decision::Close(row) => Ok(leaf(&self.rows, row)?),
+            Decision::Split(i) => self.split(below, i, &own),
+            Decision::Branch(form, next) => self.branch(below, form, next, &own),
+        }
+    }
+
+    // Goes into the parts of a choice. A refutation that needs no fact of its part stands for all.
+    #[cycle(search)]
+    fn split(&mut self, below: u32, i: usize, bounds: &Bounds) -> Result<Proof, Stop> {
+        let choice = self.set_taken(i, true).ok_or(Stop::Stuck)?;
+        let mut used = Levels::one(choice.level);
+        let mut cases = Vec::with_capacity(self.alloc, choice.parts.len())?;
+        for part in choice.parts {
+            let proof = self.at_level(below, Entry::Part(part), bounds)?;
+            if !proof.used.has(below) {
+                self.set_taken(i, false);
+                return Ok(proof);
+            }
+            used = used.union(proof.used.without(below));
+            cases.push(Case {
+                level: below,
+                count: part.count,
+                proof,
+            })?;
+        }
+        self.set_taken(i, false);
+        Ok(Proof {
+            used,
+            tree: Tree::Split(choice.level, choice.index, cases),
+        })
+    }
+
+    // Goes into both sides of a form.
+    #[cycle(search)]
+    fn branch(
+        &mut self,
+        below: u32,
+        form: Linear,
+        next: Option<usize>,
+        bounds: &Bounds,
+    ) -> Result<Proof, Stop> {
+        let other = form.otherwise(self.alloc)?.ok_or(Stop::Stuck)?;
+        let first = self.at_level(below, Entry::Side(form.copy()?), bounds)?;
+        if !first.used.has(below) {
+            return Ok(first);
+        }
+        self.next = next;
+        let second = self.at_level(below, Entry::Side(other), bounds)?;
+        if !second.used.has(below) {
+            return Ok(second);
+        }
+        let used = first.used.union(second.used).without(below);
+        let first = Box::new(self.alloc, first)?;
+        let second = Box::new(self.alloc, second)?;
+        Ok(Proof {
+            used,
+            tree: Tree::Branch(below, form, first, second),
+        })
+    }
+
+    /// A refutation of the facts, if the search finds one.
+    pub(crate) fn run(&mut self, facts: &'a Part) -> Result<Proof, Stop> {
+        let bounds = Bounds::new(self.alloc, self.variables as usize)?;
+        self.at_level(TOP, Entry::Part(facts), &bounds)
+    }
+}
