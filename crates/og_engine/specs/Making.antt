@@ -1,0 +1,42 @@
+-- What is printed of certificates that are made, and the status.
+use Rattle.std.specs.Prelude.{◌≡◌, ◌<◌, ◌≤◌, ◌⊎◌, ℕ, List, [], length, Ok, IsSome}
+use Rattle.og_typed.specs.Syntax.{Program}
+use Rattle.og_cond.specs.Conditions.{conditions}
+use Rattle.og_cert_text.specs.Files.{Entries, certificate_of}
+use Rattle.og_cert_text.specs.Text.{file_text}
+use Rattle.og_cert_text.specs.declared.fault.CertTextFault.{CertTextFault}
+use Rattle.og_cert_read.specs.Read.{Gives, IsWrong}
+use Rattle.og_cert_read.specs.Shared.{shared_text}
+use Rattle.og_find.specs.Found.{AreOf}
+use Rattle.og_judge.specs.declared.refusal.Refusal.{Refusal}
+use Rattle.og_judge.specs.declared.refusal.Refusal.TheVariants as refusal
+use Rattle.og_judge.specs.Report.{IsSource}
+use Rattle.og_engine.specs.Answers.{IsTold}
+use Rattle.og_engine.specs.Commands.{IsUnread, IsConditionsRefused}
+use Rattle.og_engine.specs.declared.answer.Answer.{Answer}
+
+-- each condition up to the count has a certificate
+abbrev pub HasAll : ℕ → Entries → Type 0
+HasAll count es = (n : ℕ) → 0 < n → n ≤ count → IsSome (certificate_of n es)
+
+-- 0 where each condition has a certificate, 1 where some has none
+abbrev pub TellsWhetherAll : ℕ → Entries → ℕ → Type 0
+TellsWhetherAll count es status = ((status ≡ 0) × HasAll count es) ⊎ ((status ≡ 1) × (HasAll count es → ⊥))
+
+-- the text of certificates, each of a condition of the outline, and whether all have one
+abbrev pub IsFoundText : Program → Answer → Type 0
+IsFoundText o answer =
+    (es : Entries) × AreOf (conditions o) es × (answer.text.items ≡ file_text es) × TellsWhetherAll (length (conditions o)) es answer.status
+
+-- that of the source's outline, or the line of a refusal
+abbrev pub IsFound : List ℕ → Answer → Type 0
+IsFound source answer =
+    IsUnread source answer
+    ⊎ ((o : Program) × IsSource source o
+        × (IsFoundText o answer ⊎ ((why : Refusal) × IsConditionsRefused o why × IsTold source why answer)))
+
+-- the file of the text in version 2 with status 0, or the line of a refusal
+abbrev pub IsMigrated : List ℕ → Answer → Type 0
+IsMigrated certs answer =
+    ((es : Entries) × Gives certs (Ok es) × (answer.text.items ≡ shared_text es) × (answer.status ≡ 0))
+    ⊎ ((fault : CertTextFault) × IsWrong certs fault × IsTold [] (refusal.Certs fault) answer)
