@@ -78,7 +78,7 @@ def long_certificates(size):
 
 
 def run(words):
-    """The standard output, the seconds and the most memory in KiB of a run."""
+    """The standard output and the seconds of a run."""
     begin = time.monotonic()
     done = subprocess.Popen(words, stdout=subprocess.PIPE, stderr=subprocess.PIPE)
     out, _ = done.communicate()
