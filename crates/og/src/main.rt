@@ -4,7 +4,8 @@
 ghost use Rattle.std.specs.Prelude.{◌<◌, ◌≤◌};
 
 use og_engine::{
-    Answer, EngineFault, Options, engine, engine_joined, erased, listed, read_source, write_answer,
+    Answer, EngineFault, Options, engine, engine_joined, erased, found, listed, migrated,
+    read_certificates, read_source, write_answer,
 };
 use og_pool::OpenGate;
 use og_words::{Job, Usage, read_words};
@@ -134,6 +135,16 @@ fn erase(rt: &HostRuntime, source: &str) -> Result<u8, EngineFault> {
     print(rt, erased(rt.alloc(), &source)?)
 }
 
+fn find(rt: &HostRuntime, source: &str, budget: u64) -> Result<u8, EngineFault> {
+    let source = source_bytes(rt, source)?;
+    print(rt, found(rt.alloc(), &source, budget)?)
+}
+
+fn migrate(rt: &HostRuntime, certs: &str) -> Result<u8, EngineFault> {
+    let certs = read_certificates(rt.alloc(), &mut open(rt, certs)?)?;
+    print(rt, migrated(rt.alloc(), &certs)?)
+}
+
 fn run<H: Threads + Wait + Sync>(rt: &HostRuntime, threads: &H, words: &[String]) -> u8 {
     match read_words(rt.alloc(), words) {
         Err(Usage::Memory) => fault(rt, EngineFault::Memory),
@@ -152,8 +163,10 @@ fn run<H: Threads + Wait + Sync>(rt: &HostRuntime, threads: &H, words: &[String]
             check(rt, threads, source, certs, Options { workers, json }),
         ),
         Ok(Job::Conditions { source }) => finish(rt, conditions(rt, source)),
+        Ok(Job::Find { source, budget }) => finish(rt, find(rt, source, budget)),
         Ok(Job::Erase { source }) => finish(rt, erase(rt, source)),
-        Ok(_) => complain(rt, "og: this command is not built yet\n", WRONG),
+        Ok(Job::Migrate { certs }) => finish(rt, migrate(rt, certs)),
+        Ok(Job::Run { .. }) => complain(rt, "og: run is not built yet\n", WRONG),
     }
 }
 

@@ -10,6 +10,7 @@ use Rattle.og_engine.specs.declared.answer.Answer.{Answer}
 use Rattle.og_engine.specs.declared.fault.EngineFault.{EngineFault}
 use Rattle.og_engine.specs.Answers.{report_in, status_of, IsOutput, IsChecked, IsTold, Writes, WritesJoined}
 use Rattle.og_engine.specs.Commands.{IsConditionsRefused, IsListed}
+use Rattle.og_engine.specs.Making.{IsFound}
 use Rattle.og_engine.specs.Inputs.{source_of, certs_of, joined_of}
 use Rattle.og_engine.proofs.Fronts.{of_fronts, of_front}
 
@@ -49,3 +50,8 @@ pub joined_engine_written : (json : Bool) (a before after : Option (List ℕ)) (
     → Appends before after answer.text.items → IfSome a (λ input. WritesJoined json (joined_of input) before after status)
 joined_engine_written json a before after i s c answer status p cut h same appended =
     of_front (λ x. WritesJoined json x before after status) a i p (joined_written json i s c answer status before after cut h same appended)
+
+pub not_found : (source : List ℕ) (o : Program) (why : Refusal) (r : Result Answer EngineFault) → IsSource source o → IsConditionsRefused o why
+    → IfOk r (IsTold source why) → IfOk r (IsFound source)
+not_found source o why (Err e) s h told = tt
+not_found source o why (Ok a) s h told = inr (o, s, inr (why, h, told))
