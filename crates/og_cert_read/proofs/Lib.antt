@@ -10,6 +10,8 @@ pub mod Pieces
 pub mod Says
 pub mod SharedSoFar
 pub mod Sharing
+pub mod Shorter
+pub mod Shortest
 pub mod Split
 pub mod Taking
 pub mod Texts

@@ -108,7 +108,7 @@ good_more : (es : Entries) (e : ℕ × Cert) → are_good es → GoodEntry e →
 good_more [] e h g = both_true _ _ (both_true _ _ g.0 g.1) refl
 good_more (x ∷ es) e h g = let p = good_parts x es h in both_true _ _ (both_true _ _ p.0.0 p.0.1) (good_more es e p.1 g)
 
-abbrev shared_lines : Entries → Entries → List Line
+abbrev pub shared_lines : Entries → Entries → List Line
 shared_lines done es = listing_lines (listing_behind done es)
 
 -- what is listed for a certificate is read as it
@@ -194,7 +194,7 @@ listed_short (Some k) c = from (nat_lt (length (listed_text (SameAs k))) (length
         less a b e = grind (arith, nat_tests)
     from false e = omega arith
 
-entry_size : (n : ℕ) (ls : List Line) (ms : List Line) → length (lines_text ((ForCondition n ∷ ls) ++ ms)) ≡ length (lines_text (ForCondition n ∷ [])) + length (lines_text ls) + length (lines_text ms)
+pub entry_size : (n : ℕ) (ls : List Line) (ms : List Line) → length (lines_text ((ForCondition n ∷ ls) ++ ms)) ≡ length (lines_text (ForCondition n ∷ [])) + length (lines_text ls) + length (lines_text ms)
 entry_size n ls ms =
     let p : length (lines_text ((ForCondition n ∷ ls) ++ ms)) ≡ length (lines_text (ForCondition n ∷ ls) ++ lines_text ms) = ap length (lines_both (ForCondition n ∷ ls) ms) in
     let q : length (lines_text ((ForCondition n ∷ []) ++ ls)) ≡ length (lines_text (ForCondition n ∷ []) ++ lines_text ls) = ap length (lines_both (ForCondition n ∷ []) ls) in

@@ -25,6 +25,10 @@ SharedIsRead = (es : Entries) → is_file es ≡ true → length (shared_text es
 abbrev pub SharedIsShort : Type 0
 SharedIsShort = (es : Entries) → length (shared_text es) ≤ length (file_text es)
 
+-- nor is it longer than any text that gives the file
+abbrev pub SharedIsShortest : Type 0
+SharedIsShortest = (text : List ℕ) (es : Entries) → Gives text (Ok es) → length (shared_text es) ≤ length text
+
 -- certificates with one text are equal
 abbrev pub OneCertificate : Type 0
 OneCertificate = (c d : Cert) → is_well_formed c ≡ true → is_well_formed d ≡ true → cert_text c ≡ cert_text d → c ≡ d

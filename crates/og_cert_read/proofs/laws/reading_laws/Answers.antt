@@ -1,3 +1,4 @@
+use Rattle.og_cert_read.proofs.Shortest.{shared_is_shortest}
 use Rattle.og_cert_read.proofs.Texts.{written_is_read, one_answer}
 use Rattle.og_cert_read.proofs.Sharing.{shared_is_read, shared_is_short, same_cert}
 use Rattle.og_cert_read.proofs.Headers.{given_is_read}
@@ -20,3 +21,6 @@ returns-clause-one c = one_answer
 
 pub returns-clause-given : goal.returns-clause-given
 returns-clause-given c = given_is_read
+
+pub returns-clause-shortest : goal.returns-clause-shortest
+returns-clause-shortest c = shared_is_shortest
