@@ -33,7 +33,7 @@ abbrev pub IsFound : List ℕ → Answer → Type 0
 IsFound source answer =
     IsUnread source answer
     ⊎ ((o : Program) × IsSource source o
-        × (IsFoundText o answer ⊎ ((why : Refusal) × IsConditionsRefused o why × IsTold source why answer)))
+    × (IsFoundText o answer ⊎ ((why : Refusal) × IsConditionsRefused o why × IsTold source why answer)))
 
 -- the file of the text in version 2 with status 0, or the line of a refusal
 abbrev pub IsMigrated : List ℕ → Answer → Type 0

@@ -12,5 +12,5 @@ pub use answer::{Answer, checked};
 pub use commands::{erased, listed};
 pub use engines::{Options, engine, engine_joined, write_answer};
 pub use fault::EngineFault;
-pub use making::{found, migrated};
 pub use inputs::{read_certificates, read_joined, read_source};
+pub use making::{found, migrated};
