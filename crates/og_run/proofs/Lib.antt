@@ -1,0 +1,5 @@
+pub mod Steps
+pub mod Acting
+pub mod Opening
+pub mod Ending
+pub mod Outcomes
