@@ -8,14 +8,13 @@ ghost use Rattle.og_cert_text.specs.Files.{certificate_of};
 ghost use Rattle.og_find.specs.Found.{AreOf, Closes, Gains};
 
 use crate::finding::{examine_facts, is_closing};
-use crate::levels::TOP;
-use crate::part::part_of;
 use crate::repeats::Searched;
 use crate::verdict::Verdict;
 use og_cert::Cert;
 use og_cert_text::{CertFile, CertFileError};
 use og_cond::Condition;
 use og_facts::{FactList, FactsError, facts};
+use og_search::Part;
 use std::alloc::{AllocError, Global};
 
 // Adds the certificate of condition n, where the file takes it.
@@ -64,7 +63,7 @@ fn add_found(
 ) -> Result<(), AllocError>
     ensures { OnOk result (Gains list.now n (shown file.old) (shown file.new)) }
 {
-    let part = part_of(alloc, list.as_slice(), TOP)?;
+    let part = Part::of(alloc, list.as_slice())?;
     if let Some(k) = searched.equal(alloc, conditions, &part)? {
         return share(alloc, file, list, n, k);
     }

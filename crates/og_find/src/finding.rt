@@ -7,47 +7,14 @@ ghost use Rattle.og_facts.specs.Facts.{all_true_at};
 ghost use Rattle.og_cert_text.specs.Plain.{plain_cert};
 ghost use Rattle.og_find.specs.Found.{Certifies, Closes, IsVerdict, IsVerdictOn};
 
-use crate::certificate::certificate;
-use crate::levels::TOP;
-use crate::model::Model;
-use crate::part::{Part, part_of};
-use crate::search::Search;
-use crate::stop::Stop;
-use crate::truth::all_true;
+use crate::truth::{NESTING_LIMIT, all_true};
 use crate::verdict::Verdict;
 use og_cert::{Cert, ReplayError, replay};
 use og_cond::Condition;
 use og_facts::{FactList, FactsError, facts};
 use og_linear::State;
+use og_search::{Claim, Model, Part, search_among};
 use std::alloc::{AllocError, Global};
-
-// What a search ends with, before it is checked.
-#[derive(Debug, Drop)]
-enum Claim {
-    Closed(Cert),
-    Values(Model),
-    Nothing,
-}
-
-// Searches among the facts.
-fn search_among(
-    alloc: Global,
-    part: &Part,
-    variables: u32,
-    budget: u64,
-) -> Result<Claim, AllocError> {
-    let mut search = Search::new(alloc, variables, budget)?;
-    let found = match search.run(part) {
-        Ok(proof) => certificate(alloc, &proof, part.count),
-        Err(stop) => Err(stop),
-    };
-    match found {
-        Ok(cert) => Ok(Claim::Closed(cert)),
-        Err(Stop::Memory) => Err(AllocError),
-        Err(Stop::Model) => Ok(Claim::Values(search.into_model())),
-        Err(_) => Ok(Claim::Nothing),
-    }
-}
 
 // Whether the certificate is well formed and closes the facts.
 pub(crate) fn is_closing(alloc: Global, list: &FactList, cert: &Cert) -> Result<bool, AllocError>
@@ -87,7 +54,7 @@ fn state_of(alloc: Global, list: &FactList, model: &Model) -> Result<Option<Stat
         None => return Ok(None),
     };
     let state = State::new(values);
-    if all_true(list.as_slice(), &state, TOP) {
+    if all_true(list.as_slice(), &state, NESTING_LIMIT) {
         Ok(Some(state))
     } else {
         Ok(None)
@@ -132,7 +99,7 @@ pub fn examine(alloc: Global, condition: &Condition, budget: u64) -> Result<Verd
 {
     match facts(alloc, condition) {
         Ok(list) => {
-            let part = part_of(alloc, list.as_slice(), TOP)?;
+            let part = Part::of(alloc, list.as_slice())?;
             examine_facts(alloc, &list, &part, budget)
         }
         Err(FactsError::Memory) => Err(AllocError),

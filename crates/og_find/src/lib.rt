@@ -1,25 +1,13 @@
-//! The finder: certificates of conditions, found by case splits and Fourier-Motzkin elimination.
+//! The finder: certificates of conditions, and states in which conditions are false.
+//!
+//! A search claims something of the facts of a condition (`og_search`); what is handed out was
+//! checked, by replay or by evaluation.
 #![tactic(auto)]
 
 mod all;
-mod bounds;
-mod certificate;
-mod eliminate;
 mod finding;
-mod leaf;
-mod levels;
-mod linear;
-mod model;
-mod narrow;
-mod open;
-mod part;
-mod proof;
 mod repeats;
-mod rows;
-mod search;
-mod stop;
 mod truth;
-mod values;
 mod verdict;
 
 pub use all::{find_all, has_all};

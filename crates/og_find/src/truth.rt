@@ -9,6 +9,9 @@ ghost use Rattle.og_facts.specs.Plain.{plain_fact};
 use og_facts::Fact;
 use og_linear::{Form, State};
 
+/// A choice that has so many choices round it counts as false.
+pub(crate) const NESTING_LIMIT: u32 = 200;
+
 // The value of the variable, 0 where it has none.
 fn value_at(state: &State, var: u32) -> i64
     ensures { result ≡ value_at state.now var }

@@ -1,4 +1,4 @@
-use Rattle.og_find.proofs.linear.common_divisor.Given as goal
+use Rattle.og_search.proofs.linear.common_divisor.Given as goal
 
 abbrev pub decreases-loop-low : goal.decreases-loop-low
 decreases-loop-low l = l.low

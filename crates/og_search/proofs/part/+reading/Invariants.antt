@@ -1,5 +1,5 @@
 use Rattle.std.proofs.Common.{◌+◌, ◌*◌}
-use Rattle.og_find.proofs.part.+reading.Given as goal
+use Rattle.og_search.proofs.part.+reading.Given as goal
 
 abbrev pub decreases-part_of : goal.decreases-part_of
 decreases-part_of l = 2 * l.depth

@@ -4,7 +4,7 @@ use std::alloc::{AllocError, Global};
 
 /// A value for each variable.
 #[derive(Debug, Drop)]
-pub(crate) struct Model {
+pub struct Model {
     values: Vec<i128>,
 }
 
@@ -23,7 +23,7 @@ impl Model {
     }
 
     /// The value of the variable, 0 where there is no such variable.
-    pub(crate) fn value(&self, var: u32) -> i128 {
+    pub fn value(&self, var: u32) -> i128 {
         self.values.get(var as usize).copied().unwrap_or(0)
     }
 
@@ -34,8 +34,4 @@ impl Model {
         }
     }
 
-    /// The values, by the number of the variable.
-    pub(crate) fn as_slice(&self) -> &[i128] {
-        &self.values
-    }
 }

@@ -4,7 +4,7 @@ use crate::levels::TOP;
 use crate::linear::Linear;
 use crate::proof::{Case, Line, Multiple, Name, Proof, Tree};
 use crate::stop::Stop;
-use og_cert::{Cert, CertStep, Finish, Source, Term};
+use og_cert_text::{Cert, CertStep, Finish, Source, Term};
 use og_linear::{Form, FormError};
 use std::alloc::Global;
 

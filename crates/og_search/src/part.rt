@@ -1,6 +1,7 @@
 //! The facts of a condition in the form in which they are searched.
 
 use crate::bounds::Bounds;
+use crate::levels::TOP;
 use crate::linear::Linear;
 use crate::model::Model;
 use og_facts::Fact;
@@ -16,7 +17,7 @@ pub(crate) struct Atom {
 /// Facts that stand together: those of a condition, or of a part of a choice.
 #[cycle(part)]
 #[derive(Debug, Drop)]
-pub(crate) struct Part {
+pub struct Part {
     pub(crate) atoms: Vec<Atom>,
     pub(crate) choices: Vec<Choice>,
     pub(crate) count: usize,
@@ -34,7 +35,7 @@ pub(crate) struct Choice {
 
 /// The facts, apart by their kind. Choices that have so many choices round them are left out.
 #[cycle(reading)]
-pub(crate) fn part_of(alloc: Global, facts: &[Fact], depth: u32) -> Result<Part, AllocError> {
+fn part_of(alloc: Global, facts: &[Fact], depth: u32) -> Result<Part, AllocError> {
     let mut atoms = Vec::new(alloc);
     let mut choices = Vec::new(alloc);
     for (index, fact) in facts.iter().enumerate() {
@@ -86,6 +87,14 @@ fn size_of_parts(parts: &[Part]) -> usize {
 }
 
 impl Part {
+    /// The facts in the form in which they are searched.
+    ///
+    /// Choices that have 200 choices round them are left out. `AllocError` where an allocation was
+    /// refused.
+    pub fn of(alloc: Global, facts: &[Fact]) -> Result<Part, AllocError> {
+        part_of(alloc, facts, TOP)
+    }
+
     // Whether some inequality is false within the bounds.
     fn is_barred(&self, bounds: &Bounds) -> bool {
         for atom in &self.atoms {

@@ -1,5 +1,5 @@
 use Rattle.std.proofs.Common.{◌+◌, ◌*◌}
-use Rattle.og_find.proofs.search.Search.+search.Given as goal
+use Rattle.og_search.proofs.search.Search.+search.Given as goal
 
 -- each call goes down by one level in the end, and within a level from at_level to refute
 abbrev pub decreases-at_level : goal.decreases-at_level

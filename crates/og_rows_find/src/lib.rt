@@ -1,0 +1,13 @@
+//! Worked examples of the finder.
+//!
+//! There is nothing to run here but the tests.
+#![tactic(auto)]
+
+#[cfg(test)]
+mod hostile;
+#[cfg(test)]
+mod outlines;
+#[cfg(test)]
+mod searching;
+#[cfg(test)]
+mod sources;

@@ -1,0 +1,47 @@
+//! What a search claims.
+
+use crate::certificate::certificate;
+use crate::model::Model;
+use crate::part::Part;
+use crate::search::Search;
+use crate::stop::Stop;
+use og_cert_text::Cert;
+use std::alloc::{AllocError, Global};
+
+/// What a search ends with. Whoever relies on it has to check it.
+#[derive(Debug, Drop)]
+pub enum Claim {
+    /// The certificate closes the facts.
+    Closed(Cert),
+    /// All facts are true of these values.
+    Values(Model),
+    /// Nothing: the budget is spent, or there is nothing left to try.
+    Nothing,
+}
+
+/// Searches among facts over so many variables, within the budget.
+///
+/// One step of the budget is one fact added, or one level begun; looking through very many facts
+/// costs steps too. The claim is the same each time.
+///
+/// # Errors
+///
+/// `AllocError` where an allocation was refused.
+pub fn search_among(
+    alloc: Global,
+    part: &Part,
+    variables: u32,
+    budget: u64,
+) -> Result<Claim, AllocError> {
+    let mut search = Search::new(alloc, variables, budget)?;
+    let found = match search.run(part) {
+        Ok(proof) => certificate(alloc, &proof, part.count),
+        Err(stop) => Err(stop),
+    };
+    match found {
+        Ok(cert) => Ok(Claim::Closed(cert)),
+        Err(Stop::Memory) => Err(AllocError),
+        Err(Stop::Model) => Ok(Claim::Values(search.into_model())),
+        Err(_) => Ok(Claim::Nothing),
+    }
+}

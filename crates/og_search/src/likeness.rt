@@ -1,0 +1,99 @@
+//! Equal facts.
+
+use crate::linear::{Linear, next_mark};
+use crate::part::{Atom, Choice, Part};
+
+fn mark_form(mark: u128, form: &Linear) -> u128 {
+    let mut next = next_mark(mark, form.constant.unsigned_abs());
+    for t in &form.terms {
+        next = next_mark(next, u128::from(t.0));
+        next = next_mark(next, t.1.unsigned_abs());
+    }
+    next
+}
+
+fn mark_atoms(mark: u128, atoms: &[Atom]) -> u128 {
+    let mut next = mark;
+    for atom in atoms {
+        next = mark_form(next, &atom.form);
+    }
+    next
+}
+
+#[cycle(marking)]
+fn mark_part(mark: u128, part: &Part) -> u128 {
+    let mut next = next_mark(mark_atoms(mark, &part.atoms), 1);
+    for choice in &part.choices {
+        next = mark_parts(next, &choice.parts);
+    }
+    next
+}
+
+#[cycle(marking)]
+fn mark_parts(mark: u128, parts: &[Part]) -> u128 {
+    let mut next = next_mark(mark, 2);
+    for part in parts {
+        next = mark_part(next, part);
+    }
+    next
+}
+
+fn are_same_atoms(a: &[Atom], b: &[Atom]) -> bool {
+    if a.len() != b.len() {
+        return false;
+    }
+    for (x, y) in a.iter().zip(b) {
+        let is_same = x.index == y.index
+            && x.form.constant == y.form.constant
+            && x.form.is_parallel(&y.form);
+        if !is_same {
+            return false;
+        }
+    }
+    true
+}
+
+#[cycle(likeness)]
+fn is_same_part(a: &Part, b: &Part) -> bool {
+    a.count == b.count
+        && are_same_atoms(&a.atoms, &b.atoms)
+        && are_same_choices(&a.choices, &b.choices)
+}
+
+#[cycle(likeness)]
+fn are_same_choices(a: &[Choice], b: &[Choice]) -> bool {
+    if a.len() != b.len() {
+        return false;
+    }
+    for (x, y) in a.iter().zip(b) {
+        if x.index != y.index || !are_same_parts(&x.parts, &y.parts) {
+            return false;
+        }
+    }
+    true
+}
+
+#[cycle(likeness)]
+fn are_same_parts(a: &[Part], b: &[Part]) -> bool {
+    if a.len() != b.len() {
+        return false;
+    }
+    for (x, y) in a.iter().zip(b) {
+        if !is_same_part(x, y) {
+            return false;
+        }
+    }
+    true
+}
+
+impl Part {
+    /// A number that is the same for equal facts, and seldom for others.
+    pub fn mark(&self) -> u128 {
+        mark_part(0, self)
+    }
+
+    /// Whether the facts are equal.
+    pub fn is_same(&self, other: &Part) -> bool {
+        is_same_part(self, other)
+    }
+}
