@@ -114,17 +114,26 @@ fn migrate_command<'a>(alloc: Global) -> Result<Command<'a>, AllocError> {
         .arg(certs_arg(alloc))
 }
 
+// Adds the words that look at outlines and certificates.
+fn with_outlines<'a>(alloc: Global, program: Command<'a>) -> Result<Command<'a>, AllocError> {
+    let program = program.subcommand(check_command(alloc)?)?;
+    let program = program.subcommand(conditions_command(alloc)?)?;
+    program.subcommand(find_command(alloc)?)
+}
+
+// Adds the words that look at programs, and at certificates alone.
+fn with_programs<'a>(alloc: Global, program: Command<'a>) -> Result<Command<'a>, AllocError> {
+    let program = program.subcommand(erase_command(alloc)?)?;
+    let program = program.subcommand(run_command(alloc)?)?;
+    program.subcommand(migrate_command(alloc)?)
+}
+
 /// The program's command line.
 pub(crate) fn program<'a>(alloc: Global) -> Result<Command<'a>, AllocError> {
-    Command::new(alloc, "og")
+    let program = Command::new(alloc, "og")
         .about("Checks proof outlines of parallel programs")
         .no_binary_name(true)
         .disable_help_subcommand(true)
-        .subcommand_required(true)
-        .subcommand(check_command(alloc)?)?
-        .subcommand(conditions_command(alloc)?)?
-        .subcommand(find_command(alloc)?)?
-        .subcommand(erase_command(alloc)?)?
-        .subcommand(run_command(alloc)?)?
-        .subcommand(migrate_command(alloc)?)
+        .subcommand_required(true);
+    with_programs(alloc, with_outlines(alloc, program)?)
 }
