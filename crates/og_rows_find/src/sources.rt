@@ -21,48 +21,94 @@ pub(crate) const NESTED: &str =
 pub(crate) const NOT_EVEN: &str =
     "var x, y;\n{2*x = 2*y + 1}\ncobegin\n{false} skip {false}\ncoend\n{false}\n";
 
+// What is even is not odd, with numbers that are as large as a search uses them.
+pub(crate) const LARGE: &str =
+    "var x, y;\n{2147483646*x = 2147483646*y + 1073741823}\ncobegin\n{true}\nawait true then begin x := 2147483648*x; y := 2147483646*y end\n{2147483648*x <> 2147483646*y + 1}\n//\n{false} skip {false}\ncoend\n{true}\n";
+
+// A condition that has no facts at all: it is false.
+pub(crate) const NO_FACTS: &str = "{false}\ncobegin\n{true} skip {false}\ncoend\n{false}\n";
+
 // Adds the part to the text, as often as `times` says.
-pub(crate) fn add_times(out: &mut String, part: &str, times: u32) -> Result<(), AllocError> {
+fn add_times(out: &mut String, part: &str, times: u32) -> Result<(), AllocError> {
     for _ in 0..times {
         out.push_str(part)?;
     }
     Ok(())
 }
 
-// Processes that are equal, with `//` between them, behind `head` and before `tail`.
-pub(crate) fn equal_processes(
+// A text that begins so, then has the part so often, and ends so.
+fn repeated(
     alloc: Global,
-    head: &str,
-    process: &str,
-    others: u32,
-    tail: &str,
+    begin: &str,
+    part: &str,
+    times: u32,
+    end: &str,
 ) -> Result<String, AllocError> {
-    let mut out = String::from_str(alloc, head)?;
-    out.push_str(process)?;
-    for _ in 0..others {
-        out.push_str("//\n")?;
-        out.push_str(process)?;
-    }
-    out.push_str(tail)?;
+    let mut out = String::from_str(alloc, begin)?;
+    add_times(&mut out, part, times)?;
+    out.push_str(end)?;
     Ok(out)
 }
 
-// Equal processes of so many assignments and then so many skips, every assertion `x >= 0`.
-pub(crate) fn alike(
-    alloc: Global,
-    assigns: u32,
-    skips: u32,
-    others: u32,
-) -> Result<String, AllocError> {
-    let mut process = String::new(alloc);
-    add_times(&mut process, "{x >= 0} x := 1\n", assigns)?;
-    add_times(&mut process, "{x >= 0} skip\n", skips)?;
-    process.push_str("{x >= 0}\n")?;
-    equal_processes(
+// Eight equal processes of two assignments and then 38 skips, every assertion `x >= 0`.
+pub(crate) fn alike(alloc: Global) -> Result<String, AllocError> {
+    let assigns = "{x >= 0} x := 1\n{x >= 0} x := 1\n";
+    let process = repeated(alloc, assigns, "{x >= 0} skip\n", 38, "{x >= 0}\n")?;
+    let behind = repeated(alloc, "//\n", process.as_str(), 1, "")?;
+    let begin = repeated(
         alloc,
         "var x;\n{x >= 0}\ncobegin\n",
         process.as_str(),
-        others,
+        1,
+        "",
+    )?;
+    repeated(
+        alloc,
+        begin.as_str(),
+        behind.as_str(),
+        7,
         "coend\n{x >= 0}\n",
+    )
+}
+
+// A process that multiplies x so often by 2^31.
+pub(crate) fn multiplied(alloc: Global, times: u32) -> Result<String, AllocError> {
+    repeated(
+        alloc,
+        "var x;\n{x >= 1}\ncobegin\n{x >= 1}\nawait true then begin x := x",
+        "; x := 2147483648*x",
+        times,
+        " end\n{x >= 2}\ncoend\n{x >= 2}\n",
+    )
+}
+
+// A first assertion with 9,999 facts: the conditions that the processes start have 10,000.
+pub(crate) fn many(alloc: Global) -> Result<String, AllocError> {
+    repeated(
+        alloc,
+        "var x;\n{x >= 7",
+        " and x = 7",
+        4999,
+        "}\ncobegin\n{x >= 7} skip {x >= 7}\n//\n{x <= 6} skip {x <= 6}\ncoend\n{true}\n",
+    )
+}
+
+// Choices in choices, 100 deep, with a bound that leaves them no way, and with one that does.
+pub(crate) fn deep(alloc: Global) -> Result<String, AllocError> {
+    let choices = repeated(alloc, "(x = 5", " or y <= 0 and (x = 6", 99, "")?;
+    let nested = repeated(alloc, choices.as_str(), ")", 100, "} skip {false}\n")?;
+    let first = repeated(
+        alloc,
+        "var x, y;\n{false}\ncobegin\n{x <= 4 and ",
+        nested.as_str(),
+        1,
+        "//\n{x <= 5 and ",
+    )?;
+    repeated(
+        alloc,
+        first.as_str(),
+        nested.as_str(),
+        1,
+        "coend\n{false}\n",
     )
 }
