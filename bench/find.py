@@ -212,7 +212,7 @@ def main():
     measure(program, folder, "semaphore, 10 processes", semaphore(10, 3), BUDGET)
     for name, text in [("4,999 equalities", equalities(4999)), ("9,999 differences", differences(9999)),
                        ("10 pigeons", pigeons(10)), ("20 pigeons", pigeons(20)),
-                       ("100 choices of 20", choices(100, 20)), ("48 times 100 choices", nested(48))]:
+                       ("100 choices of 20", choices(100, 20)), ("30 times 98 choices in choices", nested(30))]:
         for budget in (1, 10000, BUDGET, 1000000):
             measure(program, folder, name, text, budget)
 
