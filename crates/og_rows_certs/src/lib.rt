@@ -10,6 +10,8 @@ mod outlines;
 #[cfg(test)]
 mod reading;
 #[cfg(test)]
+mod replay;
+#[cfg(test)]
 mod sources;
 #[cfg(test)]
 mod texts;

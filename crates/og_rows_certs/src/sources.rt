@@ -16,6 +16,16 @@ pub(crate) const SKIP_AND_ASSIGN: &str =
 pub(crate) const UP_AND_DOWN: &str =
     "var x;\n{x = 9223372036854775807}\ncobegin\n{x = 9223372036854775807}\nawait true then begin x := x + 1; x := x - 1 end\n{x = 9223372036854775807}\ncoend\n{x = 9223372036854775807}\n";
 
+// Two awaits that each add 1.
+pub(crate) const EQUAL_ADD: &str =
+    "var x;\n{x = 0}\ncobegin\n{x = 0 or x = 1}\nawait true then x := x + 1\n{x = 1 or x = 2}\n//\n{x = 0 or x = 1}\nawait true then x := x + 1\n{x = 1 or x = 2}\ncoend\n{x = 2}\n";
+
+pub(crate) const ONE_BELOW: &str =
+    "var x;\n{x = 9223372036854775806}\ncobegin\n{x = 9223372036854775806} x := x + 1 {x = 9223372036854775807}\ncoend\n{x = 9223372036854775807}\n";
+
+pub(crate) const EACH_WAITS: &str =
+    "var a, b;\n{a = 0 and b = 0}\ncobegin\n{true} await b = 1 then a := 1 {true}\n//\n{true} await a = 1 then b := 1 {true}\ncoend\n{true}\n";
+
 pub(crate) const ONE_SKIP: &str = "{true}\ncobegin\n{true} skip {true}\ncoend\n{true}\n";
 
 // Adds the part to the text, as often as `times` says.

@@ -6,31 +6,38 @@ use std::alloc::{AllocError, Global};
 fn source_arg<'a>(alloc: Global) -> Arg<'a> {
     Arg::new(alloc, "SOURCE")
         .required(true)
-        .action(ArgAction::Set)
         .help("The proof outline, or - for standard input")
 }
 
-fn check_command<'a>(alloc: Global) -> Result<Command<'a>, AllocError> {
-    let certs = Arg::new(alloc, "CERTS")
+fn certs_arg<'a>(alloc: Global) -> Arg<'a> {
+    Arg::new(alloc, "CERTS")
         .required(true)
-        .action(ArgAction::Set)
-        .help("The certificates");
-    let workers = Arg::new(alloc, "workers")
+        .help("The certificates")
+}
+
+fn workers_arg<'a>(alloc: Global) -> Arg<'a> {
+    Arg::new(alloc, "workers")
         .long("workers")
         .value_name("N")
         .default_value("1")
         .value_parser(clap::value_parser!(u32).range(1..=64))
-        .help("How many threads check");
-    let json = Arg::new(alloc, "json")
+        .help("How many threads check")
+}
+
+fn json_arg<'a>(alloc: Global) -> Arg<'a> {
+    Arg::new(alloc, "json")
         .long("json")
         .action(ArgAction::SetTrue)
-        .help("Print the report as JSON");
+        .help("Print the report as JSON")
+}
+
+fn check_command<'a>(alloc: Global) -> Result<Command<'a>, AllocError> {
     Command::new(alloc, "check")
         .about("Check an outline by its certificates")
         .arg(source_arg(alloc))?
-        .arg(certs)?
-        .arg(workers)?
-        .arg(json)
+        .arg(certs_arg(alloc))?
+        .arg(workers_arg(alloc))?
+        .arg(json_arg(alloc))
 }
 
 fn conditions_command<'a>(alloc: Global) -> Result<Command<'a>, AllocError> {
@@ -39,17 +46,20 @@ fn conditions_command<'a>(alloc: Global) -> Result<Command<'a>, AllocError> {
         .arg(source_arg(alloc))
 }
 
-fn find_command<'a>(alloc: Global) -> Result<Command<'a>, AllocError> {
-    let budget = Arg::new(alloc, "budget")
+fn budget_arg<'a>(alloc: Global) -> Arg<'a> {
+    Arg::new(alloc, "budget")
         .long("budget")
         .value_name("N")
         .default_value("100000")
         .value_parser(clap::value_parser!(u64).range(1..=1000000000))
-        .help("How many facts may be added for each condition");
+        .help("How many facts may be added for each condition")
+}
+
+fn find_command<'a>(alloc: Global) -> Result<Command<'a>, AllocError> {
     Command::new(alloc, "find")
         .about("Print the certificates that are found")
         .arg(source_arg(alloc))?
-        .arg(budget)
+        .arg(budget_arg(alloc))
 }
 
 fn erase_command<'a>(alloc: Global) -> Result<Command<'a>, AllocError> {
@@ -58,44 +68,50 @@ fn erase_command<'a>(alloc: Global) -> Result<Command<'a>, AllocError> {
         .arg(source_arg(alloc))
 }
 
-fn run_command<'a>(alloc: Global) -> Result<Command<'a>, AllocError> {
-    let limit = Arg::new(alloc, "limit")
+fn limit_arg<'a>(alloc: Global) -> Arg<'a> {
+    Arg::new(alloc, "limit")
         .long("limit")
         .value_name("N")
         .default_value("1000")
         .value_parser(clap::value_parser!(u32).range(0..=1000000))
-        .help("How many steps the history may have");
-    let erased = Arg::new(alloc, "erased")
+        .help("How many steps the history may have")
+}
+
+fn erased_arg<'a>(alloc: Global) -> Arg<'a> {
+    Arg::new(alloc, "erased")
         .long("erased")
         .action(ArgAction::SetTrue)
-        .help("Run the erased program");
-    let certs = Arg::new(alloc, "certs")
+        .help("Run the erased program")
+}
+
+fn run_certs_arg<'a>(alloc: Global) -> Arg<'a> {
+    Arg::new(alloc, "certs")
         .long("certs")
         .value_name("FILE")
-        .action(ArgAction::Set)
-        .conflicts_with("erased")?
-        .help("Run only what these certificates prove safe");
-    let values = Arg::new(alloc, "NAME=INT")
+        .help("Run only what these certificates prove safe")
+}
+
+fn values_arg<'a>(alloc: Global) -> Arg<'a> {
+    Arg::new(alloc, "NAME=INT")
         .num_args(0..)
         .action(ArgAction::Append)
-        .help("A variable's value at the start");
-    Command::new(alloc, "run")
+        .help("A variable's value at the start")
+}
+
+fn run_command<'a>(alloc: Global) -> Result<Command<'a>, AllocError> {
+    let command = Command::new(alloc, "run")
         .about("Run the processes in threads")
         .arg(source_arg(alloc))?
-        .arg(limit)?
-        .arg(erased)?
-        .arg(certs)?
-        .arg(values)
+        .arg(limit_arg(alloc))?
+        .arg(erased_arg(alloc))?;
+    let certs = run_certs_arg(alloc).conflicts_with("erased")?;
+    command.arg(certs)?.arg(values_arg(alloc))
 }
 
 fn migrate_command<'a>(alloc: Global) -> Result<Command<'a>, AllocError> {
-    let certs = Arg::new(alloc, "CERTS")
-        .required(true)
-        .action(ArgAction::Set)
-        .help("The certificates");
     Command::new(alloc, "migrate")
         .about("Print certificates in version 2 of their format")
-        .arg(certs)
+        .arg(certs_arg(alloc))
 }
 
 /// The program's command line.

@@ -1,0 +1,359 @@
+//! Certificates replayed over the conditions of outlines.
+
+use crate::outlines::outline_of;
+use crate::sources::{
+    EACH_WAITS, EQUAL_ADD, ONE_BELOW, ONE_SKIP, SKIP_AND_ASSIGN, TWO_ADD, UP_AND_DOWN, with_lines,
+};
+use og_cert::{Cert, ReplayError, replay};
+use og_cert_read::read_certs;
+use og_cert_text::CertFile;
+use og_cond::{Condition, conditions};
+use og_facts::{FactsError, facts};
+use std::alloc::{AllocError, Global};
+use std::process::Abort;
+use std::test::Fail;
+
+// Certificates, each for several conditions. In their lines `|` stands for the end of a line.
+type Lines<'a> = (&'a [u32], &'a str);
+
+// The text of these certificates.
+fn text_of(alloc: Global, certs: &[Lines]) -> Result<String, AllocError> {
+    let mut out = String::from_str(alloc, "og-cert 1\n")?;
+    for (numbers, lines) in certs {
+        for number in *numbers {
+            let head = format!(in alloc; "cond {number}\n")?;
+            out.push_str(head.as_str())?;
+            out.push_str(with_lines(alloc, lines)?.as_str())?;
+        }
+    }
+    Ok(out)
+}
+
+// What becomes of a condition.
+fn status(alloc: Global, condition: &Condition, cert: Option<&Cert>) -> Result<String, Fail> {
+    let Some(cert) = cert else {
+        return Ok(String::from_str(alloc, "missing")?);
+    };
+    let list = match facts(alloc, condition) {
+        Ok(list) => list,
+        Err(FactsError::Fault(_)) => return Ok(String::from_str(alloc, "too large")?),
+        Err(error) => return Err(error.into()),
+    };
+    match replay(alloc, &list, cert) {
+        Ok(()) => Ok(String::from_str(alloc, "proved")?),
+        Err(ReplayError::Fault(fault)) => {
+            let name = fault.name();
+            let step = fault.step;
+            Ok(format!(in alloc; "{name} at step {step}")?)
+        }
+        Err(error) => Err(error.into()),
+    }
+}
+
+// Adds what becomes of a condition, unless it is proved. Tells whether it is.
+fn add_status(
+    out: &mut String,
+    alloc: Global,
+    number: u32,
+    condition: &Condition,
+    cert: Option<&Cert>,
+) -> Result<bool, Fail> {
+    let status = status(alloc, condition, cert)?;
+    if status.as_str() == "proved" {
+        return Ok(true);
+    }
+    let text = status.as_str();
+    let line = format!(in alloc; "{number}: {text}; ")?;
+    out.push_str(line.as_str())?;
+    Ok(false)
+}
+
+// The same of all conditions. Gives how many are proved.
+fn add_statuses(
+    out: &mut String,
+    alloc: Global,
+    list: &[Condition],
+    file: &CertFile,
+) -> Result<u32, Fail> {
+    let mut number = 0u32;
+    let mut proved = 0u32;
+    for condition in list {
+        number = number.saturating_add(1);
+        if add_status(out, alloc, number, condition, file.certificate(number))? {
+            proved = proved.saturating_add(1);
+        }
+    }
+    Ok(proved)
+}
+
+// What becomes of each condition that is not proved, and how many are.
+fn told(alloc: Global, source: &str, certs: &str) -> Result<String, Fail> {
+    let file = read_certs(alloc, certs.as_bytes())?;
+    let outline = outline_of(alloc, source)?;
+    let list = conditions(alloc, &outline)?;
+    let number = list.len();
+    let mut out = String::new(alloc);
+    let proved = add_statuses(&mut out, alloc, &list, &file)?;
+    let end = format!(in alloc; "{proved} of {number} proved")?;
+    out.push_str(end.as_str())?;
+    Ok(out)
+}
+
+fn expect_told(
+    rt: &impl Abort,
+    alloc: Global,
+    source: &str,
+    certs: &[Lines],
+    expected: &str,
+) -> Result<(), Fail> {
+    let text = text_of(alloc, certs)?;
+    let got = told(alloc, source, text.as_str())?;
+    assert_eq!(rt; got.as_str(), expected, "{text} for {source}");
+    Ok(())
+}
+
+const FOR_TWO_ADD: &[Lines] = &[
+    (&[1, 2], "split 3 2|close 1*2 1*5|close 1*1 1*5|"),
+    (
+        &[3, 5],
+        "split 1 2|split 2 2|close 1*5 1*6|close 1*4 1*6|split 3 2|close 1*5 1*6|close 1*4 1*6|",
+    ),
+    (
+        &[4, 6],
+        "split 2 2|close 1*3 1*l0|split 1 2|close 1*3 1*4|close 1*3 1*4|",
+    ),
+    (
+        &[7],
+        "split 1 2|split 4 2|close 1*6 1*7|close 1*5 1*7|split 2 2|close 1*6 1*7|close 1*5 1*8|",
+    ),
+    (
+        &[8, 9, 10],
+        "split 1 2|split 4 2|close 1*6 1*7|close 1*5 1*7|split 2 2|close 1*6 1*7|close 1*6 1*7|",
+    ),
+    (
+        &[11],
+        "split 1 2|split 2 2|close 1*4 1*7|close 1*4 1*7|split 3 2|close 1*5 1*6|close 1*4 1*6|",
+    ),
+    (&[12], "split 3 2|close 1*5|close 1*5|"),
+];
+
+const FOR_EACH_WAITS: &[Lines] = &[
+    (&[1, 2], "close 1*5|"),
+    (&[3, 5], "close 1*3|"),
+    (&[4, 6], "split 3 2|close 1*4|close 1*4|"),
+    (&[7], "close 1*1|"),
+];
+
+#[test]
+fn outlines_with_awaits(rt: HostRuntime) -> Result<(), Fail> {
+    let alloc = rt.alloc();
+    expect_told(&rt, alloc, TWO_ADD, FOR_TWO_ADD, "12 of 12 proved")?;
+    // The end of the second outline is false at 1.
+    expect_told(
+        &rt,
+        alloc,
+        EQUAL_ADD,
+        &[(
+            &[11],
+            "split 1 2|split 3 2|close 1*5 1*6|close 1*4 1*6|close 1*5|",
+        )],
+        "1: missing; 2: missing; 3: missing; 4: missing; 5: missing; 6: missing; 7: missing; 8: missing; 9: missing; 10: missing; 11: NotClosed at step 3; 12: missing; 0 of 12 proved",
+    )?;
+    expect_told(
+        &rt,
+        alloc,
+        EACH_WAITS,
+        FOR_EACH_WAITS,
+        "8: missing; 7 of 8 proved",
+    )
+}
+
+// The two halves of an equation give the two sides of an inequality.
+const BOTH_SIDES: &str = "split 3 2|close 1*2 1*4|close 1*1 1*4|";
+
+const AT_THE_LIMIT: &str =
+    "var x;\n{x = 9223372036854775807}\ncobegin\n{x = 9223372036854775807} x := x + 1 {true}\ncoend\n{true}\n";
+
+#[test]
+fn ranges(rt: HostRuntime) -> Result<(), Fail> {
+    let alloc = rt.alloc();
+    expect_told(
+        &rt,
+        alloc,
+        ONE_BELOW,
+        &[(&[1, 2, 3, 4], BOTH_SIDES), (&[5], "close 1*3|")],
+        "5 of 5 proved",
+    )?;
+    // A variable's own bound says nothing of its value behind the assignment.
+    let with_bound = "split 3 2|close 1*2 1*4|close 1*4 1*u0|";
+    for lines in [BOTH_SIDES, with_bound] {
+        expect_told(
+            &rt,
+            alloc,
+            AT_THE_LIMIT,
+            &[
+                (&[1], BOTH_SIDES),
+                (&[3], lines),
+                (&[2], "close 1*3|"),
+                (&[4, 5], "close 1*1|"),
+            ],
+            "3: NotClosed at step 3; 4 of 5 proved",
+        )?;
+    }
+    expect_told(
+        &rt,
+        alloc,
+        UP_AND_DOWN,
+        &[
+            (&[1, 2], BOTH_SIDES),
+            (
+                &[3],
+                "split 3 4|close 1*2 1*4|close 1*1 1*4|close 1*2 1*4|close 1*1 1*4|",
+            ),
+        ],
+        "3: NotClosed at step 3; 4: missing; 5: missing; 2 of 5 proved",
+    )
+}
+
+const ODD: &str = "var x, y;\n{2*x = 2*y + 1}\ncobegin\n{false} skip {false}\ncoend\n{false}\n";
+
+#[test]
+fn cuts(rt: HostRuntime) -> Result<(), Fail> {
+    let alloc = rt.alloc();
+    let rows = [
+        ("cut 1 2|cut 2 2|close 1*3 1*4|", "4 of 4 proved"),
+        (
+            "cut 1 0|close 1*1|",
+            "1: NotDivisible at step 1; 3 of 4 proved",
+        ),
+        (
+            "cut 1 3|close 1*1|",
+            "1: NotDivisible at step 1; 3 of 4 proved",
+        ),
+    ];
+    for (lines, expected) in rows {
+        expect_told(
+            &rt,
+            alloc,
+            ODD,
+            &[(&[1], lines), (&[2, 3, 4], "close 1*1|")],
+            expected,
+        )?;
+    }
+    Ok(())
+}
+
+#[test]
+fn splits(rt: HostRuntime) -> Result<(), Fail> {
+    let alloc = rt.alloc();
+    let rows = [
+        (
+            "split 1 2|close 1*2|close 1*2|",
+            "6: missing; 7: missing; 7 of 9 proved",
+        ),
+        (
+            "split 1 3|close 1*2|close 1*2|close 1*2|",
+            "5: LeftOver at step 1; 6: missing; 7: missing; 6 of 9 proved",
+        ),
+        (
+            "split 1 1|close 1*2|",
+            "5: NotClosed at step 1; 6: missing; 7: missing; 6 of 9 proved",
+        ),
+        (
+            "close 1*1|",
+            "5: NotAtom at step 1; 6: missing; 7: missing; 6 of 9 proved",
+        ),
+        // The lines of the first part count, and its facts are not there in the second.
+        (
+            "split 1 2|sum 1*2|close 1*3|close 1*3|",
+            "5: NoSuchFact at step 4; 6: missing; 7: missing; 6 of 9 proved",
+        ),
+    ];
+    for (lines, expected) in rows {
+        expect_told(
+            &rt,
+            alloc,
+            SKIP_AND_ASSIGN,
+            &[
+                (&[1, 3], BOTH_SIDES),
+                (&[2, 8, 9], "close 1*3|"),
+                (&[4], "close 1*1|"),
+                (&[5], lines),
+            ],
+            expected,
+        )?;
+    }
+    Ok(())
+}
+
+// What becomes of the first condition of a program whose conditions have the one fact 1 <= 0.
+#[test]
+fn faults_and_their_steps(rt: HostRuntime) -> Result<(), Fail> {
+    let alloc = rt.alloc();
+    let rows = [
+        ("close 1*1|", "4 of 4 proved"),
+        (
+            "split 1 2|close 1*1|close 1*1|",
+            "1: NotSplit at step 1; 3 of 4 proved",
+        ),
+        ("close 1*2|", "1: NoSuchFact at step 1; 3 of 4 proved"),
+        ("close 1*l0|", "1: NoSuchFact at step 1; 3 of 4 proved"),
+        (
+            "sum 9223372036854775807*1|sum 9223372036854775807*2|sum 9223372036854775807*3|close 1*1|",
+            "1: TooLarge at step 3; 3 of 4 proved",
+        ),
+        (
+            "branch -170141183460469231731687303715884105728|close 1*1|close 1*1|",
+            "1: TooLarge at step 1; 3 of 4 proved",
+        ),
+        (
+            "branch 170141183460469231731687303715884105727|close 1*1|close 1*1|",
+            "4 of 4 proved",
+        ),
+        // The lines of both certificates of a branch count.
+        (
+            "branch 0|sum 1*1|close 1*1|close 0*1|",
+            "1: NotClosed at step 4; 3 of 4 proved",
+        ),
+        // A fact of the first one is not there in the second.
+        (
+            "branch 0|sum 1*1|close 1*3|close 1*3|",
+            "1: NoSuchFact at step 4; 3 of 4 proved",
+        ),
+    ];
+    for (lines, expected) in rows {
+        expect_told(
+            &rt,
+            alloc,
+            ONE_SKIP,
+            &[(&[1], lines), (&[2, 3, 4], "close 1*1|")],
+            expected,
+        )?;
+    }
+    Ok(())
+}
+
+#[test]
+fn too_many_facts(rt: HostRuntime) -> Result<(), Fail> {
+    let alloc = rt.alloc();
+    for (sums, expected) in [
+        (9_999u32, "1: proved"),
+        (10_000u32, "1: TooManyFacts at step 10000"),
+    ] {
+        let mut lines = String::new(alloc);
+        for _ in 0..sums {
+            lines.push_str("sum 1*1|")?;
+        }
+        lines.push_str("close 1*1|")?;
+        let text = text_of(alloc, &[(&[1], lines.as_str())])?;
+        let outline = outline_of(alloc, ONE_SKIP)?;
+        let file = read_certs(alloc, text.as_str().as_bytes())?;
+        let list = conditions(alloc, &outline)?;
+        assert!(rt; !list.is_empty());
+        let status = status(alloc, &list[0], file.certificate(1))?;
+        let got = status.as_str();
+        let got = format!(in alloc; "1: {got}")?;
+        assert_eq!(rt; got.as_str(), expected);
+    }
+    Ok(())
+}
