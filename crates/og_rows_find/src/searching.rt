@@ -14,36 +14,51 @@ const BUDGET: u64 = 100_000;
 
 const GREATEST_BUDGET: u64 = 1_000_000_000;
 
-// A letter for the verdict: true, false or open. An `x` where `find` or the file tells otherwise.
-fn letter(
+// A letter for the verdict: true, false or open.
+fn letter(verdict: &Verdict) -> u8 {
+    match verdict {
+        Verdict::True(_) => b't',
+        Verdict::False(_) => b'f',
+        Verdict::Open => b'o',
+    }
+}
+
+// The letter of the condition, or `x` where `find` or the file tells otherwise.
+fn letter_of(
     alloc: Global,
     condition: &Condition,
     budget: u64,
     is_in_file: bool,
-) -> Result<&'static str, AllocError> {
-    let verdict = examine(alloc, condition, budget)?;
+) -> Result<u8, AllocError> {
+    let letter = letter(&examine(alloc, condition, budget)?);
+    let is_true = letter == b't';
     let is_found = find(alloc, condition, budget)?.is_some();
-    Ok(match verdict {
-        Verdict::True(_) if is_found && is_in_file => "t",
-        Verdict::False(_) if !is_found && !is_in_file => "f",
-        Verdict::Open if !is_found && !is_in_file => "o",
-        _ => "x",
+    Ok(if is_found == is_true && is_in_file == is_true {
+        letter
+    } else {
+        b'x'
     })
 }
 
-// The letters of all conditions of a source, in order.
-fn letters(alloc: Global, source: &str, budget: u64) -> Result<String, Fail> {
-    let outline = outline_of(alloc, source)?;
-    let list = conditions(alloc, &outline)?;
-    let file = find_all(alloc, &list, budget)?;
-    let mut out = String::new(alloc);
+// The letters of all conditions, in order.
+fn letters_of(alloc: Global, list: &[Condition], budget: u64) -> Result<Vec<u8>, AllocError> {
+    let file = find_all(alloc, list, budget)?;
+    let mut letters = Vec::new(alloc);
     let mut number = 0u32;
-    for condition in &list {
+    for condition in list {
         number = number.saturating_add(1);
         let is_in_file = file.certificate(number).is_some();
-        out.push_str(letter(alloc, condition, budget, is_in_file)?)?;
+        letters.push(letter_of(alloc, condition, budget, is_in_file)?)?;
     }
-    Ok(out)
+    Ok(letters)
+}
+
+// Whether these are the letters of the conditions of a source.
+fn has_letters(alloc: Global, source: &str, budget: u64, expected: &str) -> Result<bool, Fail> {
+    let outline = outline_of(alloc, source)?;
+    let list = conditions(alloc, &outline)?;
+    let letters = letters_of(alloc, &list, budget)?;
+    Ok(letters.as_slice() == expected.as_bytes())
 }
 
 #[test]
@@ -62,8 +77,8 @@ fn verdicts(rt: HostRuntime) -> Result<(), Fail> {
         (TWO_ADD, GREATEST_BUDGET, "tttttttttttt"),
     ];
     for (source, budget, expected) in rows {
-        let got = letters(alloc, source, budget)?;
-        assert_eq!(rt; got.as_str(), expected, "of {source} with {budget}");
+        let is_right = has_letters(alloc, source, budget, expected)?;
+        assert!(rt; is_right, "{expected} of {source} with {budget}");
     }
     Ok(())
 }
@@ -81,8 +96,8 @@ fn made_sources(rt: HostRuntime) -> Result<(), Fail> {
         (deep(alloc)?, "tttftt"),
     ];
     for (source, expected) in &rows {
-        let got = letters(alloc, source.as_str(), BUDGET)?;
-        assert_eq!(rt; got.as_str(), *expected);
+        let is_right = has_letters(alloc, source.as_str(), BUDGET, expected)?;
+        assert!(rt; is_right, "{expected}");
     }
     Ok(())
 }

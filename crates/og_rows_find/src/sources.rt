@@ -28,87 +28,63 @@ pub(crate) const LARGE: &str =
 // A condition that has no facts at all: it is false.
 pub(crate) const NO_FACTS: &str = "{false}\ncobegin\n{true} skip {false}\ncoend\n{false}\n";
 
-// Adds the part to the text, as often as `times` says.
-fn add_times(out: &mut String, part: &str, times: u32) -> Result<(), AllocError> {
-    for _ in 0..times {
-        out.push_str(part)?;
-    }
-    Ok(())
-}
-
-// A text that begins so, then has the part so often, and ends so.
-fn repeated(
-    alloc: Global,
-    begin: &str,
-    part: &str,
-    times: u32,
-    end: &str,
-) -> Result<String, AllocError> {
-    let mut out = String::from_str(alloc, begin)?;
-    add_times(&mut out, part, times)?;
-    out.push_str(end)?;
-    Ok(out)
-}
-
 // Eight equal processes of two assignments and then 38 skips, every assertion `x >= 0`.
 pub(crate) fn alike(alloc: Global) -> Result<String, AllocError> {
-    let assigns = "{x >= 0} x := 1\n{x >= 0} x := 1\n";
-    let process = repeated(alloc, assigns, "{x >= 0} skip\n", 38, "{x >= 0}\n")?;
-    let behind = repeated(alloc, "//\n", process.as_str(), 1, "")?;
-    let begin = repeated(
-        alloc,
-        "var x;\n{x >= 0}\ncobegin\n",
+    let assigns = "{x >= 0} x := 1\n".repeat(alloc, 2)?;
+    let skips = "{x >= 0} skip\n".repeat(alloc, 38)?;
+    let process = [assigns.as_str(), skips.as_str(), "{x >= 0}\n"].concat(alloc)?;
+    let other = ["//\n", process.as_str()].concat(alloc)?;
+    let others = other.as_str().repeat(alloc, 7)?;
+    let begin = "var x;\n{x >= 0}\ncobegin\n";
+    [
+        begin,
         process.as_str(),
-        1,
-        "",
-    )?;
-    repeated(
-        alloc,
-        begin.as_str(),
-        behind.as_str(),
-        7,
+        others.as_str(),
         "coend\n{x >= 0}\n",
-    )
+    ]
+    .concat(alloc)
 }
 
 // A process that multiplies x so often by 2^31.
-pub(crate) fn multiplied(alloc: Global, times: u32) -> Result<String, AllocError> {
-    repeated(
-        alloc,
-        "var x;\n{x >= 1}\ncobegin\n{x >= 1}\nawait true then begin x := x",
-        "; x := 2147483648*x",
-        times,
-        " end\n{x >= 2}\ncoend\n{x >= 2}\n",
-    )
+pub(crate) fn multiplied(alloc: Global, times: usize) -> Result<String, AllocError> {
+    let steps = "; x := 2147483648*x".repeat(alloc, times)?;
+    let begin = "var x;\n{x >= 1}\ncobegin\n{x >= 1}\nawait true then begin x := x";
+    let end = " end\n{x >= 2}\ncoend\n{x >= 2}\n";
+    [begin, steps.as_str(), end].concat(alloc)
 }
 
 // A first assertion with 9,999 facts: the conditions that the processes start have 10,000.
 pub(crate) fn many(alloc: Global) -> Result<String, AllocError> {
-    repeated(
-        alloc,
+    let facts = " and x = 7".repeat(alloc, 4999)?;
+    let processes = "}\ncobegin\n{x >= 7} skip {x >= 7}\n//\n{x <= 6} skip {x <= 6}\n";
+    [
         "var x;\n{x >= 7",
-        " and x = 7",
-        4999,
-        "}\ncobegin\n{x >= 7} skip {x >= 7}\n//\n{x <= 6} skip {x <= 6}\ncoend\n{true}\n",
-    )
+        facts.as_str(),
+        processes,
+        "coend\n{true}\n",
+    ]
+    .concat(alloc)
 }
 
 // Choices in choices, 100 deep, with a bound that leaves them no way, and with one that does.
 pub(crate) fn deep(alloc: Global) -> Result<String, AllocError> {
-    let choices = repeated(alloc, "(x = 5", " or y <= 0 and (x = 6", 99, "")?;
-    let nested = repeated(alloc, choices.as_str(), ")", 100, "} skip {false}\n")?;
-    let first = repeated(
-        alloc,
-        "var x, y;\n{false}\ncobegin\n{x <= 4 and ",
-        nested.as_str(),
-        1,
-        "//\n{x <= 5 and ",
-    )?;
-    repeated(
-        alloc,
-        first.as_str(),
-        nested.as_str(),
-        1,
+    let choices = " or y <= 0 and (x = 6".repeat(alloc, 99)?;
+    let ends = ")".repeat(alloc, 100)?;
+    let one = [
+        "(x = 5",
+        choices.as_str(),
+        ends.as_str(),
+        "} skip {false}\n",
+    ]
+    .concat(alloc)?;
+    let first = "var x, y;\n{false}\ncobegin\n{x <= 4 and ";
+    let second = "//\n{x <= 5 and ";
+    [
+        first,
+        one.as_str(),
+        second,
+        one.as_str(),
         "coend\n{false}\n",
-    )
+    ]
+    .concat(alloc)
 }
