@@ -4,7 +4,7 @@
 usage: bench/find.py PROGRAM [--z3 Z3] [--folder FOLDER]
 
 Runs `PROGRAM find` on the outlines of examples/ and on outlines that it makes in FOLDER (a
-temporary one by default), and prints two tables. Each time is the best wall time of three runs.
+temporary one by default), and prints two tables. Each time is the least of five runs.
 Where Z3 is a z3 (by default the one on the path), it is asked about the same facts: all conditions
 of an outline in one run, each between a push and a pop, with each variable in the range of i64.
 PROGRAM is crates/og/out/og after `rt run` in crates/og.
@@ -160,13 +160,17 @@ def nested(count):
 # ---- runs
 
 def best(words):
-    """The seconds, the status and the standard output of the fastest of three runs."""
-    runs = []
-    for _ in range(3):
+    """The least wall and processor seconds of five runs, and the standard output."""
+    walls, processors = [], []
+    for _ in range(5):
         begin = time.monotonic()
-        done = subprocess.run(words, stdout=subprocess.PIPE, stderr=subprocess.DEVNULL)
-        runs.append((time.monotonic() - begin, done.returncode, done.stdout.decode()))
-    return min(runs)
+        process = subprocess.Popen(words, stdout=subprocess.PIPE, stderr=subprocess.DEVNULL)
+        text = process.stdout.read().decode()
+        _, status, usage = os.wait4(process.pid, 0)
+        process.returncode = os.waitstatus_to_exitcode(status)
+        walls.append(time.monotonic() - begin)
+        processors.append(usage.ru_utime + usage.ru_stime)
+    return min(walls), min(processors), text
 
 
 def headers(text):
@@ -175,21 +179,21 @@ def headers(text):
 
 def compare(program, z3, folder, path, name):
     listing = subprocess.run([program, "conditions", path], stdout=subprocess.PIPE).stdout.decode()
-    seconds, _, text = best([program, "find", path])
-    row = [name, str(listing.count("cond ")), str(headers(text)), "%.3f s" % seconds]
+    wall, processor, text = best([program, "find", path])
+    row = [name, str(listing.count("cond ")), str(headers(text)), "%.3f s" % wall, "%.3f s" % processor]
     if z3:
         asked = write(folder, "asked.smt2", text_for_z3(listing))
-        slow, _, answers = best([z3, asked])
-        row += [str(answers.split().count("unsat")), "%.3f s" % slow]
+        wall, processor, answers = best([z3, asked])
+        row += [str(answers.split().count("unsat")), "%.3f s" % wall, "%.3f s" % processor]
     print("| %s |" % " | ".join(row), flush=True)
 
 
 def measure(program, folder, name, text, budget):
     path = write(folder, "made.og", text)
     words = [program, "find", path, "--budget", str(budget)]
-    seconds, status, found = best(words)
-    print("| %s | %d | %d | %d | %.3f s | %.1f MB |" % (
-        name, budget, headers(found), status, seconds, peak(words) / 1024), flush=True)
+    wall, processor, found = best(words)
+    print("| %s | %d | %d | %.3f s | %.3f s | %.1f MB |" % (
+        name, budget, headers(found), wall, processor, peak(words) / 1024), flush=True)
 
 
 def main():
@@ -201,13 +205,14 @@ def main():
     program = os.path.abspath(options.program)
     folder = options.folder or tempfile.mkdtemp()
     examples = os.path.join(os.path.dirname(os.path.abspath(__file__)), "..", "examples")
-    print("| Outline | Conditions | Found | `og find` | z3: unsat | z3 |\n|-|-|-|-|-|-|")
+    print("| Outline | Conditions | Found | `og find` | Processor | z3: unsat | z3 | Processor |")
+    print("|-|-|-|-|-|-|-|-|")
     for path in sorted(glob.glob(os.path.join(examples, "*.og"))):
         compare(program, options.z3, folder, path, "`%s`" % os.path.basename(path))
     for name, text in [("8 processes of 40 statements", outline(8)),
                        ("semaphore, 10 processes", semaphore(10, 3))]:
         compare(program, options.z3, folder, write(folder, "large.og", text), name)
-    print("\n| Outline | Budget | Found | Status | Wall | Most memory |\n|-|-|-|-|-|-|")
+    print("\n| Outline | Budget | Found | Wall | Processor | Most memory |\n|-|-|-|-|-|-|")
     measure(program, folder, "8 processes of 40 statements", outline(8), BUDGET)
     measure(program, folder, "semaphore, 10 processes", semaphore(10, 3), BUDGET)
     for name, text in [("4,999 equalities", equalities(4999)), ("9,999 differences", differences(9999)),
