@@ -8,6 +8,7 @@ ghost use Rattle.og_cert_text.specs.Files.{certificate_of};
 ghost use Rattle.og_find.specs.Found.{AreOf, Closes, Gains};
 
 use crate::finding::{examine_facts, is_closing};
+use crate::reading::part_of;
 use crate::repeats::Searched;
 use crate::verdict::Verdict;
 use og_cert::Cert;
@@ -63,7 +64,7 @@ fn add_found(
 ) -> Result<(), AllocError>
     ensures { OnOk result (Gains list.now n (shown file.old) (shown file.new)) }
 {
-    let part = Part::of(alloc, list.as_slice())?;
+    let part = part_of(alloc, list)?;
     if let Some(k) = searched.equal(alloc, conditions, &part)? {
         return share(alloc, file, list, n, k);
     }

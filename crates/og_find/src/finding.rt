@@ -7,6 +7,7 @@ ghost use Rattle.og_facts.specs.Facts.{all_true_at};
 ghost use Rattle.og_cert_text.specs.Plain.{plain_cert};
 ghost use Rattle.og_find.specs.Found.{Certifies, Closes, IsVerdict, IsVerdictOn};
 
+use crate::reading::part_of;
 use crate::truth::{NESTING_LIMIT, all_true};
 use crate::verdict::Verdict;
 use og_cert::{Cert, ReplayError, replay};
@@ -99,7 +100,7 @@ pub fn examine(alloc: Global, condition: &Condition, budget: u64) -> Result<Verd
 {
     match facts(alloc, condition) {
         Ok(list) => {
-            let part = Part::of(alloc, list.as_slice())?;
+            let part = part_of(alloc, &list)?;
             examine_facts(alloc, &list, &part, budget)
         }
         Err(FactsError::Memory) => Err(AllocError),

@@ -6,6 +6,7 @@
 
 mod all;
 mod finding;
+mod reading;
 mod repeats;
 mod truth;
 mod verdict;

@@ -1,5 +1,6 @@
 //! Equal lists of facts.
 
+use crate::reading::part_of;
 use og_cond::Condition;
 use og_facts::{FactsError, facts};
 use og_search::Part;
@@ -46,7 +47,7 @@ impl Searched {
         };
         match facts(alloc, condition) {
             Ok(list) => {
-                let other = Part::of(alloc, list.as_slice())?;
+                let other = part_of(alloc, &list)?;
                 Ok(if part.is_same(&other) {
                     Some(number)
                 } else {

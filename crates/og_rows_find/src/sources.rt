@@ -21,48 +21,70 @@ pub(crate) const NESTED: &str =
 pub(crate) const NOT_EVEN: &str =
     "var x, y;\n{2*x = 2*y + 1}\ncobegin\n{false} skip {false}\ncoend\n{false}\n";
 
-// Adds the part to the text, as often as `times` says.
-pub(crate) fn add_times(out: &mut String, part: &str, times: u32) -> Result<(), AllocError> {
-    for _ in 0..times {
-        out.push_str(part)?;
-    }
-    Ok(())
-}
+// What is even is not odd, with numbers that are as large as a search uses them.
+pub(crate) const LARGE: &str =
+    "var x, y;\n{2147483646*x = 2147483646*y + 1073741823}\ncobegin\n{true}\nawait true then begin x := 2147483648*x; y := 2147483646*y end\n{2147483648*x <> 2147483646*y + 1}\n//\n{false} skip {false}\ncoend\n{true}\n";
 
-// Processes that are equal, with `//` between them, behind `head` and before `tail`.
-pub(crate) fn equal_processes(
-    alloc: Global,
-    head: &str,
-    process: &str,
-    others: u32,
-    tail: &str,
-) -> Result<String, AllocError> {
-    let mut out = String::from_str(alloc, head)?;
-    out.push_str(process)?;
-    for _ in 0..others {
-        out.push_str("//\n")?;
-        out.push_str(process)?;
-    }
-    out.push_str(tail)?;
-    Ok(out)
-}
+// A condition that has no facts at all: it is false.
+pub(crate) const NO_FACTS: &str = "{false}\ncobegin\n{true} skip {false}\ncoend\n{false}\n";
 
-// Equal processes of so many assignments and then so many skips, every assertion `x >= 0`.
-pub(crate) fn alike(
-    alloc: Global,
-    assigns: u32,
-    skips: u32,
-    others: u32,
-) -> Result<String, AllocError> {
-    let mut process = String::new(alloc);
-    add_times(&mut process, "{x >= 0} x := 1\n", assigns)?;
-    add_times(&mut process, "{x >= 0} skip\n", skips)?;
-    process.push_str("{x >= 0}\n")?;
-    equal_processes(
-        alloc,
-        "var x;\n{x >= 0}\ncobegin\n",
+// Eight equal processes of two assignments and then 38 skips, every assertion `x >= 0`.
+pub(crate) fn alike(alloc: Global) -> Result<String, AllocError> {
+    let assigns = "{x >= 0} x := 1\n".repeat(alloc, 2)?;
+    let skips = "{x >= 0} skip\n".repeat(alloc, 38)?;
+    let process = [assigns.as_str(), skips.as_str(), "{x >= 0}\n"].concat(alloc)?;
+    let other = ["//\n", process.as_str()].concat(alloc)?;
+    let others = other.as_str().repeat(alloc, 7)?;
+    let begin = "var x;\n{x >= 0}\ncobegin\n";
+    [
+        begin,
         process.as_str(),
-        others,
+        others.as_str(),
         "coend\n{x >= 0}\n",
-    )
+    ]
+    .concat(alloc)
+}
+
+// A process that multiplies x so often by 2^31.
+pub(crate) fn multiplied(alloc: Global, times: usize) -> Result<String, AllocError> {
+    let steps = "; x := 2147483648*x".repeat(alloc, times)?;
+    let begin = "var x;\n{x >= 1}\ncobegin\n{x >= 1}\nawait true then begin x := x";
+    let end = " end\n{x >= 2}\ncoend\n{x >= 2}\n";
+    [begin, steps.as_str(), end].concat(alloc)
+}
+
+// A first assertion with 9,999 facts: the conditions that the processes start have 10,000.
+pub(crate) fn many(alloc: Global) -> Result<String, AllocError> {
+    let facts = " and x = 7".repeat(alloc, 4999)?;
+    let processes = "}\ncobegin\n{x >= 7} skip {x >= 7}\n//\n{x <= 6} skip {x <= 6}\n";
+    [
+        "var x;\n{x >= 7",
+        facts.as_str(),
+        processes,
+        "coend\n{true}\n",
+    ]
+    .concat(alloc)
+}
+
+// Choices in choices, 100 deep, with a bound that leaves them no way, and with one that does.
+pub(crate) fn deep(alloc: Global) -> Result<String, AllocError> {
+    let choices = " or y <= 0 and (x = 6".repeat(alloc, 99)?;
+    let ends = ")".repeat(alloc, 100)?;
+    let one = [
+        "(x = 5",
+        choices.as_str(),
+        ends.as_str(),
+        "} skip {false}\n",
+    ]
+    .concat(alloc)?;
+    let first = "var x, y;\n{false}\ncobegin\n{x <= 4 and ";
+    let second = "//\n{x <= 5 and ";
+    [
+        first,
+        one.as_str(),
+        second,
+        one.as_str(),
+        "coend\n{false}\n",
+    ]
+    .concat(alloc)
 }

@@ -10,7 +10,7 @@ pub(crate) const LOWEST: i128 = -9_223_372_036_854_775_808;
 pub(crate) const HIGHEST: i128 = 9_223_372_036_854_775_807;
 
 /// A bound of a variable, and the row that says so; none where it is the range of `i64`.
-#[derive(Clone, Copy, Debug)]
+#[derive(Clone, Copy)]
 pub(crate) struct Bound {
     pub(crate) value: i128,
     pub(crate) row: Option<usize>,
@@ -27,7 +27,7 @@ const NO_UPPER: Bound = Bound {
 };
 
 /// The bounds of all variables.
-#[derive(Debug, Drop)]
+#[derive(Drop)]
 pub(crate) struct Bounds {
     low: Vec<Bound>,
     high: Vec<Bound>,

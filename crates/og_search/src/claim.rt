@@ -9,7 +9,7 @@ use og_cert_text::Cert;
 use std::alloc::{AllocError, Global};
 
 /// What a search ends with. Whoever relies on it has to check it.
-#[derive(Debug, Drop)]
+#[derive(Drop)]
 pub enum Claim {
     /// The certificate closes the facts.
     Closed(Cert),

@@ -13,14 +13,14 @@ use std::alloc::AllocError;
 const ROWS_LIMIT: usize = 500;
 
 /// A variable that was eliminated, and the rows in which it occurred.
-#[derive(Debug, Drop)]
+#[derive(Drop)]
 pub(crate) struct Eliminated {
     pub(crate) var: u32,
     pub(crate) rows: Vec<usize>,
 }
 
 /// How an elimination ends.
-#[derive(Debug, Drop)]
+#[derive(Drop)]
 pub(crate) enum Outcome {
     /// This row closes.
     Closed(usize),
@@ -35,21 +35,21 @@ pub(crate) enum Outcome {
 }
 
 // How often a variable occurs with either sign.
-#[derive(Clone, Copy, Debug)]
+#[derive(Clone, Copy)]
 struct Count {
     above: usize,
     below: usize,
 }
 
 // Rows in which the variable is positive, each of which goes with each in which it is negative.
-#[derive(Debug, Drop)]
+#[derive(Drop)]
 struct Product {
     above: Vec<usize>,
     below: Vec<usize>,
 }
 
 // What is eliminated next, and the pairs of rows whose sums take its place.
-#[derive(Debug, Drop)]
+#[derive(Drop)]
 struct Plan {
     var: u32,
     first: Product,
@@ -57,7 +57,7 @@ struct Plan {
 }
 
 // Where rows with the same terms stand, and with those with the sign changed.
-#[derive(Clone, Copy, Debug)]
+#[derive(Clone, Copy)]
 struct Beside {
     parallel: Option<(usize, usize)>,
     opposite: Option<usize>,

@@ -4,7 +4,7 @@
 pub(crate) const TOP: u32 = 200;
 
 /// A set of levels from 0 to 255.
-#[derive(Clone, Copy, Debug, PartialEq, Eq)]
+#[derive(Clone, Copy)]
 pub(crate) struct Levels {
     low: u128,
     high: u128,

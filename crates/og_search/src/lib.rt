@@ -1,6 +1,7 @@
 //! The search for certificates, by case splits and Fourier-Motzkin elimination.
 //!
 //! No contract promises what it finds: it is safe and ends, and `og_find` checks what it claims.
+//! It knows nothing of conditions: the facts are put together by `Part`.
 #![tactic(auto)]
 
 mod bounds;

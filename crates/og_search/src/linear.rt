@@ -11,7 +11,7 @@ const COEFFICIENT_LIMIT: u128 = 1 << 62;
 const CONSTANT_LIMIT: u128 = 1 << 120;
 
 /// The variables of an inequality, rising, each with its nonzero coefficient, and its constant.
-#[derive(Debug, Drop)]
+#[derive(Drop)]
 pub(crate) struct Linear {
     pub(crate) terms: Vec<(u32, i128)>,
     pub(crate) constant: i128,

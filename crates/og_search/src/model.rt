@@ -3,7 +3,7 @@
 use std::alloc::{AllocError, Global};
 
 /// A value for each variable.
-#[derive(Debug, Drop)]
+#[derive(Drop)]
 pub struct Model {
     values: Vec<i128>,
 }
@@ -33,5 +33,4 @@ impl Model {
             *place = value;
         }
     }
-
 }

@@ -63,7 +63,7 @@ pub(crate) fn close_within(rows: &mut Rows, r: usize, bounds: &Bounds) -> Result
 }
 
 // Which variables of a row may get a better bound.
-#[derive(Clone, Copy, Debug)]
+#[derive(Clone, Copy)]
 enum Open {
     // Each of them.
     All,

@@ -11,7 +11,7 @@ use std::alloc::{AllocError, Global};
 const LOOK_LIMIT: usize = 32;
 
 /// A choice among the facts of a level.
-#[derive(Clone, Copy, Debug)]
+#[derive(Clone, Copy)]
 pub(crate) struct Open<'a> {
     pub(crate) level: u32,
     pub(crate) index: usize,

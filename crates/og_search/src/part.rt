@@ -1,14 +1,13 @@
 //! The facts of a condition in the form in which they are searched.
 
 use crate::bounds::Bounds;
-use crate::levels::TOP;
 use crate::linear::Linear;
 use crate::model::Model;
-use og_facts::Fact;
+use og_linear::Form;
 use std::alloc::{AllocError, Global};
 
 /// An inequality and its place among the facts that it stands with, from 0.
-#[derive(Debug, Drop)]
+#[derive(Drop)]
 pub(crate) struct Atom {
     pub(crate) index: usize,
     pub(crate) form: Linear,
@@ -16,8 +15,9 @@ pub(crate) struct Atom {
 
 /// Facts that stand together: those of a condition, or of a part of a choice.
 #[cycle(part)]
-#[derive(Debug, Drop)]
+#[derive(Drop)]
 pub struct Part {
+    alloc: Global,
     pub(crate) atoms: Vec<Atom>,
     pub(crate) choices: Vec<Choice>,
     pub(crate) count: usize,
@@ -26,47 +26,11 @@ pub struct Part {
 /// A choice of parts, its place among the facts that it stands with, from 0, and how many facts
 /// there are in its parts, in all.
 #[cycle(part)]
-#[derive(Debug, Drop)]
+#[derive(Drop)]
 pub(crate) struct Choice {
     pub(crate) index: usize,
     pub(crate) parts: Vec<Part>,
     pub(crate) size: usize,
-}
-
-/// The facts, apart by their kind. Choices that have so many choices round them are left out.
-#[cycle(reading)]
-fn part_of(alloc: Global, facts: &[Fact], depth: u32) -> Result<Part, AllocError> {
-    let mut atoms = Vec::new(alloc);
-    let mut choices = Vec::new(alloc);
-    for (index, fact) in facts.iter().enumerate() {
-        match fact {
-            Fact::Atom(form) => {
-                let form = Linear::of_form(alloc, form)?;
-                atoms.push(Atom { index, form })?;
-            }
-            Fact::Split(parts) => {
-                if let Some(below) = depth.checked_sub(1) {
-                    let parts = parts_of(alloc, parts, below)?;
-                    let size = size_of_parts(&parts);
-                    choices.push(Choice { index, parts, size })?;
-                }
-            }
-        }
-    }
-    Ok(Part {
-        atoms,
-        choices,
-        count: facts.len(),
-    })
-}
-
-#[cycle(reading)]
-fn parts_of(alloc: Global, parts: &[Vec<Fact>], depth: u32) -> Result<Vec<Part>, AllocError> {
-    let mut out = Vec::with_capacity(alloc, parts.len())?;
-    for facts in parts {
-        out.push(part_of(alloc, facts, depth)?)?;
-    }
-    Ok(out)
 }
 
 // How many facts there are, with those in the parts of choices.
@@ -87,12 +51,43 @@ fn size_of_parts(parts: &[Part]) -> usize {
 }
 
 impl Part {
-    /// The facts in the form in which they are searched.
-    ///
-    /// Choices that have 200 choices round them are left out. `AllocError` where an allocation was
-    /// refused.
-    pub fn of(alloc: Global, facts: &[Fact]) -> Result<Part, AllocError> {
-        part_of(alloc, facts, TOP)
+    /// No facts.
+    pub fn new(alloc: Global) -> Part {
+        Part {
+            alloc,
+            atoms: Vec::new(alloc),
+            choices: Vec::new(alloc),
+            count: 0,
+        }
+    }
+
+    // The place of one fact more.
+    fn next_place(&mut self) -> usize {
+        let place = self.count;
+        self.count = place.saturating_add(1);
+        place
+    }
+
+    /// Adds the fact that the form is at most 0. `AllocError` where an allocation was refused.
+    pub fn add_form(&mut self, form: &Form) -> Result<(), AllocError> {
+        let form = Linear::of_form(self.alloc, form)?;
+        let index = self.next_place();
+        self.atoms.push(Atom { index, form })?;
+        Ok(())
+    }
+
+    /// Adds the fact that all facts of one of the parts are true. `AllocError` where an allocation
+    /// was refused.
+    pub fn add_choice(&mut self, parts: Vec<Part>) -> Result<(), AllocError> {
+        let size = size_of_parts(&parts);
+        let index = self.next_place();
+        self.choices.push(Choice { index, parts, size })?;
+        Ok(())
+    }
+
+    /// Adds a fact that no search looks at.
+    pub fn add_unread(&mut self) {
+        self.next_place();
     }
 
     // Whether some inequality is false within the bounds.

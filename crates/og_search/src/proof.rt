@@ -4,7 +4,7 @@ use crate::levels::Levels;
 use crate::linear::Linear;
 
 /// A fact or a bound, or a line of the same leaf.
-#[derive(Clone, Copy, Debug)]
+#[derive(Clone, Copy)]
 pub(crate) enum Name {
     /// The fact with this place among those of its level.
     Given(u32, usize),
@@ -17,14 +17,14 @@ pub(crate) enum Name {
 }
 
 /// A multiple.
-#[derive(Clone, Copy, Debug)]
+#[derive(Clone, Copy)]
 pub(crate) struct Multiple {
     pub(crate) times: i128,
     pub(crate) name: Name,
 }
 
 /// A line that adds a fact.
-#[derive(Debug, Drop)]
+#[derive(Drop)]
 pub(crate) enum Line {
     Sum(Vec<Multiple>),
     Cut(Name, i128),
@@ -32,7 +32,7 @@ pub(crate) enum Line {
 
 /// A refutation, and the levels of the facts that it uses.
 #[cycle(proof)]
-#[derive(Debug, Drop)]
+#[derive(Drop)]
 pub(crate) struct Proof {
     pub(crate) used: Levels,
     pub(crate) tree: Tree,
@@ -40,7 +40,7 @@ pub(crate) struct Proof {
 
 /// How facts are refuted.
 #[cycle(proof)]
-#[derive(Debug, Drop)]
+#[derive(Drop)]
 pub(crate) enum Tree {
     /// Lines, and the sum that closes.
     Leaf(Vec<Line>, Vec<Multiple>),
@@ -52,7 +52,7 @@ pub(crate) enum Tree {
 
 /// A part of a choice: its level, how many facts it has, and what refutes it.
 #[cycle(proof)]
-#[derive(Debug, Drop)]
+#[derive(Drop)]
 pub(crate) struct Case {
     pub(crate) level: u32,
     pub(crate) count: usize,

@@ -8,7 +8,7 @@ use crate::stop::Stop;
 use std::alloc::Global;
 
 /// What a row was made of.
-#[derive(Debug, Drop)]
+#[derive(Drop)]
 pub(crate) enum Origin {
     /// The fact with this place among those of its level.
     Given(u32, usize),
@@ -23,7 +23,7 @@ pub(crate) enum Origin {
 }
 
 /// An inequality that follows from the facts of these levels.
-#[derive(Debug, Drop)]
+#[derive(Drop)]
 pub(crate) struct Row {
     pub(crate) form: Linear,
     pub(crate) origin: Origin,
@@ -32,7 +32,7 @@ pub(crate) struct Row {
 }
 
 /// What came of a row.
-#[derive(Clone, Copy, Debug)]
+#[derive(Clone, Copy)]
 pub(crate) enum Added {
     /// It is this row.
     Row(usize),

@@ -3,7 +3,7 @@
 use std::alloc::{AllocError, AllocFailed};
 
 /// Why a search ends.
-#[derive(Clone, Copy, Debug, PartialEq, Eq)]
+#[derive(Clone, Copy)]
 pub(crate) enum Stop {
     /// An allocation was refused.
     Memory,

@@ -7,7 +7,7 @@ use crate::model::Model;
 use crate::rows::Rows;
 
 /// What came of the search for values.
-#[derive(Clone, Copy, Debug)]
+#[derive(Clone, Copy)]
 pub(crate) enum Values {
     /// Each variable has its value.
     Fit,
@@ -20,7 +20,7 @@ pub(crate) enum Values {
 }
 
 // The least and the greatest value of a variable, as far as there are such.
-#[derive(Clone, Copy, Debug)]
+#[derive(Clone, Copy)]
 struct Limits {
     low: Option<i128>,
     high: Option<i128>,

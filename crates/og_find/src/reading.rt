@@ -1,0 +1,35 @@
+//! The facts of a condition as a search takes them.
+
+use crate::truth::NESTING_LIMIT;
+use og_facts::{Fact, FactList};
+use og_search::Part;
+use std::alloc::{AllocError, Global};
+
+#[cycle(reading)]
+fn read_facts(alloc: Global, facts: &[Fact], depth: u32) -> Result<Part, AllocError> {
+    let mut part = Part::new(alloc);
+    for fact in facts {
+        match fact {
+            Fact::Atom(form) => part.add_form(form)?,
+            Fact::Split(parts) => match depth.checked_sub(1) {
+                Some(below) => part.add_choice(read_parts(alloc, parts, below)?)?,
+                None => part.add_unread(),
+            },
+        }
+    }
+    Ok(part)
+}
+
+#[cycle(reading)]
+fn read_parts(alloc: Global, parts: &[Vec<Fact>], depth: u32) -> Result<Vec<Part>, AllocError> {
+    let mut out = Vec::with_capacity(alloc, parts.len())?;
+    for facts in parts {
+        out.push(read_facts(alloc, facts, depth)?)?;
+    }
+    Ok(out)
+}
+
+/// The facts as a search takes them. Choices that have 200 choices round them are left out.
+pub(crate) fn part_of(alloc: Global, list: &FactList) -> Result<Part, AllocError> {
+    read_facts(alloc, list.as_slice(), NESTING_LIMIT)
+}
