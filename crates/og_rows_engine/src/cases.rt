@@ -1,10 +1,11 @@
 //! Worked examples, and the texts that they are written in.
 
+use std::alloc::Global;
 use std::process::Abort;
 use std::test::Fail;
 
 // The most examples in one text.
-pub(crate) const MOST: u32 = 64;
+const MOST: u32 = 64;
 
 // A worked example.
 #[derive(Clone, Copy, Debug)]
@@ -45,28 +46,22 @@ fn next_case(text: &str) -> Option<(Case<'_>, &str)> {
     Some((case, rest))
 }
 
-// What is expected of an example.
-pub(crate) trait Expect<R> {
-    fn expect(&self, rt: &R, case: Case<'_>) -> Result<(), Fail>;
-}
-
-// Asks of each example of a text what is expected. There are so many examples.
-pub(crate) fn expect_each<R: Abort, E: Expect<R>>(
+// The examples of a text. There are so many.
+pub(crate) fn cases<'a, R: Abort>(
     rt: &R,
-    text: &str,
-    count: u32,
-    expected: &E,
-) -> Result<(), Fail> {
+    alloc: Global,
+    text: &'a str,
+    count: usize,
+) -> Result<Vec<Case<'a>>, Fail> {
     let mut rest = text;
-    let mut seen = 0u32;
+    let mut cases = Vec::new(alloc);
     for _ in 0..MOST {
         let Some((case, more)) = next_case(rest) else {
             break;
         };
-        expected.expect(rt, case)?;
-        seen = seen.saturating_add(1);
+        cases.push(case)?;
         rest = more;
     }
-    assert_eq!(rt; seen, count);
-    Ok(())
+    assert_eq!(rt; cases.len(), count);
+    Ok(cases)
 }

@@ -1,6 +1,6 @@
 //! Readers and writers, and devices that fail.
 
-use crate::cases::{Case, Expect, expect_each};
+use crate::cases::{Case, cases};
 use crate::not_safe::NOT_SAFE;
 use crate::refused::REFUSED;
 use crate::safe::SAFE;
@@ -102,12 +102,6 @@ impl Write for Paper {
     }
 }
 
-// The source and the certificates as one input.
-#[derive(Drop)]
-struct Joins {
-    alloc: Global,
-}
-
 // The input: between its two parts stands a line end, where the source has none at its end.
 fn joined_of(alloc: Global, case: Case<'_>) -> Result<String, Fail> {
     let mut input = String::from_str(alloc, case.source)?;
@@ -118,23 +112,27 @@ fn joined_of(alloc: Global, case: Case<'_>) -> Result<String, Fail> {
     Ok(input)
 }
 
-impl<R: Threads + Wait + Sync + Abort> Expect<R> for Joins {
-    fn expect(&self, rt: &R, case: Case<'_>) -> Result<(), Fail> {
-        let input = joined_of(self.alloc, case)?;
+fn expect_joined<R: Threads + Wait + Sync + Abort>(
+    rt: &R,
+    alloc: Global,
+    cases: Vec<Case<'_>>,
+) -> Result<(), Fail> {
+    for case in cases {
+        let input = joined_of(alloc, case)?;
         let mut reader = OneByOne::new(input.as_bytes(), 0);
-        let mut paper = Paper::new(self.alloc, 0);
-        let status = engine_joined(rt, self.alloc, &mut reader, &mut paper, OPTIONS, &OpenGate)?;
+        let mut paper = Paper::new(alloc, 0);
+        let status = engine_joined(rt, alloc, &mut reader, &mut paper, OPTIONS, &OpenGate)?;
         assert!(rt; case.prints(&paper.bytes, status), "{}", case.name);
-        Ok(())
     }
+    Ok(())
 }
 
 #[test]
 fn joined_inputs(rt: HostRuntime) -> Result<(), Fail> {
-    let joins = Joins { alloc: rt.alloc() };
-    expect_each(&rt, SAFE, 14, &joins)?;
-    expect_each(&rt, NOT_SAFE, 18, &joins)?;
-    expect_each(&rt, REFUSED, 33, &joins)
+    let alloc = rt.alloc();
+    expect_joined(&rt, alloc, cases(&rt, alloc, SAFE, 14)?)?;
+    expect_joined(&rt, alloc, cases(&rt, alloc, NOT_SAFE, 18)?)?;
+    expect_joined(&rt, alloc, cases(&rt, alloc, REFUSED, 33)?)
 }
 
 const SOURCE: &[u8] = b"{true}\ncobegin\n{true} skip {true}\ncoend\n{true}\n";

@@ -1,6 +1,6 @@
 //! Whole checks, and the commands.
 
-use crate::cases::{Case, Expect, expect_each};
+use crate::cases::{Case, cases};
 use crate::not_safe::NOT_SAFE;
 use crate::printed::{ERASED, IN_JSON, LISTED, MIGRATED};
 use crate::refused::REFUSED;
@@ -14,107 +14,89 @@ use std::test::Fail;
 use std::thread::Threads;
 
 // A check by one worker, by two, and by as many as there may be.
-#[derive(Drop)]
-struct Checks {
+fn expect_report<R: Threads + Wait + Sync + Abort>(
+    rt: &R,
     alloc: Global,
+    case: Case<'_>,
     json: bool,
+) -> Result<(), Fail> {
+    let (source, certs) = (case.source.as_bytes(), case.certs.as_bytes());
+    for workers in [1, 2, 64] {
+        let options = Options { workers, json };
+        let answer = checked(rt, alloc, source, certs, options, &OpenGate)?;
+        assert!(rt;
+            case.prints(&answer.text, answer.status),
+            "{} by {workers}",
+            case.name
+        );
+    }
+    Ok(())
 }
 
-impl<R: Threads + Wait + Sync + Abort> Expect<R> for Checks {
-    fn expect(&self, rt: &R, case: Case<'_>) -> Result<(), Fail> {
-        let (source, certs) = (case.source.as_bytes(), case.certs.as_bytes());
-        for workers in [1, 2, 64] {
-            let options = Options {
-                workers,
-                json: self.json,
-            };
-            let answer = checked(rt, self.alloc, source, certs, options, &OpenGate)?;
-            assert!(rt;
-                case.prints(&answer.text, answer.status),
-                "{} by {workers}",
-                case.name
-            );
-        }
-        Ok(())
+fn expect_reports<R: Threads + Wait + Sync + Abort>(
+    rt: &R,
+    alloc: Global,
+    cases: Vec<Case<'_>>,
+    json: bool,
+) -> Result<(), Fail> {
+    for case in cases {
+        expect_report(rt, alloc, case, json)?;
     }
+    Ok(())
 }
 
 #[test]
 fn reports(rt: HostRuntime) -> Result<(), Fail> {
     let alloc = rt.alloc();
-    let checks = Checks { alloc, json: false };
-    expect_each(&rt, SAFE, 14, &checks)?;
-    expect_each(&rt, NOT_SAFE, 18, &checks)?;
-    expect_each(&rt, REFUSED, 33, &checks)?;
-    expect_each(&rt, IN_JSON, 3, &Checks { alloc, json: true })
+    expect_reports(&rt, alloc, cases(&rt, alloc, SAFE, 14)?, false)?;
+    expect_reports(&rt, alloc, cases(&rt, alloc, NOT_SAFE, 18)?, false)?;
+    expect_reports(&rt, alloc, cases(&rt, alloc, REFUSED, 33)?, false)?;
+    expect_reports(&rt, alloc, cases(&rt, alloc, IN_JSON, 3)?, true)
 }
 
-// A check by the certificates in version 2; where they are refused, the line of the refusal.
-#[derive(Drop)]
-struct ChecksMigrated {
+// A check by the certificates in version 2.
+fn expect_migrated_reports<R: Threads + Wait + Sync + Abort>(
+    rt: &R,
     alloc: Global,
-}
-
-impl<R: Threads + Wait + Sync + Abort> Expect<R> for ChecksMigrated {
-    fn expect(&self, rt: &R, case: Case<'_>) -> Result<(), Fail> {
-        let mut answer = migrated(self.alloc, case.certs.as_bytes())?;
-        if answer.status == 0 {
-            assert!(rt; answer.text.len() <= case.certs.len());
-            let options = Options {
-                workers: 1,
-                json: false,
-            };
-            let source = case.source.as_bytes();
-            answer = checked(rt, self.alloc, source, &answer.text, options, &OpenGate)?;
-        }
+    cases: Vec<Case<'_>>,
+) -> Result<(), Fail> {
+    let options = Options {
+        workers: 1,
+        json: false,
+    };
+    for case in cases {
+        let certs = migrated(alloc, case.certs.as_bytes())?;
+        assert!(rt; certs.status == 0 && certs.text.len() <= case.certs.len());
+        let source = case.source.as_bytes();
+        let answer = checked(rt, alloc, source, &certs.text, options, &OpenGate)?;
         assert!(rt; case.prints(&answer.text, answer.status), "{}", case.name);
-        Ok(())
     }
+    Ok(())
 }
 
 #[test]
 fn reports_by_migrated_certificates(rt: HostRuntime) -> Result<(), Fail> {
-    let checks = ChecksMigrated { alloc: rt.alloc() };
-    expect_each(&rt, SAFE, 14, &checks)?;
-    expect_each(&rt, NOT_SAFE, 18, &checks)
-}
-
-// The commands on one input.
-#[derive(Drop)]
-enum Command {
-    Conditions,
-    Erase,
-    Migrate,
-}
-
-#[derive(Drop)]
-struct Prints {
-    alloc: Global,
-    command: Command,
-}
-
-impl<R: Abort> Expect<R> for Prints {
-    fn expect(&self, rt: &R, case: Case<'_>) -> Result<(), Fail> {
-        let input = case.source.as_bytes();
-        let answer = match self.command {
-            Command::Conditions => listed(self.alloc, input)?,
-            Command::Erase => erased(self.alloc, input)?,
-            Command::Migrate => migrated(self.alloc, input)?,
-        };
-        assert!(rt; case.prints(&answer.text, answer.status), "{}", case.name);
-        Ok(())
-    }
+    let alloc = rt.alloc();
+    expect_migrated_reports(&rt, alloc, cases(&rt, alloc, SAFE, 14)?)?;
+    expect_migrated_reports(&rt, alloc, cases(&rt, alloc, NOT_SAFE, 18)?)
 }
 
 #[test]
 fn commands(rt: HostRuntime) -> Result<(), Fail> {
     let alloc = rt.alloc();
-    let command = Command::Conditions;
-    expect_each(&rt, LISTED, 8, &Prints { alloc, command })?;
-    let command = Command::Erase;
-    expect_each(&rt, ERASED, 7, &Prints { alloc, command })?;
-    let command = Command::Migrate;
-    expect_each(&rt, MIGRATED, 2, &Prints { alloc, command })
+    for case in cases(&rt, alloc, LISTED, 8)? {
+        let answer = listed(alloc, case.source.as_bytes())?;
+        assert!(rt; case.prints(&answer.text, answer.status), "{}", case.name);
+    }
+    for case in cases(&rt, alloc, ERASED, 7)? {
+        let answer = erased(alloc, case.source.as_bytes())?;
+        assert!(rt; case.prints(&answer.text, answer.status), "{}", case.name);
+    }
+    for case in cases(&rt, alloc, MIGRATED, 2)? {
+        let answer = migrated(alloc, case.source.as_bytes())?;
+        assert!(rt; case.prints(&answer.text, answer.status), "{}", case.name);
+    }
+    Ok(())
 }
 
 // What is found is checked again, and has this status.
