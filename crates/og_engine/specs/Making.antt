@@ -1,16 +1,16 @@
 -- What is printed of certificates that are made, and the status.
-use Rattle.std.specs.Prelude.{◌≡◌, ◌<◌, ◌≤◌, ◌⊎◌, ℕ, List, [], length, Ok, IsSome}
+use Rattle.std.specs.Prelude.{◌≡◌, ◌<◌, ◌≤◌, ◌⊎◌, ℕ, List, [], length, IsSome}
 use Rattle.og_typed.specs.Syntax.{Program}
 use Rattle.og_cond.specs.Conditions.{conditions}
 use Rattle.og_cert_text.specs.Files.{Entries, certificate_of}
 use Rattle.og_cert_text.specs.Text.{file_text}
 use Rattle.og_cert_text.specs.declared.fault.CertTextFault.{CertTextFault}
-use Rattle.og_cert_read.specs.Read.{Gives, IsWrong}
-use Rattle.og_cert_read.specs.Shared.{shared_text}
+use Rattle.og_cert_read.specs.Read.{IsWrong}
 use Rattle.og_find.specs.Found.{AreOf}
 use Rattle.og_judge.specs.declared.refusal.Refusal.{Refusal}
 use Rattle.og_judge.specs.declared.refusal.Refusal.TheVariants as refusal
 use Rattle.og_judge.specs.Report.{IsSource}
+use Rattle.og_judge.specs.Migrated.{IsMigration, HasSameAnswers}
 use Rattle.og_engine.specs.Answers.{IsTold}
 use Rattle.og_engine.specs.Commands.{IsUnread, IsConditionsRefused}
 use Rattle.og_engine.specs.declared.answer.Answer.{Answer}
@@ -35,8 +35,8 @@ IsFound source answer =
     ⊎ ((o : Program) × IsSource source o
     × (IsFoundText o answer ⊎ ((why : Refusal) × IsConditionsRefused o why × IsTold source why answer)))
 
--- the file of the text in version 2 with status 0, or the line of a refusal
+-- the text in version 2, which answers as the given one, with status 0; or the line of a refusal
 abbrev pub IsMigrated : List ℕ → Answer → Type 0
 IsMigrated certs answer =
-    ((es : Entries) × Gives certs (Ok es) × (answer.text.items ≡ shared_text es) × (answer.status ≡ 0))
+    (IsMigration certs answer.text.items × HasSameAnswers certs answer.text.items × (answer.status ≡ 0))
     ⊎ ((fault : CertTextFault) × IsWrong certs fault × IsTold [] (refusal.Certs fault) answer)

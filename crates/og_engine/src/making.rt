@@ -4,16 +4,14 @@ ghost use Rattle.std.specs.Prelude.{◌≡◌, ◌≢◌, ◌≤◌, length, IfO
 ghost use Rattle.og_engine.specs.Commands.{IsConditionsRefused};
 ghost use Rattle.og_cert_text.specs.Shown.{shown};
 ghost use Rattle.og_cert_text.specs.Text.{file_text};
-ghost use Rattle.og_cert_read.specs.Shared.{shared_text};
 ghost use Rattle.og_engine.specs.Making.{TellsWhetherAll, IsFoundText, IsFound, IsMigrated};
 
 use crate::answer::{Answer, of_refusal};
 use crate::fault::EngineFault;
-use og_cert_read::{read_certs, write_certs_2};
 use og_cert_text::{CertFile, CertTextError, write_certs};
 use og_cond::conditions;
 use og_find::{find_all, has_all};
-use og_judge::{Refusal, read_outline};
+use og_judge::{Refusal, migrate, read_outline};
 use og_typed::Outline;
 use std::alloc::{AllocError, Global};
 
@@ -58,16 +56,8 @@ pub fn found(alloc: Global, source: &[u8], budget: u64) -> Result<Answer, Engine
     }
 }
 
-// The text of a file in version 2.
-fn of_shared(alloc: Global, file: &CertFile) -> Result<Answer, AllocError>
-    ensures text { IfOk result (λ a. a.text.items ≡ shared_text (shown file.now)) }
-    ensures status { IfOk result (λ a. a.status ≡ 0) }
-{
-    let text = write_certs_2(alloc, file)?;
-    Ok(Answer { text, status: 0 })
-}
-
-/// A text of certificates in version 2, and status 0; or the line of a refusal and status 2.
+/// A text of certificates in version 2, as `og_judge::migrate` gives it, and status 0; or the line of a
+/// refusal and status 2.
 ///
 /// # Errors
 ///
@@ -76,8 +66,8 @@ pub fn migrated(alloc: Global, certs: &[u8]) -> Result<Answer, EngineFault>
     ensures answer { IfOk result (IsMigrated certs.now) }
     ensures fault { IfErr result (λ e. e ≢ EngineFault.WriteFailed) }
 {
-    match read_certs(alloc, certs) {
-        Ok(file) => Ok(of_shared(alloc, &file)?),
+    match migrate(alloc, certs) {
+        Ok(text) => Ok(Answer { text, status: 0 }),
         Err(CertTextError::Memory) => Err(EngineFault::Memory),
         Err(CertTextError::Fault(fault)) => of_refusal(alloc, &Refusal::Certs(fault), b""),
     }

@@ -7,4 +7,5 @@ pub mod Projections
 pub mod Erased
 pub mod Examples
 pub mod Listing
+pub mod Migrating
 pub mod Refusing

@@ -1,0 +1,239 @@
+//! Readers and writers, and devices that fail.
+
+use crate::cases::{Case, cases};
+use crate::not_safe::NOT_SAFE;
+use crate::refused::REFUSED;
+use crate::safe::SAFE;
+use og_engine::{EngineFault, Options, engine, engine_joined};
+use og_pool::OpenGate;
+use std::alloc::Global;
+use std::io::{Error, ErrorKind, Read, Write};
+use std::process::Abort;
+use std::sync::Wait;
+use std::test::Fail;
+use std::thread::Threads;
+
+const OPTIONS: Options = Options {
+    workers: 1,
+    json: false,
+};
+
+// Gives one byte at each read, and fails at the read of this number, counted from 1.
+#[derive(Drop)]
+struct OneByOne<'a> {
+    bytes: &'a [u8],
+    fails_at: usize,
+    reads: usize,
+}
+
+impl<'a> OneByOne<'a> {
+    fn new(bytes: &'a [u8], fails_at: usize) -> OneByOne<'a> {
+        OneByOne {
+            bytes,
+            fails_at,
+            reads: 0,
+        }
+    }
+}
+
+impl<'a> Read for OneByOne<'a> {
+    fn read(&mut self, buffer: &mut [u8]) -> Result<usize, Error> {
+        self.reads = self.reads.saturating_add(1);
+        if self.reads == self.fails_at {
+            return Err(Error::from(ErrorKind::Other));
+        }
+        if buffer.is_empty() || self.bytes.is_empty() {
+            return Ok(0);
+        }
+        buffer[0] = self.bytes[0];
+        self.bytes = &self.bytes[1..];
+        Ok(1)
+    }
+}
+
+// Gives spaces without end.
+#[derive(Drop)]
+struct Spaces;
+
+impl Read for Spaces {
+    fn read(&mut self, buffer: &mut [u8]) -> Result<usize, Error> {
+        buffer.fill(b' ');
+        Ok(buffer.len())
+    }
+}
+
+// Takes one byte at each write, and fails at the write of this number, counted from 1; or at the flush.
+#[derive(Drop)]
+struct Paper {
+    bytes: Vec<u8>,
+    fails_at: usize,
+    writes: usize,
+    fails_flush: bool,
+}
+
+impl Paper {
+    fn new(alloc: Global, fails_at: usize) -> Paper {
+        Paper {
+            bytes: Vec::new(alloc),
+            fails_at,
+            writes: 0,
+            fails_flush: false,
+        }
+    }
+}
+
+impl Write for Paper {
+    fn write(&mut self, buf: &[u8]) -> Result<usize, Error> {
+        self.writes = self.writes.saturating_add(1);
+        let Some(first) = buf.first() else {
+            return Ok(0);
+        };
+        if self.writes == self.fails_at || self.bytes.push(*first).is_err() {
+            return Err(Error::from(ErrorKind::Other));
+        }
+        Ok(1)
+    }
+
+    fn flush(&mut self) -> Result<(), Error> {
+        if self.fails_flush {
+            return Err(Error::from(ErrorKind::Other));
+        }
+        Ok(())
+    }
+}
+
+// The input: between its two parts stands a line end, where the source has none at its end.
+fn joined_of(alloc: Global, case: Case<'_>) -> Result<String, Fail> {
+    let mut input = String::from_str(alloc, case.source)?;
+    if !case.source.ends_with('\n') {
+        input.push_str("\n")?;
+    }
+    input.push_str(case.certs)?;
+    Ok(input)
+}
+
+fn expect_joined<R: Threads + Wait + Sync + Abort>(
+    rt: &R,
+    alloc: Global,
+    cases: Vec<Case<'_>>,
+) -> Result<(), Fail> {
+    for case in cases {
+        let input = joined_of(alloc, case)?;
+        let mut reader = OneByOne::new(input.as_bytes(), 0);
+        let mut paper = Paper::new(alloc, 0);
+        let status = engine_joined(rt, alloc, &mut reader, &mut paper, OPTIONS, &OpenGate)?;
+        assert!(rt; case.prints(&paper.bytes, status), "{}", case.name);
+    }
+    Ok(())
+}
+
+#[test]
+fn joined_inputs(rt: HostRuntime) -> Result<(), Fail> {
+    let alloc = rt.alloc();
+    expect_joined(&rt, alloc, cases(&rt, alloc, SAFE, 14)?)?;
+    expect_joined(&rt, alloc, cases(&rt, alloc, NOT_SAFE, 18)?)?;
+    expect_joined(&rt, alloc, cases(&rt, alloc, REFUSED, 33)?)
+}
+
+const SOURCE: &[u8] = b"{true}\ncobegin\n{true} skip {true}\ncoend\n{true}\n";
+
+const CERTS: &[u8] =
+    b"og-cert 1\ncond 1\nclose 1*1\ncond 2\nclose 1*1\ncond 3\nclose 1*1\ncond 4\nclose 1*1\n";
+
+const REPORT: &[u8] = b"conditions: 4\nproved: 4\nsafe: yes\nunblocked: yes\n";
+
+// Checks from these readers to the end of this paper.
+fn check_from<R: Threads + Wait + Sync, S: Read, C: Read>(
+    rt: &R,
+    source: &mut S,
+    certs: &mut C,
+    paper: &mut Paper,
+) -> Result<u8, EngineFault> {
+    engine(
+        rt,
+        *paper.bytes.allocator(),
+        source,
+        certs,
+        paper,
+        OPTIONS,
+        &OpenGate,
+    )
+}
+
+fn expect_failed_reads<R: Threads + Wait + Sync + Abort>(rt: &R, alloc: Global) {
+    let mut paper = Paper::new(alloc, 0);
+    for fails_at in 1..SOURCE.len() + 2 {
+        let mut source = OneByOne::new(SOURCE, fails_at);
+        let got = check_from(rt, &mut source, &mut OneByOne::new(CERTS, 0), &mut paper);
+        assert!(rt; got == Err(EngineFault::ReadFailed), "source at {fails_at}");
+    }
+    for fails_at in 1..CERTS.len() + 2 {
+        let mut certs = OneByOne::new(CERTS, fails_at);
+        let got = check_from(rt, &mut OneByOne::new(SOURCE, 0), &mut certs, &mut paper);
+        assert!(rt;
+            got == Err(EngineFault::ReadFailed),
+            "certificates at {fails_at}"
+        );
+    }
+    assert!(rt; paper.writes == 0);
+}
+
+fn expect_failed_joined_reads<R: Threads + Wait + Sync + Abort>(
+    rt: &R,
+    alloc: Global,
+) -> Result<(), Fail> {
+    let mut input = Vec::from_slice(alloc, SOURCE)?;
+    input.extend_from_slice(CERTS)?;
+    let mut paper = Paper::new(alloc, 0);
+    for fails_at in 1..input.len() + 2 {
+        let mut reader = OneByOne::new(&input, fails_at);
+        let got = engine_joined(rt, alloc, &mut reader, &mut paper, OPTIONS, &OpenGate);
+        assert!(rt; got == Err(EngineFault::ReadFailed), "at {fails_at}");
+    }
+    assert!(rt; paper.writes == 0);
+    Ok(())
+}
+
+// Nothing is written where a reader fails, at any read up to the one behind the last byte.
+#[test]
+fn failing_readers(rt: HostRuntime) -> Result<(), Fail> {
+    expect_failed_reads(&rt, rt.alloc());
+    expect_failed_joined_reads(&rt, rt.alloc())
+}
+
+fn write_to<R: Threads + Wait + Sync>(rt: &R, paper: &mut Paper) -> Result<u8, EngineFault> {
+    let (mut source, mut certs) = (OneByOne::new(SOURCE, 0), OneByOne::new(CERTS, 0));
+    check_from(rt, &mut source, &mut certs, paper)
+}
+
+fn expect_failed_writes<R: Threads + Wait + Sync + Abort>(rt: &R, alloc: Global) {
+    for fails_at in 1..REPORT.len() + 1 {
+        let mut paper = Paper::new(alloc, fails_at);
+        let got = write_to(rt, &mut paper);
+        assert!(rt; got == Err(EngineFault::WriteFailed), "at {fails_at}");
+    }
+    let mut paper = Paper::new(alloc, REPORT.len() + 1);
+    assert!(rt; write_to(rt, &mut paper) == Ok(0));
+    assert!(rt; paper.bytes.as_slice() == REPORT);
+    paper.fails_flush = true;
+    paper.fails_at = 0;
+    assert!(rt; write_to(rt, &mut paper) == Err(EngineFault::WriteFailed));
+}
+
+// A writer that fails behind the last byte is not asked for more.
+#[test]
+fn failing_writers(rt: HostRuntime) {
+    expect_failed_writes(&rt, rt.alloc());
+}
+
+fn expect_too_long<R: Threads + Wait + Sync + Abort>(rt: &R, alloc: Global) {
+    let mut paper = Paper::new(alloc, 0);
+    let got = check_from(rt, &mut Spaces, &mut OneByOne::new(CERTS, 0), &mut paper);
+    assert!(rt; got == Ok(2));
+    assert!(rt; paper.bytes.as_slice() == b"refused: 4 SourceTooLong\n".as_slice());
+}
+
+#[test]
+fn spaces_without_end(rt: HostRuntime) {
+    expect_too_long(&rt, rt.alloc());
+}
