@@ -1,5 +1,5 @@
 -- The values that words give to variables.
-use Rattle.std.specs.Prelude.{◌≡◌, ◌≢◌, ◌⊎◌, ◌<◌, ◌==◌, ℕ, ℤ, List, [], ◌∷◌, length, map, replicate, set, slice_get, Bool, Option, Some, None, unwrap_or, Result, Ok, Err, pos, ⊤}
+use Rattle.std.specs.Prelude.{◌≡◌, ◌≢◌, ◌⊎◌, ◌<◌, ◌==◌, ℕ, ℤ, true, List, [], ◌∷◌, length, map, replicate, set, slice_get, Bool, Option, Some, None, unwrap_or, Result, Ok, Err, pos, ⊤}
 use Rattle.std.specs.List.{position_or_len, before_first, after_first}
 use Rattle.std.specs.Str.Parse.{IsNumeral, without_leading_sign, signed_digits_value}
 use Rattle.og_linear.specs.Linear.{fits_i64}

@@ -73,13 +73,18 @@ fn put_value(text: &mut Vec<u8>, first: bool, name: &Name, value: i64) -> Result
 }
 
 // The variables and their values.
-fn put_values(text: &mut Vec<u8>, names: &[Name], values: &[i64]) -> Result<(), AllocError>
+fn put_values(
+    text: &mut Vec<u8>,
+    mut names: &[Name],
+    mut values: &[i64],
+) -> Result<(), AllocError>
     ensures { OnOk result (text.new.items ≡ text.old.items ++ values_text true names.now values.now) }
 {
-    let mut names = names;
-    let mut values = values;
     let mut first = true;
-    while let ([name, other_names @ ..], [value, other_values @ ..]) = (names, values) {
+    while let [name, other_names @ ..] = names {
+        let [value, other_values @ ..] = values else {
+            return Ok(());
+        };
         put_value(text, first, name, *value)?;
         names = other_names;
         values = other_values;

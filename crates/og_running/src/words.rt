@@ -1,8 +1,8 @@
 //! The values that words give to variables.
 
-ghost use Rattle.std.specs.Prelude.{◌≡◌, ℕ, ℤ, IfOk, IfErr, IfSome, IsNone, map, pos, unwrap_or, replicate, None, Ok, Err};
+ghost use Rattle.std.specs.Prelude.{◌≡◌, ◌≢◌, ℕ, ℤ, true, false, Some, slice_get, IfOk, IfErr, IfSome, IsNone, map, pos, unwrap_or, replicate, None, Ok, Err};
 ghost use Rattle.og_typed.specs.Resolved.{number_in};
-ghost use Rattle.og_running.specs.Words.{IsInteger, Says, Reads, Give, IsBadIn, IsBadOr};
+ghost use Rattle.og_running.specs.Words.{IsInteger, Says, Adds, Reads, Give, IsBadIn, IsBadOr};
 
 use og_linear::State;
 use og_text::Name;
@@ -57,6 +57,27 @@ fn said(names: &[Name], word: &str) -> Option<(usize, i64)>
     Some((var, integer(number)?))
 }
 
+// Whether there is such a variable, and it has no value yet.
+fn is_new(given: &[Option<i64>], var: usize) -> bool
+    ensures yes { result ≡ true → slice_get given.now var ≡ Some None }
+    ensures no { result ≡ false → slice_get given.now var ≢ Some None }
+{
+    matches!(given.get(var), Some(None))
+}
+
+// The variable to which a word gives its first value, and this value.
+fn added(names: &[Name], given: &[Option<i64>], word: &str) -> Option<(usize, i64)>
+    ensures some { IfSome result (λ r. Adds names.now given.now word.now r.0 r.1) }
+    ensures none { IsNone result → (x : ℕ) (z : ℤ) → Adds names.now given.now word.now x z → ⊥ }
+{
+    let (var, value) = said(names, word)?;
+    if is_new(given, var) {
+        Some((var, value))
+    } else {
+        None
+    }
+}
+
 // What the words give to so many variables.
 fn given<'a>(
     alloc: Global,
@@ -69,13 +90,10 @@ fn given<'a>(
 {
     let mut given = Vec::from_elem(alloc, None, vars)?;
     for word in words {
-        let Some((var, value)) = said(names, word) else {
+        let Some((var, value)) = added(names, &given, word) else {
             return Err(WordsError::Bad(word));
         };
-        match given.get(var) {
-            Some(None) => given[var] = Some(value),
-            _ => return Err(WordsError::Bad(word)),
-        }
+        given[var] = Some(value);
     }
     Ok(given)
 }
@@ -84,7 +102,7 @@ fn given<'a>(
 fn state_of(alloc: Global, given: &[Option<i64>]) -> Result<State, AllocError>
     ensures { IfOk result (λ s. s ≡ map (λ v. unwrap_or v (pos 0)) given.now) }
 {
-    let mut values = Vec::with_capacity(alloc, given.len())?;
+    let mut values = Vec::new(alloc);
     for value in given {
         values.push(value.unwrap_or(0))?;
     }
