@@ -1,5 +1,5 @@
 -- What `run` answers, and in which order its faults come.
-use Rattle.std.specs.Prelude.{◌≡◌, ◌⊎◌, ℕ, ℤ, Bool, true, false, if◌then◌else◌, List, codes, Some, IfOk, ⊤}
+use Rattle.std.specs.Prelude.{◌≡◌, ◌⊎◌, ℕ, ℤ, Bool, true, false, if◌then◌else◌, List, codes, Some, ⊤}
 use Rattle.og_typed.specs.Syntax.{Program}
 use Rattle.og_typed.specs.Erase.{erased}
 use Rattle.og_step.specs.Starts.{start_fault}
@@ -94,9 +94,12 @@ IsRan without_auxiliaries limit source words r =
     ⊎ Goes (λ o values a. Tells (given (if without_auxiliaries then erased o else o) values limit) a) source words r
 
 -- another refusal of the source or of the certificates; or what is told of the judgement
+abbrev pub IsRefusedOrJudged : List ℕ → List ℕ → Program → List ℤ → ℕ → Answer → Type 0
+IsRefusedOrJudged source certs o values limit a =
+    ((why : Refusal) × IsRefused source certs why × IsTold source why a)
+    ⊎ ((entries : List Entry) × IsReport source certs o entries × TellsJudged entries (given o values limit) a)
+
+-- the outcome of a run of the source's outline, which the certificates prove safe
 abbrev pub IsRanProved : ℕ → List ℕ → List ℕ → List (List ℕ) → Reply → Type 0
 IsRanProved limit source certs words r =
-    IsEarly source words r
-    ⊎ Goes (λ o values a.
-        ((why : Refusal) × IsRefused source certs why × IsTold source why a)
-        ⊎ ((entries : List Entry) × IsReport source certs o entries × TellsJudged entries (given o values limit) a)) source words r
+    IsEarly source words r ⊎ Goes (λ o values a. IsRefusedOrJudged source certs o values limit a) source words r

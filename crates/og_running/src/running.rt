@@ -1,6 +1,6 @@
 //! The answers of `run`.
 
-ghost use Rattle.std.specs.Prelude.{◌≡◌, ◌≢◌, ◌≤◌, ◌^◌, length, map, IfOk, IfErr, IsSome};
+ghost use Rattle.std.specs.Prelude.{◌≡◌, ◌≢◌, ◌≤◌, ◌^◌, length, map, if◌then◌else◌, IfOk, IfErr, IsSome};
 ghost use Rattle.og_judge.specs.Names.{place_of_refusal};
 ghost use Rattle.og_typed.specs.Erase.{erased as erased_of};
 ghost use Rattle.og_engine.specs.Answers.{IsTold};
@@ -8,7 +8,7 @@ ghost use Rattle.og_judge.specs.Report.{IsSource};
 ghost use Rattle.og_judge.specs.Shown.{outline_of, entries_of};
 ghost use Rattle.og_running.specs.Words.{Give};
 ghost use Rattle.og_running.specs.Texts.{outcome_text, finish_status};
-ghost use Rattle.og_running.specs.Running.{given, fault_line, IsText, IsFaultTold, Tells, TellsProved, TellsJudged, IsEarly, IsRan, IsRanProved};
+ghost use Rattle.og_running.specs.Running.{given, fault_line, IsText, IsFaultTold, Tells, TellsProved, TellsJudged, IsRefusedOrJudged, IsEarly, IsRan, IsRanProved};
 
 use crate::outcome::{finish_status, outcome_text};
 use crate::reply::Reply;
@@ -78,6 +78,7 @@ fn of_run(
 }
 
 // Runs an outline.
+#[tactic(auto, using(crate::proofs::Answering::run_told))]
 fn of_outline<G: Gate, H: Threads + Wait + Sync>(
     rt: &H,
     alloc: Global,
@@ -94,24 +95,29 @@ fn of_outline<G: Gate, H: Threads + Wait + Sync>(
     of_run(alloc, outline, ended)
 }
 
-// Runs an outline without its auxiliaries.
-fn of_erased<G: Gate, H: Threads + Wait + Sync>(
+// Runs an outline, or its program without auxiliaries.
+fn of_program<G: Gate, H: Threads + Wait + Sync>(
     rt: &H,
     alloc: Global,
     outline: &Outline,
+    erased: bool,
     values: State,
     limit: u32,
     gate: &G,
 ) -> Result<Answer, EngineFault>
     requires { limit ≤ 1000000 }
-    ensures told { IfOk result (Tells (given (erased_of outline.now) values limit)) }
+    ensures told { IfOk result (Tells (given (if erased then erased_of outline.now else outline.now) values limit)) }
     ensures fault { IfErr result (λ e. e ≢ EngineFault.WriteFailed) }
 {
+    if !erased {
+        return of_outline(rt, alloc, outline, values, limit, gate);
+    }
     let program = erase(alloc, outline)?;
     of_outline(rt, alloc, program.outline(), values, limit, gate)
 }
 
 // Runs an outline that was proved.
+#[tactic(auto, using(crate::proofs::Answering::proved_told))]
 fn of_proved<G: Gate, H: Threads + Wait + Sync>(
     rt: &H,
     alloc: Global,
@@ -129,6 +135,7 @@ fn of_proved<G: Gate, H: Threads + Wait + Sync>(
 }
 
 // Runs a judged outline where it is safe.
+#[tactic(auto, using(crate::proofs::Answering::safe_told, crate::proofs::Answering::not_safe_told))]
 fn of_judgement<G: Gate, H: Threads + Wait + Sync>(
     rt: &H,
     alloc: Global,
@@ -147,6 +154,29 @@ fn of_judgement<G: Gate, H: Threads + Wait + Sync>(
             text: Vec::from_slice(alloc, b"not safe\n")?,
             status: 1,
         }),
+    }
+}
+
+// Judges the source of this outline by the certificates, and runs it where it is safe.
+#[tactic(auto, using(crate::proofs::Answering::judged_told, crate::proofs::Answering::refused_told))]
+fn of_certs<G: Gate, H: Threads + Wait + Sync>(
+    rt: &H,
+    alloc: Global,
+    source: &[u8],
+    certs: &[u8],
+    _outline: &Outline,
+    values: State,
+    limit: u32,
+    gate: &G,
+) -> Result<Answer, EngineFault>
+    requires source { IsSource source.now _outline.now }
+    requires limit { limit ≤ 1000000 }
+    ensures told { IfOk result (IsRefusedOrJudged source.now certs.now _outline.now values limit) }
+    ensures fault { IfErr result (λ e. e ≢ EngineFault.WriteFailed) }
+{
+    match judge(rt, alloc, source, certs, 1, &OpenGate) {
+        Ok(judgement) => of_judgement(rt, alloc, &judgement, values, limit, gate),
+        Err(refusal) => of_refusal(alloc, &refusal, source),
     }
 }
 
@@ -187,6 +217,7 @@ fn read_start<'a>(
 /// # Errors
 ///
 /// `Spawn` where a thread could not be started, `Memory` where an allocation was refused.
+#[tactic(auto, using(crate::proofs::Answering::goes))]
 pub fn ran<'a, G: Gate, H: Threads + Wait + Sync>(
     rt: &H,
     alloc: Global,
@@ -204,11 +235,7 @@ pub fn ran<'a, G: Gate, H: Threads + Wait + Sync>(
         Ok(start) => start,
         Err(early) => return Ok(early),
     };
-    let answer = if erased {
-        of_erased(rt, alloc, &outline, values, limit, gate)?
-    } else {
-        of_outline(rt, alloc, &outline, values, limit, gate)?
-    };
+    let answer = of_program(rt, alloc, &outline, erased, values, limit, gate)?;
     Ok(Reply::Answer(answer))
 }
 
@@ -220,6 +247,7 @@ pub fn ran<'a, G: Gate, H: Threads + Wait + Sync>(
 /// # Errors
 ///
 /// As `ran`.
+#[tactic(auto, using(crate::proofs::Answering::goes))]
 pub fn ran_proved<'a, G: Gate, H: Threads + Wait + Sync>(
     rt: &H,
     alloc: Global,
@@ -237,9 +265,6 @@ pub fn ran_proved<'a, G: Gate, H: Threads + Wait + Sync>(
         Ok(start) => start,
         Err(early) => return Ok(early),
     };
-    let answer = match judge(rt, alloc, source, certs, 1, &OpenGate) {
-        Ok(judgement) => of_judgement(rt, alloc, &judgement, values, limit, gate)?,
-        Err(refusal) => of_refusal(alloc, &refusal, source)?,
-    };
+    let answer = of_certs(rt, alloc, source, certs, &outline, values, limit, gate)?;
     Ok(Reply::Answer(answer))
 }
