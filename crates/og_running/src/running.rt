@@ -78,7 +78,6 @@ fn of_run(
 }
 
 // Runs an outline.
-#[tactic(auto, using(crate::proofs::Answering::run_told))]
 fn of_outline<G: Gate, H: Threads + Wait + Sync>(
     rt: &H,
     alloc: Global,
@@ -217,7 +216,6 @@ fn read_start<'a>(
 /// # Errors
 ///
 /// `Spawn` where a thread could not be started, `Memory` where an allocation was refused.
-#[tactic(auto, using(crate::proofs::Answering::goes))]
 pub fn ran<'a, G: Gate, H: Threads + Wait + Sync>(
     rt: &H,
     alloc: Global,
@@ -247,7 +245,6 @@ pub fn ran<'a, G: Gate, H: Threads + Wait + Sync>(
 /// # Errors
 ///
 /// As `ran`.
-#[tactic(auto, using(crate::proofs::Answering::goes))]
 pub fn ran_proved<'a, G: Gate, H: Threads + Wait + Sync>(
     rt: &H,
     alloc: Global,
