@@ -1,10 +1,9 @@
 -- From the parts of an answer to the whole.
-use Rattle.std.proofs.Common.{◌≡◌, ◌∙◌, ◌⊎◌, inl, inr, sym, ap, subst, ℕ, ℤ, Bool, true, false, List, Option, None, Some, Result, Ok, Err, IfOk, IfErr, refl, codes}
+use Rattle.std.proofs.Common.{◌≡◌, ◌∙◌, ◌⊎◌, inl, inr, sym, ap, subst, ℕ, ℤ, Bool, true, false, List, Result, Ok, Err, IfOk, IfErr, refl, codes}
 use Rattle.std.specs.Prelude.{⊤}
 use Rattle.og_text.specs.declared.token.Token.{Token}
 use Rattle.og_text.proofs.OneCut.{one_tokens}
 use Rattle.og_parse.specs.Faults.{level_limit}
-use Rattle.og_parse.specs.Trees as tree
 use Rattle.og_parse.specs.Grammar.{IsOutline}
 use Rattle.og_parse.proofs.Parsing.{one_outline}
 use Rattle.og_typed.specs.Syntax.{Program}

@@ -1,5 +1,5 @@
 -- What one more word adds.
-use Rattle.std.proofs.Common.{◌≡◌, ◌∙◌, ℕ, ℤ, ◌+◌, ◌<◌, List, ◌∷◌, length, drop, map, Option, Some, None, Result, Err, Bor, ap, ap₂, sym, subst, inl, inr, drop-cons, add-one, refl}
+use Rattle.std.proofs.Common.{◌≡◌, ◌∙◌, ℕ, ℤ, ◌+◌, ◌<◌, List, ◌∷◌, length, drop, map, Option, Some, None, Result, Err, Bor, ap, sym, subst, inl, inr, drop-cons, add-one, refl}
 use Rattle.std.specs.Prelude.{set, slice_get, slice_index_or}
 use Rattle.std.proofs.lemmas.Option.{same_Some}
 use Rattle.og_running.specs.Words.{Says, Adds, Reads}

@@ -73,11 +73,7 @@ fn put_value(text: &mut Vec<u8>, first: bool, name: &Name, value: i64) -> Result
 }
 
 // The variables and their values.
-fn put_values(
-    text: &mut Vec<u8>,
-    mut names: &[Name],
-    mut values: &[i64],
-) -> Result<(), AllocError>
+fn put_values(text: &mut Vec<u8>, mut names: &[Name], mut values: &[i64]) -> Result<(), AllocError>
     ensures { OnOk result (text.new.items ≡ text.old.items ++ values_text true names.now values.now) }
 {
     let mut first = true;
