@@ -8,6 +8,7 @@ use og_engine::{
     read_certificates, read_source, write_answer,
 };
 use og_pool::OpenGate;
+use og_running::{Reply, ran, ran_proved};
 use og_words::{Job, Usage, read_words};
 use std::alloc::AllocError;
 use std::env;
@@ -145,6 +146,41 @@ fn migrate(rt: &HostRuntime, certs: &str) -> Result<u8, EngineFault> {
     print(rt, migrated(rt.alloc(), &certs)?)
 }
 
+fn run_source<'a, H: Threads + Wait + Sync>(
+    rt: &HostRuntime,
+    threads: &H,
+    source: &str,
+    certs: Option<&str>,
+    words: &[&'a str],
+    limit: u32,
+    erased: bool,
+) -> Result<Reply<'a>, EngineFault>
+    requires { limit ≤ 1000000 }
+{
+    let gate = OpenGate;
+    let alloc = rt.alloc();
+    let source = source_bytes(rt, source)?;
+    match certs {
+        None => ran(threads, alloc, &source, words, limit, erased, &gate),
+        Some(certs) => {
+            let certs = read_certificates(alloc, &mut open(rt, certs)?)?;
+            ran_proved(threads, alloc, &source, &certs, words, limit, &gate)
+        }
+    }
+}
+
+// Tells what came of a run.
+fn reply(rt: &HostRuntime, reply: Result<Reply<'_>, EngineFault>) -> u8 {
+    match reply {
+        Ok(Reply::Answer(answer)) => finish(rt, print(rt, answer)),
+        Ok(Reply::BadValue(word)) => match format!(in rt.alloc(); "bad value: {word}\n") {
+            Ok(text) => complain(rt, text.as_str(), WRONG),
+            Err(_) => fault(rt, EngineFault::Memory),
+        },
+        Err(e) => fault(rt, e),
+    }
+}
+
 fn run<H: Threads + Wait + Sync>(rt: &HostRuntime, threads: &H, words: &[String]) -> u8 {
     match read_words(rt.alloc(), words) {
         Err(Usage::Memory) => fault(rt, EngineFault::Memory),
@@ -166,7 +202,18 @@ fn run<H: Threads + Wait + Sync>(rt: &HostRuntime, threads: &H, words: &[String]
         Ok(Job::Find { source, budget }) => finish(rt, find(rt, source, budget)),
         Ok(Job::Erase { source }) => finish(rt, erase(rt, source)),
         Ok(Job::Migrate { certs }) => finish(rt, migrate(rt, certs)),
-        Ok(Job::Run { .. }) => complain(rt, "og: run is not built yet\n", WRONG),
+        Ok(
+            Job::Run {
+                source,
+                limit,
+                erased,
+                certs,
+                values,
+            },
+        ) => reply(
+            rt,
+            run_source(rt, threads, source, certs, &values, limit, erased),
+        ),
     }
 }
 

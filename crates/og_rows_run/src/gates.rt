@@ -15,7 +15,7 @@ use std::thread::Threads;
 
 // Holds one process until another has moved, for at most 100,000 turns.
 #[derive(Drop)]
-struct Holds {
+pub(crate) struct Holds {
     held: u32,
     first: u32,
     moved: AtomicU64,
@@ -23,7 +23,7 @@ struct Holds {
 }
 
 impl Holds {
-    fn new(held: u32, first: u32) -> Holds {
+    pub(crate) fn new(held: u32, first: u32) -> Holds {
         Holds {
             held,
             first,
@@ -32,7 +32,7 @@ impl Holds {
         }
     }
 
-    fn has_missed(&self) -> bool {
+    pub(crate) fn has_missed(&self) -> bool {
         self.missed.load(Ordering::SeqCst) != 0
     }
 }

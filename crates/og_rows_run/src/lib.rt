@@ -11,6 +11,8 @@ mod gates;
 #[cfg(test)]
 mod outlines;
 #[cfg(test)]
+mod proved;
+#[cfg(test)]
 mod runs;
 #[cfg(test)]
 mod sources;

@@ -6,7 +6,7 @@ use crate::sources::{
     WITH_MAIN, equal_processes,
 };
 use og_erase::erase;
-use og_run::{Finish, Gate, OpenGate, RunError, RunFault, run};
+use og_run::{Finish, Gate, OpenGate, Outcome, RunError, RunFault, run};
 use og_typed::Outline;
 use std::alloc::{AllocError, Global};
 use std::process::Abort;
@@ -15,19 +15,13 @@ use std::test::Fail;
 use std::thread::Threads;
 
 // The history, counted from 1 and 0 for the main process, the end, and the state; or the refusal.
-pub(crate) fn told<G: Gate, R: Threads + Wait + Sync>(
-    rt: &R,
+pub(crate) fn text_of(
     alloc: Global,
     outline: &Outline,
-    values: &[i64],
-    limit: u32,
-    gate: &G,
+    ended: Result<Outcome, RunError>,
 ) -> Result<String, AllocError> {
     let mut out = String::new(alloc);
-    if limit > 1_000_000 {
-        return Ok(out);
-    }
-    match run(rt, alloc, outline, state_of(alloc, values)?, limit, gate) {
+    match ended {
         Ok(outcome) => {
             let main = outline.processes().len();
             for p in &outcome.history {
@@ -56,6 +50,22 @@ pub(crate) fn told<G: Gate, R: Threads + Wait + Sync>(
         Err(RunError::Memory) => out.push_str("memory")?,
     }
     Ok(out)
+}
+
+// What comes of a run.
+pub(crate) fn told<G: Gate, R: Threads + Wait + Sync>(
+    rt: &R,
+    alloc: Global,
+    outline: &Outline,
+    values: &[i64],
+    limit: u32,
+    gate: &G,
+) -> Result<String, AllocError> {
+    if limit > 1_000_000 {
+        return Ok(String::new(alloc));
+    }
+    let ended = run(rt, alloc, outline, state_of(alloc, values)?, limit, gate);
+    text_of(alloc, outline, ended)
 }
 
 #[test]

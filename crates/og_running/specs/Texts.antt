@@ -1,0 +1,58 @@
+-- What is printed of a run.
+use Rattle.std.specs.Prelude.{ℕ, suc, ◌==◌, ℤ, Bool, true, false, if◌then◌else◌, List, [], ◌∷◌, length, codes}
+use Rattle.std.specs.Fmt.{decimal, signed_decimal}
+use Rattle.og_listing.specs.Places.{◌&◌}
+use Rattle.og_typed.specs.Syntax.{Program}
+use Rattle.og_board.specs.declared.outcome.Finish.{Finish}
+use Rattle.og_board.specs.declared.outcome.Finish.TheVariants.{Finished, Stuck, Limit, Overflow}
+use Rattle.og_board.specs.declared.outcome.Outcome.{Outcome}
+
+-- processes are counted from 1 in print; the main process, which has the number after the last, is 0
+abbrev pub printed_number : ℕ → ℕ → ℕ
+printed_number main p = if p == main then 0 else suc p
+
+-- the processes that moved, in order
+abbrev pub moves_text : ℕ → List ℕ → List ℕ
+moves_text main [] = []
+moves_text main (p ∷ ps) = codes " " & decimal (printed_number main p) & moves_text main ps
+
+abbrev pub history_line : ℕ → List ℕ → List ℕ
+history_line main history = codes "history:" & moves_text main history & codes "\n"
+
+abbrev pub finish_text : ℕ → Finish → List ℕ
+finish_text main Finished = codes "finished"
+finish_text main Stuck = codes "stuck"
+finish_text main Limit = codes "limit"
+finish_text main (Overflow p) = codes "overflow of process " & decimal (printed_number main p)
+
+abbrev pub finish_line : ℕ → Finish → List ℕ
+finish_line main finish = codes "outcome: " & finish_text main finish & codes "\n"
+
+-- nothing before the first value, and a comma before each other one
+abbrev pub comma_text : Bool → List ℕ
+comma_text true = []
+comma_text false = codes ","
+
+-- NAME = VALUE
+abbrev pub value_text : Bool → List ℕ → ℤ → List ℕ
+value_text first name value = comma_text first & codes " " & name & codes " = " & signed_decimal value
+
+-- the variables with their values, in order
+abbrev pub values_text : Bool → List (List ℕ) → List ℤ → List ℕ
+values_text first [] values = []
+values_text first (name ∷ names) [] = []
+values_text first (name ∷ names) (value ∷ values) = value_text first name value & values_text false names values
+
+abbrev pub state_line : List (List ℕ) → List ℤ → List ℕ
+state_line names values = codes "state:" & values_text true names values & codes "\n"
+
+-- the three lines of an outcome
+abbrev pub outcome_text : Program → Outcome → List ℕ
+outcome_text o r = history_line (length o.processes) r.history.items & finish_line (length o.processes) r.finish & state_line o.names r.state
+
+-- 0 where all processes have ended, and else 1
+abbrev pub finish_status : Finish → ℕ
+finish_status Finished = 0
+finish_status Stuck = 1
+finish_status Limit = 1
+finish_status (Overflow p) = 1
