@@ -60,9 +60,9 @@ refusals given text file one never g h source refusal.Memory r = r
 
 answers : (given text : List ℕ) (file : Entries) → OneAnswer → GivenIsRead → Gives given (Ok file) → Gives text (Ok file) → AnswersAs given text
 answers given text file one never g h = record {
-    reports = reports given text file one g h;
-    refusals = refusals given text file one never g h;
-  }
+  reports = reports given text file one g h;
+  refusals = refusals given text file one never g h;
+}
 
 -- version 2's text of a file that a text gives
 pub migrated : (given text : List ℕ) (file : Entries) → SharedIsRead → SharedIsShortest → is_file file ≡ true → Gives given (Ok file)
