@@ -1,0 +1,125 @@
+//! Acts of seats.
+
+ghost use Rattle.std.specs.Prelude.{◌≡◌, []};
+
+use crate::outlines::{outline_of, state_of};
+use crate::sources::{ONE_OVERFLOWS, ONE_WAITS};
+use og_run::{Arena, ArenaName, Blank, Board, RunTurn, Seat};
+use og_typed::Outline;
+use std::alloc::{AllocError, Global};
+use std::marker::Brand;
+use std::process::Abort;
+use std::sync::Wait;
+use std::test::Fail;
+
+// What a seat does, and what is seen of it then.
+#[derive(Clone, Copy)]
+enum Deed {
+    // Its process acts: the turn, how often the process has moved, and how long the history was.
+    Acts(RunTurn, u64, u64),
+    // It waits until the history is longer than it knows, or a process has overflowed.
+    Waits,
+}
+
+#[derive(Clone, Copy)]
+struct Row<'a> {
+    source: &'a str,
+    values: &'a [i64],
+    // Seats, by the numbers of their processes, with their deeds.
+    deeds: &'a [(usize, Deed)],
+}
+
+fn expect_deed<K: ArenaName, R: Wait + Abort>(
+    rt: &R,
+    arena: &Arena<K, Board<'_>>,
+    seat: &mut Seat<K>,
+    deed: &Deed,
+) {
+    match deed {
+        Deed::Acts(turn, moves, seen) => {
+            assert!(rt; arena.act(rt, seat) == *turn);
+            assert!(rt; seat.moves() == *moves);
+            assert!(rt; seat.seen() == *seen);
+        }
+        Deed::Waits => arena.wait_change(rt, seat),
+    }
+}
+
+fn expect_deeds<K: ArenaName, R: Wait + Abort>(
+    rt: &R,
+    arena: &Arena<K, Board<'_>>,
+    seats: &mut [Seat<K>],
+    deeds: &[(usize, Deed)],
+) {
+    for (number, deed) in deeds {
+        if let Some(seat) = seats.get_mut(*number) {
+            expect_deed(rt, arena, seat, deed);
+        }
+    }
+}
+
+fn expect_arena<K: ArenaName, R: Wait + Abort>(
+    rt: &R,
+    alloc: Global,
+    blank: Blank,
+    board: Board<'_>,
+    deeds: &[(usize, Deed)],
+) -> Result<(), AllocError>
+    requires name { blank.table ≡ K.table }
+    requires given { blank.given ≡ board.given }
+    requires empty { board.history ≡ [] }
+{
+    let (arena, mut seats) = Arena::<K, Board<'_>>::new(alloc, blank, board)?;
+    assert!(rt; seats.len() == 2);
+    expect_deeds(rt, &arena, seats.as_mut_slice(), deeds);
+    Ok(())
+}
+
+fn expect_board<R: Wait + Abort>(
+    rt: &R,
+    alloc: Global,
+    outline: &Outline,
+    row: &Row<'_>,
+) -> Result<(), Fail> {
+    let board = Board::begin(alloc, outline, state_of(alloc, row.values)?, 10)?;
+    let blank = Blank::new(alloc, &board)?;
+    Ok(expect_arena::<Brand, _>(rt, alloc, blank, board, row.deeds)?)
+}
+
+fn expect_row<R: Wait + Abort>(rt: &R, alloc: Global, row: &Row<'_>) -> Result<(), Fail> {
+    let outline = outline_of(alloc, row.source)?;
+    expect_board(rt, alloc, &outline, row)
+}
+
+// A guard is judged at the newest history, and a wait ends once that is longer.
+#[test]
+fn acts_in_turn(rt: HostRuntime) -> Result<(), Fail> {
+    let row = Row {
+        source: ONE_WAITS,
+        values: &[0],
+        deeds: &[
+            (0, Deed::Acts(RunTurn::Waits, 0, 0)),
+            (1, Deed::Acts(RunTurn::Moved, 1, 1)),
+            (0, Deed::Acts(RunTurn::Moved, 1, 2)),
+            (0, Deed::Acts(RunTurn::Done, 1, 2)),
+            (1, Deed::Waits),
+        ],
+    };
+    expect_row(&rt, rt.alloc(), &row)
+}
+
+// A halt is told to every seat, and ends a wait.
+#[test]
+fn acts_after_an_overflow(rt: HostRuntime) -> Result<(), Fail> {
+    let row = Row {
+        source: ONE_OVERFLOWS,
+        values: &[i64::MAX],
+        deeds: &[
+            (0, Deed::Acts(RunTurn::Waits, 0, 0)),
+            (1, Deed::Acts(RunTurn::Overflow, 0, 0)),
+            (0, Deed::Waits),
+            (0, Deed::Acts(RunTurn::Overflow, 0, 0)),
+        ],
+    };
+    expect_row(&rt, rt.alloc(), &row)
+}
