@@ -1,13 +1,13 @@
 //! Statuses of conditions, found by workers.
 
-ghost use Rattle.std.specs.Prelude.{◌<◌, ◌≤◌};
+ghost use Rattle.std.specs.Prelude.{◌<◌, ◌≤◌, ◌^◌, length};
 
 use crate::outlines::outline_of;
 use crate::sources::{UP_AND_DOWN, add_times, equal_processes};
 use og_cert::{FaultKind, ReplayError, ReplayFault, replay};
 use og_cert_text::{Cert, CertFile, Finish, Source, Term};
 use og_cond::{Condition, conditions};
-use og_facts::{FactsError, facts};
+use og_facts::{FactList, FactsError, facts};
 use og_pool::{Draws, Gate, OpenGate, Status, check_all};
 use og_typed::Outline;
 use std::alloc::{AllocError, Global};
@@ -75,16 +75,18 @@ fn most_closed(alloc: Global, count: u32) -> Result<CertFile, Fail> {
     Ok(file)
 }
 
-// The status of a condition, found with no worker.
+// The status of a condition with these facts, found with no worker.
+fn status_of_facts(alloc: Global, list: &FactList, cert: &Cert) -> Result<Status, Fail> {
+    match replay(alloc, list, cert) {
+        Ok(()) => Ok(Status::Proved),
+        Err(ReplayError::Fault(fault)) => Ok(Status::Failed(fault)),
+        Err(memory) => Err(memory.into()),
+    }
+}
+
 fn status_alone(alloc: Global, condition: &Condition, cert: &Cert) -> Result<Status, Fail> {
     match facts(alloc, condition) {
-        Ok(list) => match replay(alloc, &list, cert) {
-            Err(ReplayError::Fault(fault)) => Ok(Status::Failed(fault)),
-            other => {
-                other?;
-                Ok(Status::Proved)
-            }
-        },
+        Ok(list) => status_of_facts(alloc, &list, cert),
         Err(FactsError::Fault(_)) => Ok(Status::TooLarge),
         Err(memory) => Err(memory.into()),
     }
@@ -123,26 +125,46 @@ fn eight(alloc: Global) -> Result<String, AllocError> {
     )
 }
 
+// Each number of workers gives the statuses that are found with none.
 fn expect_one_answer<R: Threads + Wait + Sync + Abort>(
     rt: &R,
     alloc: Global,
-    outline: &Outline,
-) -> Result<(), Fail> {
-    let conditions = conditions(alloc, outline)?;
-    assert_eq!(rt; conditions.len(), 4938);
-    let file = most_closed(alloc, 4938)?;
-    let alone = statuses_alone(alloc, &conditions, &file)?;
+    conditions: &[Condition],
+    file: &CertFile,
+) -> Result<(), Fail>
+    requires few { length conditions.now < 2 ^ 32 }
+{
+    let alone = statuses_alone(alloc, conditions, file)?;
     for workers in [1, 2, 64] {
-        let statuses = check_all(rt, alloc, &conditions, &file, workers, &OpenGate)?;
+        let statuses = check_all(rt, alloc, conditions, file, workers, &OpenGate)?;
         assert!(rt; statuses == alone, "of {workers} workers");
     }
     Ok(())
 }
 
+fn expect_one_answer_of_most<R: Threads + Wait + Sync + Abort>(
+    rt: &R,
+    alloc: Global,
+    conditions: &[Condition],
+) -> Result<(), Fail>
+    requires few { length conditions.now < 2 ^ 32 }
+{
+    assert_eq!(rt; conditions.len(), 4938);
+    let file = most_closed(alloc, 4938)?;
+    expect_one_answer(rt, alloc, conditions, &file)
+}
+
+// The outline of eight processes.
+fn outline_of_eight(alloc: Global) -> Result<Outline, Fail> {
+    let source = eight(alloc)?;
+    outline_of(alloc, source.as_str())
+}
+
 #[test]
 fn one_answer_for_all_workers(rt: HostRuntime) -> Result<(), Fail> {
-    let alloc = rt.alloc();
-    expect_one_answer(&rt, alloc, &outline_of(alloc, eight(alloc)?.as_str())?)
+    let outline = outline_of_eight(rt.alloc())?;
+    let conditions = conditions(rt.alloc(), &outline)?;
+    expect_one_answer_of_most(&rt, rt.alloc(), &conditions)
 }
 
 // An await in which x is multiplied by 2147483648, and so many times again.
@@ -156,63 +178,93 @@ fn growing(alloc: Global, again: u32) -> Result<String, AllocError> {
     Ok(source)
 }
 
-fn expect_too_large<R: Threads + Wait + Sync + Abort>(
-    rt: &R,
-    alloc: Global,
-    outline: &Outline,
-    second: Status,
-    is_third: bool,
-) -> Result<(), Fail> {
-    let conditions = conditions(alloc, outline)?;
+// The sum of one fact as the certificate of the second condition and the third.
+fn second_and_third(alloc: Global) -> Result<CertFile, Fail> {
     let mut file = CertFile::new(alloc);
     file.add(2, closing(alloc, &[1])?)?;
     file.add_same(3, 2)?;
-    let statuses = check_all(rt, alloc, &conditions, &file, 2, &OpenGate)?;
-    let alone = statuses_alone(alloc, &conditions, &file)?;
-    assert!(rt; statuses == alone);
-    assert!(rt; statuses.first().copied() == Some(Status::Missing));
-    assert!(rt; statuses.get(1).copied() == Some(second));
+    Ok(file)
+}
+
+// These statuses begin so.
+fn expect_first<R: Abort>(rt: &R, statuses: &[Status], wanted: &[Status]) {
+    for (status, wanted) in statuses.iter().zip(wanted.iter()) {
+        assert!(rt; *status == *wanted);
+    }
+    assert!(rt; statuses.len() >= wanted.len());
+}
+
+fn expect_statuses<R: Threads + Wait + Sync + Abort>(
+    rt: &R,
+    alloc: Global,
+    conditions: &[Condition],
+    second: Status,
+    is_third: bool,
+) -> Result<(), Fail>
+    requires few { length conditions.now < 2 ^ 32 }
+{
+    let file = second_and_third(alloc)?;
+    let statuses = check_all(rt, alloc, conditions, &file, 2, &OpenGate)?;
+    expect_first(rt, &statuses, &[Status::Missing, second]);
     assert!(rt; (statuses.get(2).copied() == Some(Status::TooLarge)) == is_third);
-    Ok(())
+    expect_one_answer(rt, alloc, conditions, &file)
+}
+
+fn expect_too_large<R: Threads + Wait + Sync + Abort>(
+    rt: &R,
+    alloc: Global,
+    source: &str,
+    second: Status,
+    is_third: bool,
+) -> Result<(), Fail> {
+    let outline = outline_of(alloc, source)?;
+    let conditions = conditions(alloc, &outline)?;
+    expect_statuses(rt, alloc, &conditions, second, is_third)
 }
 
 // With five the coefficient 2^155 leaves 128 bits; with four it does not.
 #[test]
 fn too_large_actions(rt: HostRuntime) -> Result<(), Fail> {
     let alloc = rt.alloc();
-    let five = outline_of(alloc, growing(alloc, 4)?.as_str())?;
-    expect_too_large(&rt, alloc, &five, Status::TooLarge, true)?;
-    let four = outline_of(alloc, growing(alloc, 3)?.as_str())?;
-    expect_too_large(&rt, alloc, &four, Status::Proved, false)
+    let five = growing(alloc, 4)?;
+    expect_too_large(&rt, alloc, five.as_str(), Status::TooLarge, true)?;
+    let four = growing(alloc, 3)?;
+    expect_too_large(&rt, alloc, four.as_str(), Status::Proved, false)
+}
+
+// Certificates for the first three conditions of such a step.
+fn first_three(alloc: Global) -> Result<CertFile, Fail> {
+    let mut file = CertFile::new(alloc);
+    file.add(1, cases(alloc, 3, &[[2, 4], [1, 4]])?)?;
+    file.add_same(2, 1)?;
+    file.add(3, cases(alloc, 3, &[[2, 4], [1, 4], [2, 4], [1, 4]])?)?;
+    Ok(file)
 }
 
 fn expect_failed_range<R: Threads + Wait + Sync + Abort>(
     rt: &R,
     alloc: Global,
-    outline: &Outline,
-) -> Result<(), Fail> {
-    let conditions = conditions(alloc, outline)?;
-    let mut file = CertFile::new(alloc);
-    file.add(1, cases(alloc, 3, &[[2, 4], [1, 4]])?)?;
-    file.add_same(2, 1)?;
-    file.add(3, cases(alloc, 3, &[[2, 4], [1, 4], [2, 4], [1, 4]])?)?;
-    let statuses = check_all(rt, alloc, &conditions, &file, 1, &OpenGate)?;
-    let expected = ReplayFault {
+    conditions: &[Condition],
+) -> Result<(), Fail>
+    requires few { length conditions.now < 2 ^ 32 }
+{
+    let file = first_three(alloc)?;
+    let statuses = check_all(rt, alloc, conditions, &file, 1, &OpenGate)?;
+    let failed = Status::Failed(ReplayFault {
         kind: FaultKind::NotClosed,
         step: 3,
-    };
-    assert!(rt; statuses.first().copied() == Some(Status::Proved));
-    assert!(rt; statuses.get(1).copied() == Some(Status::Proved));
-    assert!(rt; statuses.get(2).copied() == Some(Status::Failed(expected)));
-    assert!(rt; statuses.get(3).copied() == Some(Status::Missing));
+    });
+    let wanted = [Status::Proved, Status::Proved, failed, Status::Missing];
+    expect_first(rt, &statuses, &wanted);
     Ok(())
 }
 
 // One step that adds and takes away at the greatest value: its range does not close.
 #[test]
 fn failed_range(rt: HostRuntime) -> Result<(), Fail> {
-    let alloc = rt.alloc();
-    expect_failed_range(&rt, alloc, &outline_of(alloc, UP_AND_DOWN)?)
+    let outline = outline_of(rt.alloc(), UP_AND_DOWN)?;
+    let conditions = conditions(rt.alloc(), &outline)?;
+    expect_failed_range(&rt, rt.alloc(), &conditions)
 }
 
 // Counts how often it is told of each condition, before and after.
@@ -228,6 +280,15 @@ fn zeros(alloc: Global, count: usize) -> Result<Vec<AtomicU64>, AllocError> {
         zeros.push(AtomicU64::new(0))?;
     }
     Ok(zeros)
+}
+
+impl Counts {
+    fn new(alloc: Global, count: usize) -> Result<Counts, AllocError> {
+        Ok(Counts {
+            before: zeros(alloc, count)?,
+            after: zeros(alloc, count)?,
+        })
+    }
 }
 
 fn add_one(counts: &[AtomicU64], n: u32) {
@@ -254,35 +315,27 @@ fn each_once(counts: &[AtomicU64]) -> bool {
 fn expect_each_once<R: Threads + Wait + Sync + Abort>(
     rt: &R,
     alloc: Global,
-    outline: &Outline,
+    conditions: &[Condition],
     workers: u32,
 ) -> Result<(), Fail>
-    requires { (0 < workers) × (workers ≤ 64) }
+    requires workers { (0 < workers) × (workers ≤ 64) }
+    requires few { length conditions.now < 2 ^ 32 }
 {
-    let conditions = conditions(alloc, outline)?;
-    let counts = Counts {
-        before: zeros(alloc, 4939)?,
-        after: zeros(alloc, 4939)?,
-    };
-    check_all(
-        rt,
-        alloc,
-        &conditions,
-        &CertFile::new(alloc),
-        workers,
-        &counts,
-    )?;
-    assert!(rt; each_once(&counts.before) && each_once(&counts.after));
+    let counts = Counts::new(alloc, 4939)?;
+    let file = CertFile::new(alloc);
+    check_all(rt, alloc, conditions, &file, workers, &counts)?;
+    assert!(rt; each_once(&counts.before));
+    assert!(rt; each_once(&counts.after));
     Ok(())
 }
 
 #[test]
 fn gates_are_told_once_of_each(rt: HostRuntime) -> Result<(), Fail> {
-    let alloc = rt.alloc();
-    let outline = outline_of(alloc, eight(alloc)?.as_str())?;
-    expect_each_once(&rt, alloc, &outline, 1)?;
-    expect_each_once(&rt, alloc, &outline, 2)?;
-    expect_each_once(&rt, alloc, &outline, 64)
+    let outline = outline_of_eight(rt.alloc())?;
+    let conditions = conditions(rt.alloc(), &outline)?;
+    expect_each_once(&rt, rt.alloc(), &conditions, 1)?;
+    expect_each_once(&rt, rt.alloc(), &conditions, 2)?;
+    expect_each_once(&rt, rt.alloc(), &conditions, 64)
 }
 
 // Holds condition 1 until another one is done, for at most 100,000 turns.
@@ -317,16 +370,18 @@ impl Gate for HoldsFirst {
 fn expect_no_hold<R: Threads + Wait + Sync + Abort>(
     rt: &R,
     alloc: Global,
-    outline: &Outline,
+    conditions: &[Condition],
     until: u32,
-) -> Result<(), Fail> {
-    let conditions = conditions(alloc, outline)?;
+) -> Result<(), Fail>
+    requires few { length conditions.now < 2 ^ 32 }
+{
     let gate = HoldsFirst {
         until,
         done: AtomicU64::new(0),
         missed: AtomicU64::new(0),
     };
-    check_all(rt, alloc, &conditions, &CertFile::new(alloc), 2, &gate)?;
+    let file = CertFile::new(alloc);
+    check_all(rt, alloc, conditions, &file, 2, &gate)?;
     assert!(rt; gate.missed.load(Ordering::SeqCst) == 0, "until {until}");
     Ok(())
 }
@@ -334,8 +389,8 @@ fn expect_no_hold<R: Threads + Wait + Sync + Abort>(
 // Two workers really run at once, and the one that is not held draws on.
 #[test]
 fn a_worker_draws_on(rt: HostRuntime) -> Result<(), Fail> {
-    let alloc = rt.alloc();
-    let outline = outline_of(alloc, eight(alloc)?.as_str())?;
-    expect_no_hold(&rt, alloc, &outline, 2)?;
-    expect_no_hold(&rt, alloc, &outline, 3)
+    let outline = outline_of_eight(rt.alloc())?;
+    let conditions = conditions(rt.alloc(), &outline)?;
+    expect_no_hold(&rt, rt.alloc(), &conditions, 2)?;
+    expect_no_hold(&rt, rt.alloc(), &conditions, 3)
 }
