@@ -2,7 +2,7 @@
 
 use crate::levels::TOP;
 use crate::linear::Linear;
-use crate::proof::{Case, Line, Multiple, Name, Proof, Tree};
+use crate::proof::{Case, Line, Multiple, Name, Tree};
 use crate::stop::Stop;
 use og_cert_text::{Cert, CertStep, Finish, Source, Term};
 use og_linear::{Form, FormError};
@@ -46,7 +46,7 @@ fn source_of(starts: &Starts, count: usize, name: Name) -> Option<Source> {
 
 fn term_of(starts: &Starts, count: usize, multiple: Multiple) -> Option<Term> {
     Some(Term {
-        times: u64::try_from(multiple.times).ok()?,
+        times: multiple.times,
         source: source_of(starts, count, multiple.name)?,
     })
 }
@@ -59,8 +59,7 @@ fn terms_of(starts: &Starts, count: usize, sum: &[Multiple]) -> Result<Vec<Term>
     Ok(terms)
 }
 
-fn cut_of(starts: &Starts, count: usize, name: Name, divisor: i128) -> Option<CertStep> {
-    let divisor = u64::try_from(divisor).ok()?;
+fn cut_of(starts: &Starts, count: usize, name: Name, divisor: u64) -> Option<CertStep> {
     match source_of(starts, count, name)? {
         Source::Known(number) => Some(CertStep::Cut(number, divisor)),
         _ => None,
@@ -104,21 +103,21 @@ fn branch_form(alloc: Global, row: &Linear) -> Result<Form, Stop> {
 
 // The certificate of a refutation that stands behind so many facts.
 #[cycle(numbering)]
-fn cert_of(proof: &Proof, count: usize, starts: &mut Starts) -> Result<Cert, Stop> {
+fn cert_of(tree: &Tree, count: usize, starts: &mut Starts) -> Result<Cert, Stop> {
     let alloc = starts.alloc;
-    let finish = match &proof.tree {
+    let finish = match tree {
         Tree::Leaf(lines, end) => return leaf_of(starts, count, lines, end),
         Tree::Split(level, index, cases) => {
             let number = starts.number(*level, *index).ok_or(Stop::Stuck)?;
             Finish::Split(number, certs_of(cases, count, starts)?)
         }
-        Tree::Branch(level, row, first, second) => {
-            let form = branch_form(alloc, row)?;
+        Tree::Branch(sides) => {
+            let form = branch_form(alloc, &sides.form)?;
             let behind = count.checked_add(1).ok_or(Stop::Stuck)?;
-            starts.set(*level, count);
-            let low = cert_of(first, behind, starts)?;
-            starts.set(*level, count);
-            let high = cert_of(second, behind, starts)?;
+            starts.set(sides.level, count);
+            let low = cert_of(&sides.first, behind, starts)?;
+            starts.set(sides.level, count);
+            let high = cert_of(&sides.second, behind, starts)?;
             Finish::Branch(form, Box::new(alloc, low)?, Box::new(alloc, high)?)
         }
     };
@@ -134,17 +133,17 @@ fn certs_of(cases: &[Case], count: usize, starts: &mut Starts) -> Result<Vec<Cer
     for case in cases {
         let behind = count.checked_add(case.count).ok_or(Stop::Stuck)?;
         starts.set(case.level, count);
-        certs.push(cert_of(&case.proof, behind, starts)?)?;
+        certs.push(cert_of(&case.tree, behind, starts)?)?;
     }
     Ok(certs)
 }
 
 /// The certificate of a refutation of so many facts.
-pub(crate) fn certificate(alloc: Global, proof: &Proof, count: usize) -> Result<Cert, Stop> {
+pub(crate) fn certificate(alloc: Global, tree: &Tree, count: usize) -> Result<Cert, Stop> {
     let mut starts = Starts {
         alloc,
         starts: vec![in alloc; 0; TOP as usize + 1]?,
     };
     starts.set(TOP, 0);
-    cert_of(proof, count, &mut starts)
+    cert_of(tree, count, &mut starts)
 }

@@ -35,7 +35,7 @@ pub fn search_among(
 ) -> Result<Claim, AllocError> {
     let mut search = Search::new(alloc, variables, budget)?;
     let found = match search.run(part) {
-        Ok(proof) => certificate(alloc, &proof, part.count),
+        Ok(proof) => certificate(alloc, &proof.tree, part.count),
         Err(stop) => Err(stop),
     };
     match found {

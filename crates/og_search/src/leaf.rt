@@ -2,6 +2,7 @@
 
 use crate::proof::{Line, Multiple, Name, Proof, Tree};
 use crate::rows::{Origin, Row, Rows};
+use crate::stop::Stop;
 use std::alloc::AllocError;
 
 fn mark(wanted: &mut [bool], r: usize) {
@@ -47,25 +48,32 @@ fn name_of(rows: &Rows, places: &[usize], r: usize) -> Name {
     }
 }
 
-fn multiples(
-    rows: &Rows,
-    places: &[usize],
-    sum: &[(i128, usize)],
-) -> Result<Vec<Multiple>, AllocError> {
+fn multiple(rows: &Rows, places: &[usize], t: (i128, usize)) -> Option<Multiple> {
+    let times = u64::try_from(t.0).ok()?;
+    let name = name_of(rows, places, t.1);
+    Some(Multiple { times, name })
+}
+
+fn multiples(rows: &Rows, places: &[usize], sum: &[(i128, usize)]) -> Result<Vec<Multiple>, Stop> {
     let mut out = Vec::with_capacity(rows.alloc(), sum.len())?;
     for t in sum {
-        let name = name_of(rows, places, t.1);
-        out.push(Multiple { times: t.0, name })?;
+        out.push(multiple(rows, places, *t).ok_or(Stop::Stuck)?)?;
     }
     Ok(out)
 }
 
+fn cut(rows: &Rows, places: &[usize], from: usize, divisor: i128) -> Option<Line> {
+    let divisor = u64::try_from(divisor).ok()?;
+    Some(Line::Cut(name_of(rows, places, from), divisor))
+}
+
 // The line of a row, if it is no fact and no bound.
-fn line_of(rows: &Rows, places: &[usize], r: usize) -> Result<Option<Line>, AllocError> {
+fn line_of(rows: &Rows, places: &[usize], r: usize) -> Result<Option<Line>, Stop> {
     match rows.row(r).map(|row| &row.origin) {
         Some(Origin::Sum(sum)) => Ok(Some(Line::Sum(multiples(rows, places, sum)?))),
         Some(Origin::Cut(from, divisor)) => {
-            Ok(Some(Line::Cut(name_of(rows, places, *from), *divisor)))
+            let line = cut(rows, places, *from, *divisor).ok_or(Stop::Stuck)?;
+            Ok(Some(line))
         }
         _ => Ok(None),
     }
@@ -78,7 +86,7 @@ fn add_lines(
     last: usize,
     places: &mut [usize],
     lines: &mut Vec<Line>,
-) -> Result<(), AllocError> {
+) -> Result<(), Stop> {
     for (r, is_wanted) in wanted.iter().enumerate() {
         if !*is_wanted || r >= last {
             continue;
@@ -94,7 +102,7 @@ fn add_lines(
 }
 
 // The sum that closes with the last row.
-fn closing(rows: &Rows, places: &[usize], last: usize) -> Result<Vec<Multiple>, AllocError> {
+fn closing(rows: &Rows, places: &[usize], last: usize) -> Result<Vec<Multiple>, Stop> {
     match rows.row(last).map(|row| &row.origin) {
         Some(Origin::Sum(sum)) => multiples(rows, places, sum),
         _ => multiples(rows, places, &[(1, last)]),
@@ -102,7 +110,7 @@ fn closing(rows: &Rows, places: &[usize], last: usize) -> Result<Vec<Multiple>, 
 }
 
 /// The leaf that ends with this row, a constant above 0.
-pub(crate) fn leaf(rows: &Rows, last: usize) -> Result<Proof, AllocError> {
+pub(crate) fn leaf(rows: &Rows, last: usize) -> Result<Proof, Stop> {
     let wanted = rows_behind(rows, last)?;
     let mut places = vec![in rows.alloc(); 0; rows.len()]?;
     let mut lines = Vec::new(rows.alloc());

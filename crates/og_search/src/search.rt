@@ -9,7 +9,7 @@ use crate::model::Model;
 use crate::narrow::{Closed, close_within, narrow, note_bound};
 use crate::open::{Open, View, all_hold, common_to_choice, forced, pick, weight};
 use crate::part::Part;
-use crate::proof::{Case, Proof, Tree};
+use crate::proof::{Case, Proof, Sides, Tree};
 use crate::rows::{Added, Origin, Rows};
 use crate::stop::Stop;
 use std::alloc::{AllocError, Global};
@@ -19,6 +19,9 @@ const EAGER_LEVEL: u32 = 50;
 
 /// The greatest number, in magnitude, at which a variable's values are divided.
 const GAP_LIMIT: u128 = 1 << 120;
+
+/// The greatest size of a refutation, over all its leaves: more takes too much memory.
+const MOST: u64 = 500_000;
 
 // The facts with which a level begins.
 #[derive(Drop)]
@@ -54,6 +57,8 @@ pub(crate) struct Search<'a> {
     model: Model,
     // The choice to be taken next, whatever the values.
     next: Option<usize>,
+    // How much larger the leaves may grow, those that were dropped again included.
+    room: u64,
 }
 
 impl<'a> Search<'a> {
@@ -70,6 +75,7 @@ impl<'a> Search<'a> {
             open: Vec::new(alloc),
             model: Model::new(alloc, variables as usize)?,
             next: None,
+            room: MOST,
         })
     }
 
@@ -274,6 +280,18 @@ impl<'a> Search<'a> {
         Some(*open)
     }
 
+    // The leaf that closes with this row.
+    fn close(&mut self, row: usize) -> Result<Proof, Stop> {
+        let proof = leaf(&self.rows, row)?;
+        match self.room.checked_sub(proof.tree.size()) {
+            Some(room) => {
+                self.room = room;
+                Ok(proof)
+            }
+            None => Err(Stop::Size),
+        }
+    }
+
     // Searches at a level, and leaves the path as it was.
     #[cycle(search)]
     fn at_level(&mut self, level: u32, entry: Entry<'a>, bounds: &Bounds) -> Result<Proof, Stop> {
@@ -290,14 +308,14 @@ impl<'a> Search<'a> {
         let mut own = bounds.copy()?;
         if let Some(row) = self.begin(entry, level, &mut own)? {
             self.next = None;
-            return Ok(leaf(&self.rows, row)?);
+            return self.close(row);
         }
         let below = match level.checked_sub(1) {
             Some(below) => below,
             None => return Err(Stop::Stuck),
         };
         match self.go_on(level, &own)? {
-            Decision::Close(row) => Ok(leaf(&self.rows, row)?),
+            Decision::Close(row) => self.close(row),
             Decision::Split(i) => self.split(below, i, &own),
             Decision::Branch(form, next) => self.branch(below, form, next, &own),
         }
@@ -319,7 +337,7 @@ impl<'a> Search<'a> {
             cases.push(Case {
                 level: below,
                 count: part.count,
-                proof,
+                tree: proof.tree,
             })?;
         }
         self.set_taken(i, false);
@@ -349,11 +367,15 @@ impl<'a> Search<'a> {
             return Ok(second);
         }
         let used = first.used.union(second.used).without(below);
-        let first = Box::new(self.alloc, first)?;
-        let second = Box::new(self.alloc, second)?;
+        let sides = Sides {
+            level: below,
+            form,
+            first: first.tree,
+            second: second.tree,
+        };
         Ok(Proof {
             used,
-            tree: Tree::Branch(below, form, first, second),
+            tree: Tree::Branch(Box::new(self.alloc, sides)?),
         })
     }
 

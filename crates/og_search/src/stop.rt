@@ -11,6 +11,8 @@ pub(crate) enum Stop {
     Budget,
     /// The values that the search holds make all facts true.
     Model,
+    /// The refutation is too large.
+    Size,
     /// There is nothing left to try.
     Stuck,
 }
