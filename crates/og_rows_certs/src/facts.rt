@@ -6,7 +6,7 @@ use og_cond::{Condition, Goal, Hypothesis, Kind, conditions};
 use og_facts::{Fact, FactList, FactsError, facts, facts_with};
 use og_linear::{Form, FormError};
 use og_subst::Action;
-use og_typed::Basic;
+use og_typed::{Basic, Outline};
 use std::alloc::{AllocError, Global};
 use std::process::Abort;
 use std::test::Fail;
@@ -137,14 +137,23 @@ fn told(alloc: Global, answer: &Result<FactList, FactsError>) -> Result<String, 
     Ok(out)
 }
 
-// What is told of the n-th condition of the source, counted from 1.
-fn told_of(alloc: Global, source: &str, n: usize) -> Result<String, Fail> {
-    let outline = outline_of(alloc, source)?;
-    let list = conditions(alloc, &outline)?;
+// What is told of the n-th of these conditions, counted from 1.
+fn told_of_list(alloc: Global, list: &[Condition], n: usize) -> Result<String, Fail> {
     match list.get(n.saturating_sub(1)) {
         Some(condition) => Ok(told(alloc, &facts(alloc, condition))?),
         None => Ok(String::from_str(alloc, "no condition")?),
     }
+}
+
+fn told_of_outline(alloc: Global, outline: &Outline, n: usize) -> Result<String, Fail> {
+    let list = conditions(alloc, outline)?;
+    told_of_list(alloc, &list, n)
+}
+
+// What is told of the n-th condition of the source.
+fn told_of(alloc: Global, source: &str, n: usize) -> Result<String, Fail> {
+    let outline = outline_of(alloc, source)?;
+    told_of_outline(alloc, &outline, n)
 }
 
 const AT_THE_END: &str =
@@ -210,24 +219,38 @@ fn facts_of_conditions(rt: HostRuntime) -> Result<(), Fail> {
     Ok(())
 }
 
-// The answer by a map that was prepared from the action is the answer without one.
-fn expect_same(rt: &impl Abort, alloc: Global, condition: &Condition) -> Result<(), Fail> {
-    let action = match &condition.action {
-        Some(action) => action,
-        None => return Ok(()),
+// What is told by a map that was prepared from the action, if there is one.
+fn told_by_map(alloc: Global, condition: &Condition) -> Result<String, AllocError> {
+    let Some(action) = &condition.action else {
+        return told(alloc, &facts(alloc, condition));
     };
-    let own = told(alloc, &facts(alloc, condition))?;
     match action.prepare(alloc) {
-        Ok(prepared) => {
-            let other = told(alloc, &facts_with(alloc, condition, &prepared))?;
-            assert_eq!(rt; other.as_str(), own.as_str());
-        }
-        Err(FormError::Memory) => panic!(rt; "no memory"),
+        Ok(prepared) => told(alloc, &facts_with(alloc, condition, &prepared)),
+        Err(FormError::Memory) => String::from_str(alloc, "no memory"),
         Err(FormError::Fault(_)) => {
-            assert_eq!(rt; own.as_str(), "a coefficient or a constant is too large");
+            String::from_str(alloc, "a coefficient or a constant is too large")
         }
     }
+}
+
+// The answer by a map that was prepared from the action is the answer without one.
+fn expect_same(rt: &impl Abort, alloc: Global, condition: &Condition) -> Result<(), Fail> {
+    let own = told(alloc, &facts(alloc, condition))?;
+    let other = told_by_map(alloc, condition)?;
+    assert_eq!(rt; other.as_str(), own.as_str());
     Ok(())
+}
+
+fn expect_all_same(rt: &impl Abort, alloc: Global, list: &[Condition]) -> Result<(), Fail> {
+    for condition in list {
+        expect_same(rt, alloc, condition)?;
+    }
+    Ok(())
+}
+
+fn expect_same_by_maps(rt: &impl Abort, alloc: Global, outline: &Outline) -> Result<(), Fail> {
+    let list = conditions(alloc, outline)?;
+    expect_all_same(rt, alloc, &list)
 }
 
 #[test]
@@ -242,26 +265,38 @@ fn facts_by_a_prepared_map(rt: HostRuntime) -> Result<(), Fail> {
         FIVE_DOUBLINGS,
     ] {
         let outline = outline_of(alloc, source)?;
-        for condition in &conditions(alloc, &outline)? {
-            expect_same(&rt, alloc, condition)?;
-        }
+        expect_same_by_maps(&rt, alloc, &outline)?;
     }
     Ok(())
+}
+
+fn expect_numbers(rt: &impl Abort, list: &FactList) {
+    assert!(rt; list.variables() == 2);
+    assert!(rt; list.as_slice().len() == 2);
+    assert!(rt; list.fact(0).is_none());
+    assert!(rt; list.fact(1).is_some());
+    assert!(rt; list.fact(2).is_some());
+    assert!(rt; list.fact(3).is_none());
+}
+
+fn expect_first(rt: &impl Abort, alloc: Global, list: &[Condition]) -> Result<(), Fail> {
+    match list.first() {
+        Some(condition) => expect_numbers(rt, &facts(alloc, condition)?),
+        None => panic!(rt; "no condition"),
+    }
+    Ok(())
+}
+
+fn expect_first_of(rt: &impl Abort, alloc: Global, outline: &Outline) -> Result<(), Fail> {
+    let list = conditions(alloc, outline)?;
+    expect_first(rt, alloc, &list)
 }
 
 #[test]
 fn numbers_of_facts(rt: HostRuntime) -> Result<(), Fail> {
     let alloc = rt.alloc();
     let outline = outline_of(alloc, NOT_EVEN)?;
-    let list = conditions(alloc, &outline)?;
-    let first = match list.first() {
-        Some(condition) => facts(alloc, condition)?,
-        None => panic!(rt; "no condition"),
-    };
-    assert!(rt; first.variables() == 2 && first.as_slice().len() == 2);
-    assert!(rt; first.fact(0).is_none() && first.fact(3).is_none());
-    assert!(rt; first.fact(1).is_some() && first.fact(2).is_some());
-    Ok(())
+    expect_first_of(&rt, alloc, &outline)
 }
 
 // A condition from this many initial values, two facts each.
@@ -306,21 +341,26 @@ fn outcome(answer: &Result<FactList, FactsError>) -> (u8, usize) {
     }
 }
 
-// The same of 5,000 values and this await.
-fn outcome_of(alloc: Global, body: &[Basic], goal: Goal) -> Result<(u8, usize), Fail> {
-    let condition = from_values(alloc, 5000, Some(Action::Await(body)), goal)?;
+// The same of 5,000 values with this action and this goal.
+fn outcome_of<'a>(
+    alloc: Global,
+    action: Option<Action<'a>>,
+    goal: Goal<'a>,
+) -> Result<(u8, usize), AllocError> {
+    let condition = from_values(alloc, 5000, action, goal)?;
     Ok(outcome(&facts(alloc, &condition)))
+}
+
+fn expect_limits(rt: &impl Abort, alloc: Global, body: &[Basic]) -> Result<(), Fail> {
+    assert!(rt; outcome_of(alloc, None, Goal::Never)? == (0, 10000));
+    assert!(rt; outcome_of(alloc, None, Goal::Fits)? == (35, 0));
+    assert!(rt; outcome_of(alloc, Some(Action::Await(body)), Goal::Never)? == (5, 0));
+    assert!(rt; outcome_of(alloc, Some(Action::Await(body)), Goal::Fits)? == (35, 0));
+    Ok(())
 }
 
 #[test]
 fn limit_of_facts(rt: HostRuntime) -> Result<(), Fail> {
-    let alloc = rt.alloc();
-    let body = doublings(alloc)?;
-    let few = from_values(alloc, 5000, None, Goal::Never)?;
-    assert!(rt; outcome(&facts(alloc, &few)) == (0, 10000));
-    let many = from_values(alloc, 5000, None, Goal::Fits)?;
-    assert!(rt; outcome(&facts(alloc, &many)) == (35, 0));
-    assert!(rt; outcome_of(alloc, body.as_slice(), Goal::Never)? == (5, 0));
-    assert!(rt; outcome_of(alloc, body.as_slice(), Goal::Fits)? == (35, 0));
-    Ok(())
+    let body = doublings(rt.alloc())?;
+    expect_limits(&rt, rt.alloc(), &body)
 }

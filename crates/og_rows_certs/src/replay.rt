@@ -2,13 +2,15 @@
 
 use crate::outlines::outline_of;
 use crate::sources::{
-    EACH_WAITS, EQUAL_ADD, ONE_BELOW, ONE_SKIP, SKIP_AND_ASSIGN, TWO_ADD, UP_AND_DOWN, with_lines,
+    EACH_WAITS, EQUAL_ADD, ONE_BELOW, ONE_SKIP, SKIP_AND_ASSIGN, TWO_ADD, UP_AND_DOWN, add_times,
+    with_lines,
 };
 use og_cert::{Cert, ReplayError, replay};
 use og_cert_read::read_certs;
 use og_cert_text::CertFile;
 use og_cond::{Condition, conditions};
-use og_facts::{FactsError, facts};
+use og_facts::{FactList, FactsError, facts};
+use og_typed::Outline;
 use std::alloc::{AllocError, Global};
 use std::process::Abort;
 use std::test::Fail;
@@ -29,23 +31,27 @@ fn text_of(alloc: Global, certs: &[Lines]) -> Result<String, AllocError> {
     Ok(out)
 }
 
-// What becomes of a condition.
-fn status(alloc: Global, condition: &Condition, cert: Option<&Cert>) -> Result<String, Fail> {
-    let Some(cert) = cert else {
-        return Ok(String::from_str(alloc, "missing")?);
-    };
-    let list = match facts(alloc, condition) {
-        Ok(list) => list,
-        Err(FactsError::Fault(_)) => return Ok(String::from_str(alloc, "too large")?),
-        Err(error) => return Err(error.into()),
-    };
-    match replay(alloc, &list, cert) {
+// What becomes of a condition with these facts.
+fn status_of_facts(alloc: Global, list: &FactList, cert: &Cert) -> Result<String, Fail> {
+    match replay(alloc, list, cert) {
         Ok(()) => Ok(String::from_str(alloc, "proved")?),
         Err(ReplayError::Fault(fault)) => {
             let name = fault.name();
             let step = fault.step;
             Ok(format!(in alloc; "{name} at step {step}")?)
         }
+        Err(error) => Err(error.into()),
+    }
+}
+
+// What becomes of a condition.
+fn status(alloc: Global, condition: &Condition, cert: Option<&Cert>) -> Result<String, Fail> {
+    let Some(cert) = cert else {
+        return Ok(String::from_str(alloc, "missing")?);
+    };
+    match facts(alloc, condition) {
+        Ok(list) => status_of_facts(alloc, &list, cert),
+        Err(FactsError::Fault(_)) => Ok(String::from_str(alloc, "too large")?),
         Err(error) => Err(error.into()),
     }
 }
@@ -87,16 +93,28 @@ fn add_statuses(
 }
 
 // What becomes of each condition that is not proved, and how many are.
-fn told(alloc: Global, source: &str, certs: &str) -> Result<String, Fail> {
-    let file = read_certs(alloc, certs.as_bytes())?;
-    let outline = outline_of(alloc, source)?;
-    let list = conditions(alloc, &outline)?;
+fn told_of_list(alloc: Global, list: &[Condition], file: &CertFile) -> Result<String, Fail> {
     let number = list.len();
     let mut out = String::new(alloc);
-    let proved = add_statuses(&mut out, alloc, &list, &file)?;
+    let proved = add_statuses(&mut out, alloc, list, file)?;
     let end = format!(in alloc; "{proved} of {number} proved")?;
     out.push_str(end.as_str())?;
     Ok(out)
+}
+
+fn told_of_outline(alloc: Global, outline: &Outline, file: &CertFile) -> Result<String, Fail> {
+    let list = conditions(alloc, outline)?;
+    told_of_list(alloc, &list, file)
+}
+
+fn told_of_file(alloc: Global, source: &str, file: &CertFile) -> Result<String, Fail> {
+    let outline = outline_of(alloc, source)?;
+    told_of_outline(alloc, &outline, file)
+}
+
+fn told(alloc: Global, source: &str, certs: &str) -> Result<String, Fail> {
+    let file = read_certs(alloc, certs.as_bytes())?;
+    told_of_file(alloc, source, &file)
 }
 
 fn expect_told(
@@ -333,27 +351,31 @@ fn faults_and_their_steps(rt: HostRuntime) -> Result<(), Fail> {
     Ok(())
 }
 
+// So many sums, and a line that closes.
+fn sums(alloc: Global, count: u32) -> Result<String, AllocError> {
+    let mut lines = String::new(alloc);
+    add_times(&mut lines, "sum 1*1|", count)?;
+    lines.push_str("close 1*1|")?;
+    Ok(lines)
+}
+
 #[test]
 fn too_many_facts(rt: HostRuntime) -> Result<(), Fail> {
     let alloc = rt.alloc();
-    for (sums, expected) in [
-        (9_999u32, "1: proved"),
-        (10_000u32, "1: TooManyFacts at step 10000"),
-    ] {
-        let mut lines = String::new(alloc);
-        for _ in 0..sums {
-            lines.push_str("sum 1*1|")?;
-        }
-        lines.push_str("close 1*1|")?;
-        let text = text_of(alloc, &[(&[1], lines.as_str())])?;
-        let outline = outline_of(alloc, ONE_SKIP)?;
-        let file = read_certs(alloc, text.as_str().as_bytes())?;
-        let list = conditions(alloc, &outline)?;
-        assert!(rt; !list.is_empty());
-        let status = status(alloc, &list[0], file.certificate(1))?;
-        let got = status.as_str();
-        let got = format!(in alloc; "1: {got}")?;
-        assert_eq!(rt; got.as_str(), expected);
-    }
-    Ok(())
+    let most = sums(alloc, 9_999)?;
+    expect_told(
+        &rt,
+        alloc,
+        ONE_SKIP,
+        &[(&[1], most.as_str()), (&[2, 3, 4], "close 1*1|")],
+        "4 of 4 proved",
+    )?;
+    let more = sums(alloc, 10_000)?;
+    expect_told(
+        &rt,
+        alloc,
+        ONE_SKIP,
+        &[(&[1], more.as_str()), (&[2, 3, 4], "close 1*1|")],
+        "1: TooManyFacts at step 10000; 3 of 4 proved",
+    )
 }

@@ -63,33 +63,45 @@ fn a_file_is_written(rt: HostRuntime) -> Result<(), Fail> {
     Ok(())
 }
 
-#[test]
-fn each_line_is_written(rt: HostRuntime) -> Result<(), Fail> {
-    let alloc = rt.alloc();
-    let mut file = CertFile::new(alloc);
+// `-3 -2*v0 1*v7`
+fn branch_form(alloc: Global) -> Result<Form, Fail> {
     let mut form = Form::constant(alloc, -3);
     form.add_scaled(-2, &Form::variable(alloc, 0)?)?;
     form.add_scaled(1, &Form::variable(alloc, 7)?)?;
-    let first = closed(
-        alloc,
-        &[Term {
-            times: 0,
-            source: Source::Low(0),
-        }],
-    )?;
-    let second = closed(
-        alloc,
-        &[Term {
-            times: 9223372036854775807,
-            source: Source::High(999999999),
-        }],
-    )?;
-    let finish = Finish::Branch(form, Box::new(alloc, first)?, Box::new(alloc, second)?);
+    Ok(form)
+}
+
+fn closed_by(alloc: Global, times: u64, source: Source) -> Result<Cert, AllocError> {
+    closed(alloc, &[Term { times, source }])
+}
+
+// A branch by the form.
+fn branch(alloc: Global, form: Form) -> Result<Finish, AllocError> {
+    let first = Box::new(alloc, closed_by(alloc, 0, Source::Low(0))?)?;
+    let most = closed_by(alloc, 9223372036854775807, Source::High(999999999))?;
+    Ok(Finish::Branch(form, first, Box::new(alloc, most)?))
+}
+
+fn sum_and_cut(alloc: Global) -> Result<Vec<CertStep>, AllocError> {
     let mut steps = Vec::new(alloc);
     steps.push(CertStep::Sum(Vec::from_slice(alloc, &[known(1)])?))?;
     steps.push(CertStep::Cut(2, 2))?;
-    file.add(999999999, Cert { steps, finish })?;
-    let text = write_certs(alloc, &file)?;
+    Ok(steps)
+}
+
+// The text of a file of the one certificate.
+fn text_of_one(alloc: Global, number: u32, cert: Cert) -> Result<Vec<u8>, Fail> {
+    let mut file = CertFile::new(alloc);
+    file.add(number, cert)?;
+    Ok(write_certs(alloc, &file)?)
+}
+
+#[test]
+fn each_line_is_written(rt: HostRuntime) -> Result<(), Fail> {
+    let alloc = rt.alloc();
+    let finish = branch(alloc, branch_form(alloc)?)?;
+    let steps = sum_and_cut(alloc)?;
+    let text = text_of_one(alloc, 999999999, Cert { steps, finish })?;
     let wanted =
         b"og-cert 1\ncond 999999999\nsum 1*1\ncut 2 2\nbranch -3 -2*v0 1*v7\nclose 0*l0\nclose 9223372036854775807*u999999999\n";
     assert_eq!(rt; text.as_slice(), wanted.as_slice());
