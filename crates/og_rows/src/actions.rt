@@ -1,7 +1,7 @@
 //! Worked examples of actions.
 
-use og_linear::{Form, FormError, FormFault};
-use og_subst::{Action, after, fits};
+use og_linear::{Form, FormError, FormFault, Map};
+use og_subst::{Action, ActionMap, after, fits};
 use og_typed::{Assert, Basic, Stmt};
 use std::alloc::Global;
 use std::process::Abort;
@@ -50,73 +50,138 @@ fn expect_too_large<T>(rt: &impl Abort, answer: &Result<T, FormError>) {
     }
 }
 
-#[test]
-fn after_an_await(rt: HostRuntime) -> Result<(), Fail> {
-    let alloc = rt.alloc();
-    let body = body(alloc, &[(1, 1)])?;
-    let action = Action::Await(&body);
+// x = 1 or x = 3
+fn one_or_three(alloc: Global) -> Result<Assert, FormError> {
     let one = Assert::Eq(form(alloc, 1, -1)?);
     let three = Assert::Eq(form(alloc, 1, -3)?);
-    match after(alloc, &action, &Assert::Or(vec![in alloc; one, three]?))? {
-        Assert::Or(parts) => expect_forms(&rt, &parts, &[(1, 0), (1, -2)]),
+    Ok(Assert::Or(vec![in alloc; one, three]?))
+}
+
+fn expect_or(rt: &impl Abort, assertion: &Assert, forms: &[(i128, i128)]) {
+    match assertion {
+        Assert::Or(parts) => expect_forms(rt, parts, forms),
         other => panic!(rt; "{other:?}"),
     }
-    match fits(alloc, &action)? {
-        Assert::And(parts) => expect_forms(
-            &rt,
-            &parts,
-            &[(-1, -9223372036854775809), (1, -9223372036854775806)],
-        ),
+}
+
+fn expect_and(rt: &impl Abort, assertion: &Assert, forms: &[(i128, i128)]) {
+    match assertion {
+        Assert::And(parts) => expect_forms(rt, parts, forms),
         other => panic!(rt; "{other:?}"),
     }
+}
+
+fn expect_after(rt: &impl Abort, alloc: Global, action: &Action) -> Result<(), Fail> {
+    let assertion = one_or_three(alloc)?;
+    let after = after(alloc, action, &assertion)?;
+    expect_or(rt, &after, &[(1, 0), (1, -2)]);
     Ok(())
+}
+
+fn expect_fits(
+    rt: &impl Abort,
+    alloc: Global,
+    action: &Action,
+    forms: &[(i128, i128)],
+) -> Result<(), Fail> {
+    let fits = fits(alloc, action)?;
+    expect_and(rt, &fits, forms);
+    Ok(())
+}
+
+#[test]
+fn after_an_await(rt: HostRuntime) -> Result<(), Fail> {
+    let body = body(rt.alloc(), &[(1, 1)])?;
+    let action = Action::Await(&body);
+    expect_after(&rt, rt.alloc(), &action)?;
+    let forms = [(-1, -9223372036854775809), (1, -9223372036854775806)];
+    expect_fits(&rt, rt.alloc(), &action, &forms)
+}
+
+fn expect_prepared(rt: &impl Abort, alloc: Global, prepared: &ActionMap) -> Result<(), Fail> {
+    assert_eq!(rt; prepared.values().len(), 2);
+    let last = Form::variable(alloc, X)?.apply(prepared.map())?;
+    expect_form(rt, &last, (1, 0));
+    Ok(())
+}
+
+fn expect_last(rt: &impl Abort, alloc: Global, action: &Action) -> Result<(), Fail> {
+    let prepared = action.prepare(alloc)?;
+    expect_prepared(rt, alloc, &prepared)
 }
 
 #[test]
 fn two_values(rt: HostRuntime) -> Result<(), Fail> {
-    let alloc = rt.alloc();
-    let body = body(alloc, &[(1, 1), (1, -1)])?;
+    let body = body(rt.alloc(), &[(1, 1), (1, -1)])?;
     let action = Action::Await(&body);
-    match fits(alloc, &action)? {
-        Assert::And(parts) => expect_forms(
-            &rt,
-            &parts,
-            &[
-                (-1, -9223372036854775809),
-                (1, -9223372036854775806),
-                (-1, -9223372036854775808),
-                (1, -9223372036854775807),
-            ],
-        ),
-        other => panic!(rt; "{other:?}"),
-    }
-    let prepared = action.prepare(alloc)?;
-    let values = prepared.values();
-    assert_eq!(rt; values.len(), 2);
-    let last = Form::variable(alloc, X)?.apply(prepared.map())?;
-    expect_form(&rt, &last, (1, 0));
+    let forms = [
+        (-1, -9223372036854775809),
+        (1, -9223372036854775806),
+        (-1, -9223372036854775808),
+        (1, -9223372036854775807),
+    ];
+    expect_fits(&rt, rt.alloc(), &action, &forms)?;
+    expect_last(&rt, rt.alloc(), &action)
+}
+
+const STEEP: (i128, i128) = (2147483648, 0);
+
+fn expect_value(rt: &impl Abort, alloc: Global, map: &Map) -> Result<(), Fail> {
+    let value = Form::variable(alloc, X)?.apply(map)?;
+    expect_form(rt, &value, (1 << 124, 0));
     Ok(())
 }
 
+fn expect_map(rt: &impl Abort, alloc: Global, action: &Action) -> Result<(), Fail> {
+    let map = action.map(alloc)?;
+    expect_value(rt, alloc, &map)
+}
+
 #[test]
-fn too_large(rt: HostRuntime) -> Result<(), Fail> {
+fn four_steep_assignments(rt: HostRuntime) -> Result<(), Fail> {
+    let four = body(rt.alloc(), &[STEEP; 4])?;
+    expect_map(&rt, rt.alloc(), &Action::Await(&four))
+}
+
+#[test]
+fn five_steep_assignments(rt: HostRuntime) -> Result<(), Fail> {
     let alloc = rt.alloc();
-    let steep = (2147483648, 0);
-    let four = body(alloc, &[steep, steep, steep, steep])?;
-    let map = Action::Await(&four).map(alloc)?;
-    expect_form(&rt, &Form::variable(alloc, X)?.apply(&map)?, (1 << 124, 0));
-    let five = body(alloc, &[steep, steep, steep, steep, steep])?;
+    let five = body(alloc, &[STEEP; 5])?;
     let action = Action::Await(&five);
     expect_too_large(&rt, &action.map(alloc));
     expect_too_large(&rt, &action.prepare(alloc));
     expect_too_large(&rt, &after(alloc, &action, &Assert::True));
     expect_too_large(&rt, &fits(alloc, &action));
-    // The value is within i128, and so is -v - 2^63, but not -v.
+    Ok(())
+}
+
+// The value is within i128, and so is -v - 2^63, but not -v.
+#[test]
+fn the_least_value(rt: HostRuntime) -> Result<(), Fail> {
+    let alloc = rt.alloc();
     let least = body(alloc, &[(0, i128::MIN)])?;
     let action = Action::Await(&least);
     let _map = action.map(alloc)?;
     expect_too_large(&rt, &fits(alloc, &action));
     Ok(())
+}
+
+fn expect_assigns(rt: &impl Abort, action: &Action) {
+    assert!(rt; action.assigns(X));
+    assert!(rt; !action.assigns(Y));
+}
+
+fn expect_actions(rt: &impl Abort, single: &Stmt, whole: &Stmt, same: &[Basic]) {
+    match (Action::of(single), Action::of(whole)) {
+        (Some(a), Some(b)) => {
+            expect_assigns(rt, &a);
+            expect_assigns(rt, &b);
+            assert!(rt; a.equals(&a));
+            assert!(rt; b.equals(&Action::Await(same)));
+            assert!(rt; !a.equals(&b));
+        }
+        _ => panic!(rt; "no action"),
+    }
 }
 
 #[test]
@@ -126,14 +191,6 @@ fn actions_of_statements(rt: HostRuntime) -> Result<(), Fail> {
     let single = Stmt::Assign(X, form(alloc, 1, 1)?);
     let whole = Stmt::Await(Assert::True, body(alloc, &[(1, 1)])?);
     let same = body(alloc, &[(1, 1)])?;
-    match (Action::of(&single), Action::of(&whole)) {
-        (Some(a), Some(b)) => {
-            assert!(rt; a.assigns(X) && b.assigns(X));
-            assert!(rt; !a.assigns(Y) && !b.assigns(Y));
-            assert!(rt; a.equals(&a) && b.equals(&Action::Await(&same)));
-            assert!(rt; !a.equals(&b));
-        }
-        _ => panic!(rt; "no action"),
-    }
+    expect_actions(&rt, &single, &whole, &same);
     Ok(())
 }

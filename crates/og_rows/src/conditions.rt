@@ -6,6 +6,7 @@ use crate::sources::{
     WITH_MAIN, add_times, equal_processes,
 };
 use og_cond::{Condition, ConditionsError, Kind, conditions};
+use og_typed::Outline;
 use std::alloc::{AllocError, Global};
 use std::test::Fail;
 
@@ -22,15 +23,25 @@ fn told(alloc: Global, source: &str, condition: &Condition) -> Result<String, Al
     }
 }
 
-// The conditions of a source, one after the other.
-fn listing(alloc: Global, source: &str) -> Result<String, Fail> {
-    let outline = outline_of(alloc, source)?;
+// These conditions of a source, one after the other.
+fn told_all(alloc: Global, source: &str, list: &[Condition]) -> Result<String, AllocError> {
     let mut out = String::new(alloc);
-    for condition in &conditions(alloc, &outline)? {
+    for condition in list {
         let text = told(alloc, source, condition)?;
         out.push_str(text.as_str())?;
     }
     Ok(out)
+}
+
+fn listing_of(alloc: Global, source: &str, outline: &Outline) -> Result<String, Fail> {
+    let list = conditions(alloc, outline)?;
+    Ok(told_all(alloc, source, &list)?)
+}
+
+// The conditions of a source.
+fn listing(alloc: Global, source: &str) -> Result<String, Fail> {
+    let outline = outline_of(alloc, source)?;
+    listing_of(alloc, source, &outline)
 }
 
 const BRANCHES: &str =
@@ -86,24 +97,36 @@ fn count_of(list: &[Condition], kind: Kind) -> usize {
         .count()
 }
 
-// How many conditions there are of the kinds start, interfere and end, and in all; or the refusal.
-fn counts(alloc: Global, source: &str) -> Result<String, Fail> {
-    let outline = outline_of(alloc, source)?;
-    match conditions(alloc, &outline) {
-        Ok(list) => {
-            let start = count_of(&list, Kind::Start);
-            let interfere = count_of(&list, Kind::Interfere);
-            let end = count_of(&list, Kind::End);
-            let all = list.len();
-            Ok(format!(in alloc; "{start} {interfere} {end} of {all}")?)
-        }
+// How many conditions there are of the kinds start, interfere and end, and in all.
+fn counts_of(alloc: Global, list: &[Condition]) -> Result<String, AllocError> {
+    let start = count_of(list, Kind::Start);
+    let interfere = count_of(list, Kind::Interfere);
+    let end = count_of(list, Kind::End);
+    let all = list.len();
+    format!(in alloc; "{start} {interfere} {end} of {all}")
+}
+
+// The same, or the refusal.
+fn answer(
+    alloc: Global,
+    list: &Result<Vec<Condition<'_>>, ConditionsError>,
+) -> Result<String, AllocError> {
+    match list {
+        Ok(list) => counts_of(alloc, list),
         Err(ConditionsError::Fault(fault)) => {
             let number = fault.number();
             let name = fault.name();
-            Ok(format!(in alloc; "{number} {name}")?)
+            format!(in alloc; "{number} {name}")
         }
-        Err(ConditionsError::Memory) => Ok(String::from_str(alloc, "memory")?),
+        Err(ConditionsError::Memory) => String::from_str(alloc, "memory"),
     }
+}
+
+// What is told of the conditions of a source.
+fn counts(alloc: Global, source: &str) -> Result<String, Fail> {
+    let outline = outline_of(alloc, source)?;
+    let list = conditions(alloc, &outline);
+    Ok(answer(alloc, &list)?)
 }
 
 // Equal processes of so many assignments and then so many skips, every assertion `x >= 0`.
@@ -134,6 +157,11 @@ fn counts_of_many(rt: HostRuntime) -> Result<(), Fail> {
         let got = counts(rt.alloc(), source.as_str())?;
         assert_eq!(rt; got.as_str(), expected);
     }
+    Ok(())
+}
+
+#[test]
+fn counts_of_skips(rt: HostRuntime) -> Result<(), Fail> {
     let skips = equal_processes(
         rt.alloc(),
         "{true}\ncobegin\n",

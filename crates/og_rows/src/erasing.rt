@@ -1,21 +1,36 @@
 //! Programs of source texts: outlines without their auxiliary variables, as they are printed.
 
 use crate::outlines::outline_of;
-use og_erase::erase;
+use og_erase::{Program, erase};
 use og_parse::{print_outline, print_program};
+use og_typed::Outline;
 use std::alloc::Global;
 use std::test::Fail;
 
+fn text_of(alloc: Global, outline: &Outline, is_outline: bool) -> Result<Vec<u8>, Fail> {
+    let program = erase(alloc, outline)?;
+    printed(alloc, &program, is_outline)
+}
+
+fn printed(alloc: Global, program: &Program, is_outline: bool) -> Result<Vec<u8>, Fail> {
+    let raw = program.raw(alloc)?;
+    if is_outline {
+        Ok(print_outline(alloc, &raw)?)
+    } else {
+        Ok(print_program(alloc, &raw)?)
+    }
+}
+
 // The text of the program of a source.
 fn program_text(alloc: Global, source: &str) -> Result<Vec<u8>, Fail> {
-    let program = erase(alloc, &outline_of(alloc, source)?)?;
-    Ok(print_program(alloc, &program.raw(alloc)?)?)
+    let outline = outline_of(alloc, source)?;
+    text_of(alloc, &outline, false)
 }
 
 // The same with its assertions.
 fn outline_text(alloc: Global, source: &str) -> Result<Vec<u8>, Fail> {
-    let program = erase(alloc, &outline_of(alloc, source)?)?;
-    Ok(print_outline(alloc, &program.raw(alloc)?)?)
+    let outline = outline_of(alloc, source)?;
+    text_of(alloc, &outline, true)
 }
 
 // A statement that became empty stays: a loop, an await, a branch, a process, and a part of the

@@ -43,18 +43,23 @@ fn tell_all(out: &mut String, alloc: Global, source: &str, seq: &Seq) -> Result<
     tell(out, alloc, source, seq.last.at)
 }
 
+// The places of an outline of this source, in the order of the text.
+fn told(alloc: Global, source: &str, outline: &Outline) -> Result<String, AllocError> {
+    let mut out = String::new(alloc);
+    tell(&mut out, alloc, source, outline.pre().at)?;
+    tell(&mut out, alloc, source, outline.cobegin_at())?;
+    for process in outline.processes() {
+        tell_all(&mut out, alloc, source, process)?;
+    }
+    tell(&mut out, alloc, source, outline.post().at)?;
+    Ok(out)
+}
+
 // Each place is that of the `{` of an assertion, or of the first token of a statement.
 #[test]
 fn places(rt: HostRuntime) -> Result<(), Fail> {
-    let alloc = rt.alloc();
-    let outline = outline_of(alloc, NESTED)?;
-    let mut got = String::new(alloc);
-    tell(&mut got, alloc, NESTED, outline.pre().at)?;
-    tell(&mut got, alloc, NESTED, outline.cobegin_at())?;
-    for process in outline.processes() {
-        tell_all(&mut got, alloc, NESTED, process)?;
-    }
-    tell(&mut got, alloc, NESTED, outline.post().at)?;
+    let outline = outline_of(rt.alloc(), NESTED)?;
+    let got = told(rt.alloc(), NESTED, &outline)?;
     assert_eq!(rt;
         got.as_str(),
         "2:1 3:1 4:1 5:1 6:3 7:3 8:5 9:5 10:5 12:3 14:1 16:1 17:1 18:1 20:1 "

@@ -5,6 +5,7 @@ use og_parse::parse;
 use og_text::lex;
 use og_typed::{Assert, Basic, Item, Note, Outline, Seq, Stmt, TypeError, TypeFault, resolve};
 use std::alloc::{AllocError, Global};
+use std::process::Abort;
 use std::test::Fail;
 
 fn resolved(alloc: Global, source: &str) -> Result<Result<Outline, TypeError>, Fail> {
@@ -13,20 +14,24 @@ fn resolved(alloc: Global, source: &str) -> Result<Result<Outline, TypeError>, F
     Ok(resolve(alloc, raw))
 }
 
-// How the refusal of a source is told, or nothing where it is an outline.
-fn refusal(alloc: Global, source: &str) -> Result<String, Fail> {
-    match resolved(alloc, source)? {
+// How the refusal is told, or nothing where it is an outline.
+fn told_refusal(alloc: Global, answer: &Result<Outline, TypeError>) -> Result<String, AllocError> {
+    match answer {
         Err(TypeError::Fault(fault)) => {
             let number = fault.number();
             let name = fault.name();
             let place = fault.place();
-            Ok(format!(in alloc; "{number} {name} {place}")?)
+            format!(in alloc; "{number} {name} {place}")
         }
-        other => {
-            let _outline = other?;
-            Ok(String::new(alloc))
-        }
+        Err(TypeError::Memory) => String::from_str(alloc, "memory"),
+        Ok(_) => Ok(String::new(alloc)),
     }
+}
+
+// How the refusal of a source is told.
+fn refusal(alloc: Global, source: &str) -> Result<String, Fail> {
+    let answer = resolved(alloc, source)?;
+    Ok(told_refusal(alloc, &answer)?)
 }
 
 // A text: `head`, `part` as often as `times` says, and `tail`.
@@ -179,6 +184,21 @@ fn told(alloc: Global, kind: &str, form: &Form) -> Result<String, AllocError> {
     Ok(out)
 }
 
+fn told_relation(alloc: Global, assertion: &Assert) -> Result<String, AllocError> {
+    match assertion {
+        Assert::Le(form) => told(alloc, "<=", form),
+        Assert::Eq(form) => told(alloc, "=", form),
+        Assert::Ne(form) => told(alloc, "<>", form),
+        _ => Ok(String::new(alloc)),
+    }
+}
+
+// What is told of the precondition of a source.
+fn told_pre(alloc: Global, source: &str) -> Result<String, Fail> {
+    let outline = resolved(alloc, source)??;
+    Ok(told_relation(alloc, &outline.pre().assertion)?)
+}
+
 #[test]
 fn collects_both_sides(rt: HostRuntime) -> Result<(), Fail> {
     let rows = [
@@ -190,24 +210,34 @@ fn collects_both_sides(rt: HostRuntime) -> Result<(), Fail> {
         ("x + x = 2*x", "= 0"),
         ("y <> -x + 7", "<> 1*0 1*1 -7"),
     ];
+    let end = "} cobegin {true} skip {true} coend {true}";
     for (assertion, expected) in rows {
-        let source = text(
-            rt.alloc(),
-            "var x, y; {",
-            assertion,
-            1,
-            "} cobegin {true} skip {true} coend {true}",
-        )?;
-        let outline = resolved(rt.alloc(), source.as_str())??;
-        let got = match &outline.pre().assertion {
-            Assert::Le(form) => told(rt.alloc(), "<=", form)?,
-            Assert::Eq(form) => told(rt.alloc(), "=", form)?,
-            Assert::Ne(form) => told(rt.alloc(), "<>", form)?,
-            _ => String::new(rt.alloc()),
-        };
+        let source = text(rt.alloc(), "var x, y; {", assertion, 1, end)?;
+        let got = told_pre(rt.alloc(), source.as_str())?;
         assert_eq!(rt; got.as_str(), expected, "at {assertion}");
     }
     Ok(())
+}
+
+fn expect_parts<R: Abort>(rt: &R, outline: &Outline) {
+    assert_eq!(rt; outline.names().len(), 4);
+    assert_eq!(rt; outline.vars(), 2);
+    assert_eq!(rt; outline.aux_values(), [-5, 0].as_slice());
+    assert_eq!(rt; outline.cobegin_at(), 67);
+    assert_eq!(rt; outline.pre().at, 29);
+    assert_eq!(rt; outline.post().at, 124);
+    assert_eq!(rt; outline.processes().len(), 2);
+}
+
+fn expect_main<R: Abort>(rt: &R, outline: &Outline) {
+    assert!(rt; outline.epilogue().is_none());
+    match outline.prologue() {
+        Some(prologue) => {
+            assert_eq!(rt; prologue.first().at, 43);
+            assert_eq!(rt; prologue.last().at, 55);
+        }
+        None => panic!(rt; "no prologue"),
+    }
 }
 
 #[test]
@@ -215,18 +245,7 @@ fn reads_the_parts_of_an_outline(rt: HostRuntime) -> Result<(), Fail> {
     let source =
         "var x, y; aux a = -5, b = 0; {x = 0} begin {true} skip {y = 0} end cobegin {a = 0} skip {true} // {true} skip {false} coend {false}";
     let outline = resolved(rt.alloc(), source)??;
-    let names = outline.names();
-    assert_eq!(rt; names.len(), 4);
-    assert_eq!(rt; outline.vars(), 2);
-    assert_eq!(rt; outline.aux_values(), [-5, 0].as_slice());
-    assert_eq!(rt; outline.cobegin_at(), 67);
-    assert_eq!(rt; outline.pre().at, 29);
-    assert_eq!(rt; outline.post().at, 124);
-    assert_eq!(rt; outline.processes().len(), 2);
-    assert!(rt; outline.epilogue().is_none());
-    if let Some(prologue) = outline.prologue() {
-        assert_eq!(rt; prologue.first().at, 43);
-        assert_eq!(rt; prologue.last().at, 55);
-    }
+    expect_parts(&rt, &outline);
+    expect_main(&rt, &outline);
     Ok(())
 }

@@ -6,6 +6,7 @@ use og_linear::State;
 use og_step::{Moment, StartError, start};
 use og_typed::Outline;
 use std::alloc::{AllocError, Global};
+use std::process::Abort;
 use std::test::Fail;
 
 fn begun<'a>(
@@ -31,6 +32,17 @@ fn told(alloc: Global, moment: &mut Moment<'_>, turns: &[u32]) -> Result<String,
     }
     out.push_str(standing(moment))?;
     Ok(out)
+}
+
+// The same from these values.
+fn told_from(
+    alloc: Global,
+    outline: &Outline,
+    values: &[i64],
+    turns: &[u32],
+) -> Result<String, Fail> {
+    let mut moment = begun(alloc, outline, values)?;
+    Ok(told(alloc, &mut moment, turns)?)
 }
 
 fn standing(moment: &Moment<'_>) -> &'static str {
@@ -86,27 +98,29 @@ fn takes_turns(rt: HostRuntime) -> Result<(), Fail> {
     ];
     for (source, values, turns, expected) in rows {
         let outline = outline_of(alloc, source)?;
-        let mut moment = begun(alloc, &outline, values)?;
-        let got = told(alloc, &mut moment, turns)?;
+        let got = told_from(alloc, &outline, values, turns)?;
         assert_eq!(rt; got.as_str(), expected);
     }
     Ok(())
 }
 
 // How a start is refused, or nothing where it is not.
-fn refusal(alloc: Global, source: &str, values: &[i64]) -> Result<String, Fail> {
-    let outline = outline_of(alloc, source)?;
-    match begun(alloc, &outline, values) {
+fn refusal(alloc: Global, started: &Result<Moment<'_>, StartError>) -> Result<String, AllocError> {
+    match started {
         Err(StartError::Fault(fault)) => {
             let number = fault.number();
             let name = fault.name();
-            Ok(format!(in alloc; "{number} {name}")?)
+            format!(in alloc; "{number} {name}")
         }
-        other => {
-            let _moment = other?;
-            Ok(String::new(alloc))
-        }
+        Err(StartError::Memory) => String::from_str(alloc, "memory"),
+        Ok(_) => Ok(String::new(alloc)),
     }
+}
+
+fn refusal_of(alloc: Global, source: &str, values: &[i64]) -> Result<String, Fail> {
+    let outline = outline_of(alloc, source)?;
+    let started = begun(alloc, &outline, values);
+    Ok(refusal(alloc, &started)?)
 }
 
 #[test]
@@ -121,19 +135,22 @@ fn refuses_starts(rt: HostRuntime) -> Result<(), Fail> {
         (ONE_BELOW, [i64::MAX - 1].as_slice(), ""),
     ];
     for (source, values, expected) in rows {
-        let got = refusal(alloc, source, values)?;
+        let got = refusal_of(alloc, source, values)?;
         assert_eq!(rt; got.as_str(), expected);
     }
     Ok(())
 }
 
-#[test]
-fn ends_after_the_last_step(rt: HostRuntime) -> Result<(), Fail> {
-    let alloc = rt.alloc();
-    let outline = outline_of(alloc, ONE_BELOW)?;
-    let mut moment = begun(alloc, &outline, [i64::MAX - 1].as_slice())?;
+fn expect_end<R: Abort>(rt: &R, moment: &mut Moment<'_>) {
     assert!(rt; !moment.is_done(0));
     let _turn = moment.step(0);
     assert!(rt; moment.is_done(0));
+}
+
+#[test]
+fn ends_after_the_last_step(rt: HostRuntime) -> Result<(), Fail> {
+    let outline = outline_of(rt.alloc(), ONE_BELOW)?;
+    let mut moment = begun(rt.alloc(), &outline, [i64::MAX - 1].as_slice())?;
+    expect_end(&rt, &mut moment);
     Ok(())
 }
