@@ -1,8 +1,9 @@
 //! Texts read as trees, and their faults.
 
-use og_parse::{ParseError, ParseFault, parse};
+use og_parse::{ParseError, ParseFault, Raw, parse};
 use og_text::{Span, Token, lex};
 use std::alloc::{AllocError, Global};
+use std::process::Abort;
 use std::test::Fail;
 
 // A text: `head`, `part` as often as `times` says, and `tail`.
@@ -30,23 +31,25 @@ fn told(alloc: Global, fault: ParseFault) -> Result<String, AllocError> {
 }
 
 // The first assertion of the outline that the tokens stand for, or the fault.
-fn answer(alloc: Global, tokens: &[Token]) -> Result<String, Fail> {
-    match parse(alloc, tokens) {
+fn answer(alloc: Global, tokens: &[Token]) -> Result<String, AllocError> {
+    let parsed = parse(alloc, tokens);
+    told_answer(alloc, &parsed)
+}
+
+fn told_answer(alloc: Global, parsed: &Result<Raw, ParseError>) -> Result<String, AllocError> {
+    match parsed {
         Ok(raw) => {
-            let first = raw.pre.assertion;
-            Ok(format!(in alloc; "{first:?}")?)
+            let first = &raw.pre.assertion;
+            format!(in alloc; "{first:?}")
         }
-        Err(ParseError::Fault(fault)) => Ok(told(alloc, fault)?),
-        memory => {
-            let _raw = memory?;
-            Ok(String::new(alloc))
-        }
+        Err(ParseError::Fault(fault)) => told(alloc, *fault),
+        Err(ParseError::Memory) => String::from_str(alloc, "memory"),
     }
 }
 
 fn answer_of(alloc: Global, source: &str) -> Result<String, Fail> {
     let tokens = lex(alloc, source.as_bytes())?;
-    answer(alloc, tokens.as_slice())
+    Ok(answer(alloc, tokens.as_slice())?)
 }
 
 #[test]
@@ -204,20 +207,27 @@ fn keeps_the_limit_on_statements(rt: HostRuntime) -> Result<(), Fail> {
     Ok(())
 }
 
+// With these tokens alone, more is expected at the byte.
+fn expect_end(rt: &impl Abort, alloc: Global, tokens: &[Token], end: u32) -> Result<(), Fail> {
+    let got = answer(alloc, tokens)?;
+    let expected = format!(in alloc; "7 Expected {end}..{end}")?;
+    assert_eq!(rt; got.as_str(), expected.as_str());
+    Ok(())
+}
+
 #[test]
 fn asks_for_more_at_each_prefix(rt: HostRuntime) -> Result<(), Fail> {
     let source =
         "var x; {x = 0} cobegin {x = 0 or x = 2} await true then x := x + 1 {x = 1 or x = 3} // {x = 0 or x = 1} await true then x := x + 2 {x = 2 or x = 3} coend {x = 3}\n";
     let tokens = lex(rt.alloc(), source.as_bytes())?;
+    assert_eq!(rt; tokens.len(), 68);
     let mut end = 0;
     for (i, token) in tokens.iter().enumerate() {
-        let got = answer(rt.alloc(), &tokens[..i])?;
-        let expected = format!(in rt.alloc(); "7 Expected {end}..{end}")?;
-        assert_eq!(rt; got.as_str(), expected.as_str());
+        expect_end(&rt, rt.alloc(), &tokens[..i], end)?;
         end = token.span.end;
     }
-    assert_eq!(rt; tokens.len(), 68);
-    let _raw = parse(rt.alloc(), tokens.as_slice())?;
+    let got = answer(rt.alloc(), tokens.as_slice())?;
+    assert!(rt; got.as_str().starts_with("Compare("));
     Ok(())
 }
 
@@ -260,14 +270,19 @@ fn builds_assertions(rt: HostRuntime) -> Result<(), Fail> {
     Ok(())
 }
 
-// The listing of a tree, in parts.
+// The listing of a tree.
+fn listing(alloc: Global, source: &str) -> Result<String, Fail> {
+    let tokens = lex(alloc, source.as_bytes())?;
+    let raw = parse(alloc, tokens.as_slice())?;
+    Ok(format!(in alloc; "{raw:?}")?)
+}
+
+// The same in parts.
 #[test]
 fn keeps_signs_and_places(rt: HostRuntime) -> Result<(), Fail> {
     let source =
         "aux a = -0; {true} begin {true} skip {true} end cobegin {false} await 007 >= -a then begin a := 2*a + 1 end {true} // {true} if true then begin {true} skip {true} end else begin {true} skip {true} end {true} coend {true}";
-    let tokens = lex(rt.alloc(), source.as_bytes())?;
-    let raw = parse(rt.alloc(), tokens.as_slice())?;
-    let got = format!(in rt.alloc(); "{raw:?}")?;
+    let got = listing(rt.alloc(), source)?;
     let auxes =
         "[RawAux { name: RawName { name: Name { bytes: [97] }, span: Span { start: 4, end: 5 } }, value: RawInt { sign: Minus, number: 0, span: Span { start: 8, end: 9 } } }]";
     let pre = "RawNote { assertion: True, span: Span { start: 12, end: 13 } }";

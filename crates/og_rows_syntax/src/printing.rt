@@ -13,6 +13,16 @@ fn parsed(alloc: Global, source: &str) -> Result<Raw, Fail> {
     Ok(parse(alloc, tokens.as_slice())?)
 }
 
+fn outline_text(alloc: Global, source: &str) -> Result<Vec<u8>, Fail> {
+    let raw = parsed(alloc, source)?;
+    Ok(print_outline(alloc, &raw)?)
+}
+
+fn program_text(alloc: Global, source: &str) -> Result<Vec<u8>, Fail> {
+    let raw = parsed(alloc, source)?;
+    Ok(print_program(alloc, &raw)?)
+}
+
 #[test]
 fn prints_outlines(rt: HostRuntime) -> Result<(), Fail> {
     let rows = [
@@ -38,16 +48,10 @@ fn prints_outlines(rt: HostRuntime) -> Result<(), Fail> {
         ),
     ];
     for (source, lines) in rows {
-        let raw = parsed(rt.alloc(), source)?;
-        assert_eq!(rt;
-            print_outline(rt.alloc(), &raw)?.as_slice(),
-            lines.as_bytes()
-        );
-        let again = parsed(rt.alloc(), lines)?;
-        assert_eq!(rt;
-            print_outline(rt.alloc(), &again)?.as_slice(),
-            lines.as_bytes()
-        );
+        let text = outline_text(rt.alloc(), source)?;
+        assert_eq!(rt; text.as_slice(), lines.as_bytes());
+        let again = outline_text(rt.alloc(), lines)?;
+        assert_eq!(rt; again.as_slice(), lines.as_bytes());
     }
     Ok(())
 }
@@ -69,11 +73,8 @@ fn prints_programs(rt: HostRuntime) -> Result<(), Fail> {
         ),
     ];
     for (source, lines) in rows {
-        let raw = parsed(rt.alloc(), source)?;
-        assert_eq!(rt;
-            print_program(rt.alloc(), &raw)?.as_slice(),
-            lines.as_bytes()
-        );
+        let text = program_text(rt.alloc(), source)?;
+        assert_eq!(rt; text.as_slice(), lines.as_bytes());
     }
     Ok(())
 }
@@ -212,12 +213,16 @@ fn with_main(
     print_program(alloc, &raw)
 }
 
-#[test]
-fn prints_the_parts_of_main(rt: HostRuntime) -> Result<(), Fail> {
-    let alloc = rt.alloc();
+// The program of which the main process sets x to 0 and then adds 1.
+fn main_text(alloc: Global) -> Result<Vec<u8>, AllocError> {
     let prologue = assigns(alloc, sum(alloc, RawFactor::Number(0))?)?;
     let epilogue = assigns(alloc, successor(alloc)?)?;
-    let text = with_main(alloc, prologue, waits(alloc)?, epilogue)?;
+    with_main(alloc, prologue, waits(alloc)?, epilogue)
+}
+
+#[test]
+fn prints_the_parts_of_main(rt: HostRuntime) -> Result<(), Fail> {
+    let text = main_text(rt.alloc())?;
     assert_eq!(rt;
         text.as_slice(),
         "var x;\nbegin\n  x := 0\nend\ncobegin\n  await true then x := x + 1\ncoend\nbegin\n  x := x + 1\nend\n".as_bytes()
@@ -225,12 +230,17 @@ fn prints_the_parts_of_main(rt: HostRuntime) -> Result<(), Fail> {
     Ok(())
 }
 
+// The program that waits for x = 0.
+fn await_text(alloc: Global) -> Result<Vec<u8>, AllocError> {
+    let wait = RawStmt::Await(x_is_zero(alloc)?, Vec::new(alloc));
+    let process = one(alloc, wait)?;
+    let vars = vec![in alloc; name(alloc, "x")?]?;
+    program(alloc, vars, process, Vec::new(alloc))
+}
+
 #[test]
 fn prints_an_await_without_a_body(rt: HostRuntime) -> Result<(), Fail> {
-    let alloc = rt.alloc();
-    let wait = RawStmt::Await(x_is_zero(alloc)?, Vec::new(alloc));
-    let vars = vec![in alloc; name(alloc, "x")?]?;
-    let text = program(alloc, vars, one(alloc, wait)?, Vec::new(alloc))?;
+    let text = await_text(rt.alloc())?;
     assert_eq!(rt;
         text.as_slice(),
         "var x;\ncobegin\n  await x = 0 then begin end\ncoend\n".as_bytes()
@@ -238,14 +248,23 @@ fn prints_an_await_without_a_body(rt: HostRuntime) -> Result<(), Fail> {
     Ok(())
 }
 
+// The program of two processes without statements.
+fn empty_text(alloc: Global) -> Result<Vec<u8>, AllocError> {
+    let others = vec![in alloc; none(alloc)]?;
+    program(alloc, Vec::new(alloc), none(alloc), others)
+}
+
+// The program of one loop without statements.
+fn loop_text(alloc: Global) -> Result<Vec<u8>, AllocError> {
+    let turns = one(alloc, RawStmt::While(RawAssert::True, none(alloc)))?;
+    program(alloc, Vec::new(alloc), turns, Vec::new(alloc))
+}
+
 #[test]
 fn prints_empty_sequences(rt: HostRuntime) -> Result<(), Fail> {
-    let alloc = rt.alloc();
-    let others = vec![in alloc; none(alloc)]?;
-    let text = program(alloc, Vec::new(alloc), none(alloc), others)?;
+    let text = empty_text(rt.alloc())?;
     assert_eq!(rt; text.as_slice(), "cobegin\n//\ncoend\n".as_bytes());
-    let turns = one(alloc, RawStmt::While(RawAssert::True, none(alloc)))?;
-    let text = program(alloc, Vec::new(alloc), turns, Vec::new(alloc))?;
+    let text = loop_text(rt.alloc())?;
     assert_eq!(rt;
         text.as_slice(),
         "cobegin\n  while true do begin\n  end\ncoend\n".as_bytes()
