@@ -4,9 +4,10 @@ use crate::outlines::outline_of;
 use crate::sources::{
     EQUAL_ADD, LARGE, NESTED, NO_FACTS, NOT_EVEN, TOLD_ADD, TWO_ADD, alike, deep, many, multiplied,
 };
-use og_cert_text::write_certs;
+use og_cert_text::{CertFile, write_certs};
 use og_cond::{Condition, conditions};
 use og_find::{Verdict, examine, find, find_all, has_all};
+use og_typed::Outline;
 use std::alloc::{AllocError, Global};
 use std::test::Fail;
 
@@ -23,6 +24,16 @@ fn letter(verdict: &Verdict) -> u8 {
     }
 }
 
+fn examined(alloc: Global, condition: &Condition, budget: u64) -> Result<u8, AllocError> {
+    let verdict = examine(alloc, condition, budget)?;
+    Ok(letter(&verdict))
+}
+
+fn is_found(alloc: Global, condition: &Condition, budget: u64) -> Result<bool, AllocError> {
+    let found = find(alloc, condition, budget)?;
+    Ok(found.is_some())
+}
+
 // The letter of the condition, or `x` where `find` or the file tells otherwise.
 fn letter_of(
     alloc: Global,
@@ -30,35 +41,56 @@ fn letter_of(
     budget: u64,
     is_in_file: bool,
 ) -> Result<u8, AllocError> {
-    let letter = letter(&examine(alloc, condition, budget)?);
+    let letter = examined(alloc, condition, budget)?;
     let is_true = letter == b't';
-    let is_found = find(alloc, condition, budget)?.is_some();
-    Ok(if is_found == is_true && is_in_file == is_true {
-        letter
-    } else {
-        b'x'
-    })
+    let is_found = is_found(alloc, condition, budget)?;
+    let is_same = is_found == is_true && is_in_file == is_true;
+    Ok(if is_same { letter } else { b'x' })
 }
 
-// The letters of all conditions, in order.
-fn letters_of(alloc: Global, list: &[Condition], budget: u64) -> Result<Vec<u8>, AllocError> {
-    let file = find_all(alloc, list, budget)?;
-    let mut letters = Vec::new(alloc);
+// Whether these are the letters of all conditions, in order.
+fn has_letters(
+    alloc: Global,
+    list: &[Condition],
+    file: &CertFile,
+    budget: u64,
+    expected: &[u8],
+) -> Result<bool, AllocError> {
     let mut number = 0u32;
-    for condition in list {
+    for (condition, wanted) in list.iter().zip(expected.iter()) {
         number = number.saturating_add(1);
         let is_in_file = file.certificate(number).is_some();
-        letters.push(letter_of(alloc, condition, budget, is_in_file)?)?;
+        if letter_of(alloc, condition, budget, is_in_file)? != *wanted {
+            return Ok(false);
+        }
     }
-    Ok(letters)
+    Ok(list.len() == expected.len())
+}
+
+fn list_has(
+    alloc: Global,
+    list: &[Condition],
+    budget: u64,
+    expected: &[u8],
+) -> Result<bool, AllocError> {
+    let file = find_all(alloc, list, budget)?;
+    has_letters(alloc, list, &file, budget, expected)
+}
+
+fn outline_has(
+    alloc: Global,
+    outline: &Outline,
+    budget: u64,
+    expected: &[u8],
+) -> Result<bool, Fail> {
+    let list = conditions(alloc, outline)?;
+    Ok(list_has(alloc, &list, budget, expected)?)
 }
 
 // Whether these are the letters of the conditions of a source.
-fn has_letters(alloc: Global, source: &str, budget: u64, expected: &str) -> Result<bool, Fail> {
+fn source_has(alloc: Global, source: &str, budget: u64, expected: &str) -> Result<bool, Fail> {
     let outline = outline_of(alloc, source)?;
-    let list = conditions(alloc, &outline)?;
-    let letters = letters_of(alloc, &list, budget)?;
-    Ok(letters.as_slice() == expected.as_bytes())
+    outline_has(alloc, &outline, budget, expected.as_bytes())
 }
 
 #[test]
@@ -77,7 +109,7 @@ fn verdicts(rt: HostRuntime) -> Result<(), Fail> {
         (TWO_ADD, GREATEST_BUDGET, "tttttttttttt"),
     ];
     for (source, budget, expected) in rows {
-        let is_right = has_letters(alloc, source, budget, expected)?;
+        let is_right = source_has(alloc, source, budget, expected)?;
         assert!(rt; is_right, "{expected} of {source} with {budget}");
     }
     Ok(())
@@ -96,10 +128,17 @@ fn made_sources(rt: HostRuntime) -> Result<(), Fail> {
         (deep(alloc)?, "tttftt"),
     ];
     for (source, expected) in &rows {
-        let is_right = has_letters(alloc, source.as_str(), BUDGET, expected)?;
+        let is_right = source_has(alloc, source.as_str(), BUDGET, expected)?;
         assert!(rt; is_right, "{expected}");
     }
     Ok(())
+}
+
+// How many conditions there are, and whether all are certified.
+fn certified(alloc: Global, outline: &Outline) -> Result<(usize, bool), Fail> {
+    let list = conditions(alloc, outline)?;
+    let file = find_all(alloc, &list, BUDGET)?;
+    Ok((list.len(), has_all(&file, 4938)))
 }
 
 #[test]
@@ -107,10 +146,25 @@ fn many_conditions(rt: HostRuntime) -> Result<(), Fail> {
     let alloc = rt.alloc();
     let source = alike(alloc)?;
     let outline = outline_of(alloc, source.as_str())?;
-    let list = conditions(alloc, &outline)?;
-    assert_eq!(rt; list.len(), 4938);
-    assert!(rt; has_all(&find_all(alloc, &list, BUDGET)?, 4938));
+    assert!(rt; certified(alloc, &outline)? == (4938, true));
     Ok(())
+}
+
+// The text of what is found.
+fn found(alloc: Global, list: &[Condition], budget: u64) -> Result<Vec<u8>, Fail> {
+    let file = find_all(alloc, list, budget)?;
+    Ok(write_certs(alloc, &file)?)
+}
+
+fn is_same(alloc: Global, list: &[Condition]) -> Result<bool, Fail> {
+    let usual = found(alloc, list, BUDGET)?;
+    let greatest = found(alloc, list, GREATEST_BUDGET)?;
+    Ok(usual == greatest)
+}
+
+fn is_same_of(alloc: Global, outline: &Outline) -> Result<bool, Fail> {
+    let list = conditions(alloc, outline)?;
+    is_same(alloc, &list)
 }
 
 // The same budget or a greater one finds the same certificates.
@@ -118,9 +172,6 @@ fn many_conditions(rt: HostRuntime) -> Result<(), Fail> {
 fn same_certificates(rt: HostRuntime) -> Result<(), Fail> {
     let alloc = rt.alloc();
     let outline = outline_of(alloc, EQUAL_ADD)?;
-    let list = conditions(alloc, &outline)?;
-    let usual = write_certs(alloc, &find_all(alloc, &list, BUDGET)?)?;
-    let greatest = write_certs(alloc, &find_all(alloc, &list, GREATEST_BUDGET)?)?;
-    assert!(rt; usual == greatest);
+    assert!(rt; is_same_of(alloc, &outline)?);
     Ok(())
 }
