@@ -32,6 +32,7 @@ fn report(
 ) -> Result<Vec<u8>, EngineFault>
     requires { length source.now ≤ 2 ^ 20 }
     ensures text { IfOk result (λ t. t.items ≡ report_in in_json source.now (entries_of judgement.now)) }
+    ensures unread { IfErr result (λ e. e ≢ EngineFault.ReadFailed) }
     ensures fault { IfErr result (λ e. e ≢ EngineFault.WriteFailed) }
 {
     if !in_json {
@@ -52,6 +53,7 @@ fn of_judgement(
     requires { length source.now ≤ 2 ^ 20 }
     ensures text { IfOk result (λ a. a.text.items ≡ report_in in_json source.now (entries_of judgement.now)) }
     ensures status { IfOk result (λ a. a.status ≡ status_of (entries_of judgement.now)) }
+    ensures unread { IfErr result (λ e. e ≢ EngineFault.ReadFailed) }
     ensures fault { IfErr result (λ e. e ≢ EngineFault.WriteFailed) }
 {
     let text = report(alloc, judgement, source, in_json)?;
@@ -67,6 +69,7 @@ pub(crate) fn of_refusal(
 ) -> Result<Answer, EngineFault>
     requires { IsSome (place_of_refusal refusal.now) → length source.now ≤ 2 ^ 20 }
     ensures refused { IfOk result (λ a. IsTold source.now refusal.now a) }
+    ensures unread { IfErr result (λ e. e ≢ EngineFault.ReadFailed) }
     ensures fault { IfErr result (λ e. e ≢ EngineFault.WriteFailed) }
 {
     match refusal {
@@ -95,6 +98,7 @@ pub fn checked<G: Gate, H: Threads + Wait + Sync>(
 ) -> Result<Answer, EngineFault>
     requires { (0 < options.workers) × (options.workers ≤ 64) }
     ensures answer { IfOk result (IsChecked options.json source.now certs.now) }
+    ensures unread { IfErr result (λ e. e ≢ EngineFault.ReadFailed) }
     ensures fault { IfErr result (λ e. e ≢ EngineFault.WriteFailed) }
 {
     match judge(rt, alloc, source, certs, options.workers, gate) {

@@ -36,6 +36,7 @@ fn of_conditions(alloc: Global, outline: &Outline, source: &[u8]) -> Result<Answ
 /// `Memory` where an allocation was refused.
 pub fn listed(alloc: Global, source: &[u8]) -> Result<Answer, EngineFault>
     ensures answer { IfOk result (IsListed source.now) }
+    ensures unread { IfErr result (λ e. e ≢ EngineFault.ReadFailed) }
     ensures fault { IfErr result (λ e. e ≢ EngineFault.WriteFailed) }
 {
     let outline = match read_outline(alloc, source) {
@@ -66,6 +67,7 @@ fn of_outline(alloc: Global, outline: &Outline) -> Result<Answer, AllocError>
 /// `Memory` where an allocation was refused.
 pub fn erased(alloc: Global, source: &[u8]) -> Result<Answer, EngineFault>
     ensures answer { IfOk result (IsErased source.now) }
+    ensures unread { IfErr result (λ e. e ≢ EngineFault.ReadFailed) }
     ensures fault { IfErr result (λ e. e ≢ EngineFault.WriteFailed) }
 {
     match read_outline(alloc, source) {

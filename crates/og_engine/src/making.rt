@@ -44,6 +44,7 @@ fn of_search(alloc: Global, outline: &Outline, budget: u64) -> Result<Answer, Re
 /// `Memory` where an allocation was refused.
 pub fn found(alloc: Global, source: &[u8], budget: u64) -> Result<Answer, EngineFault>
     ensures answer { IfOk result (IsFound source.now) }
+    ensures unread { IfErr result (λ e. e ≢ EngineFault.ReadFailed) }
     ensures fault { IfErr result (λ e. e ≢ EngineFault.WriteFailed) }
 {
     let outline = match read_outline(alloc, source) {
@@ -64,6 +65,7 @@ pub fn found(alloc: Global, source: &[u8], budget: u64) -> Result<Answer, Engine
 /// `Memory` where an allocation was refused.
 pub fn migrated(alloc: Global, certs: &[u8]) -> Result<Answer, EngineFault>
     ensures answer { IfOk result (IsMigrated certs.now) }
+    ensures unread { IfErr result (λ e. e ≢ EngineFault.ReadFailed) }
     ensures fault { IfErr result (λ e. e ≢ EngineFault.WriteFailed) }
 {
     match migrate(alloc, certs) {

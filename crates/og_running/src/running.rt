@@ -29,6 +29,7 @@ use std::thread::Threads;
 fn of_refusal(alloc: Global, refusal: &Refusal, source: &[u8]) -> Result<Answer, EngineFault>
     requires { IsSome (place_of_refusal refusal.now) → length source.now ≤ 2 ^ 20 }
     ensures refused { IfOk result (λ a. IsTold source.now refusal.now a) }
+    ensures unread { IfErr result (λ e. e ≢ EngineFault.ReadFailed) }
     ensures fault { IfErr result (λ e. e ≢ EngineFault.WriteFailed) }
 {
     match refusal {
@@ -61,6 +62,7 @@ fn of_run(
 ) -> Result<Answer, EngineFault>
     ensures outcome { IfOk ended (λ r. IfOk result (IsText (outcome_text outline.now r) (finish_status r.finish))) }
     ensures refused { IfErr ended (λ e. IfOk result (IsFaultTold e)) }
+    ensures unread { IfErr result (λ e. e ≢ EngineFault.ReadFailed) }
     ensures fault { IfErr result (λ e. e ≢ EngineFault.WriteFailed) }
 {
     match ended {
@@ -88,6 +90,7 @@ fn of_outline<G: Gate, H: Threads + Wait + Sync>(
 ) -> Result<Answer, EngineFault>
     requires { limit ≤ 1000000 }
     ensures told { IfOk result (Tells (given outline.now values limit)) }
+    ensures unread { IfErr result (λ e. e ≢ EngineFault.ReadFailed) }
     ensures fault { IfErr result (λ e. e ≢ EngineFault.WriteFailed) }
 {
     let ended = run(rt, alloc, outline, values, limit, gate);
@@ -106,6 +109,7 @@ fn of_program<G: Gate, H: Threads + Wait + Sync>(
 ) -> Result<Answer, EngineFault>
     requires { limit ≤ 1000000 }
     ensures told { IfOk result (Tells (given (if erased then erased_of outline.now else outline.now) values limit)) }
+    ensures unread { IfErr result (λ e. e ≢ EngineFault.ReadFailed) }
     ensures fault { IfErr result (λ e. e ≢ EngineFault.WriteFailed) }
 {
     if !erased {
@@ -127,6 +131,7 @@ fn of_proved<G: Gate, H: Threads + Wait + Sync>(
 ) -> Result<Answer, EngineFault>
     requires { limit ≤ 1000000 }
     ensures told { IfOk result (TellsProved (given proved.now.0 values limit) proved.now.1) }
+    ensures unread { IfErr result (λ e. e ≢ EngineFault.ReadFailed) }
     ensures fault { IfErr result (λ e. e ≢ EngineFault.WriteFailed) }
 {
     let ended = run_proved(rt, alloc, proved, values, limit, gate);
@@ -145,6 +150,7 @@ fn of_judgement<G: Gate, H: Threads + Wait + Sync>(
 ) -> Result<Answer, EngineFault>
     requires { limit ≤ 1000000 }
     ensures told { IfOk result (TellsJudged (entries_of judgement.now) (given (outline_of judgement.now) values limit)) }
+    ensures unread { IfErr result (λ e. e ≢ EngineFault.ReadFailed) }
     ensures fault { IfErr result (λ e. e ≢ EngineFault.WriteFailed) }
 {
     match judgement.proved() {
@@ -171,6 +177,7 @@ fn of_certs<G: Gate, H: Threads + Wait + Sync>(
     requires source { IsSource source.now _outline.now }
     requires limit { limit ≤ 1000000 }
     ensures told { IfOk result (IsRefusedOrJudged source.now certs.now _outline.now values limit) }
+    ensures unread { IfErr result (λ e. e ≢ EngineFault.ReadFailed) }
     ensures fault { IfErr result (λ e. e ≢ EngineFault.WriteFailed) }
 {
     match judge(rt, alloc, source, certs, 1, &OpenGate) {
@@ -188,6 +195,7 @@ fn read_start<'a>(
 ) -> Result<Result<(Outline, State), Reply<'a>>, EngineFault>
     ensures start { IfOk result (λ r. IfOk r (λ s. IsSource source.now s.0 × Give s.0 (map (λ w. w.now) words.now) s.1)) }
     ensures early { IfOk result (λ r. IfErr r (IsEarly source.now (map (λ w. w.now) words.now))) }
+    ensures unread { IfErr result (λ e. e ≢ EngineFault.ReadFailed) }
     ensures fault { IfErr result (λ e. e ≢ EngineFault.WriteFailed) }
 {
     let outline = match read_outline(alloc, source) {
@@ -227,6 +235,7 @@ pub fn ran<'a, G: Gate, H: Threads + Wait + Sync>(
 ) -> Result<Reply<'a>, EngineFault>
     requires { limit ≤ 1000000 }
     ensures reply { IfOk result (IsRan erased limit source.now (map (λ w. w.now) words.now)) }
+    ensures unread { IfErr result (λ e. e ≢ EngineFault.ReadFailed) }
     ensures fault { IfErr result (λ e. e ≢ EngineFault.WriteFailed) }
 {
     let (outline, values) = match read_start(alloc, source, words)? {
@@ -256,6 +265,7 @@ pub fn ran_proved<'a, G: Gate, H: Threads + Wait + Sync>(
 ) -> Result<Reply<'a>, EngineFault>
     requires { limit ≤ 1000000 }
     ensures reply { IfOk result (IsRanProved limit source.now certs.now (map (λ w. w.now) words.now)) }
+    ensures unread { IfErr result (λ e. e ≢ EngineFault.ReadFailed) }
     ensures fault { IfErr result (λ e. e ≢ EngineFault.WriteFailed) }
 {
     let (outline, values) = match read_start(alloc, source, words)? {
