@@ -1,5 +1,5 @@
 -- Three small outlines: one whose conditions are all true, and two that are not sound although all conditions but one are true.
-use Rattle.std.proofs.Common.{◌≡◌, ◌^◌, ℤ, pos, ◌+ℤ◌, ◌*ℤ◌, List, [], ◌∷◌, ◌++◌, length, None, true, false, FitsSigned, refl, ap}
+use Rattle.std.proofs.Common.{◌≡◌, ◌^◌, ℤ, pos, ◌+ℤ◌, ◌*ℤ◌, List, [], ◌∷◌, ◌++◌, None, true, false, FitsSigned, refl, ap}
 use mir.Syntax.{w64}
 use Rattle.std.specs.Ordering.{int_eq}
 use Rattle.std.proofs.lemmas.List.Elements.{All-from_recursion}

@@ -1,5 +1,5 @@
 -- Entries, and what their statuses show.
-use Rattle.std.proofs.Common.{◌≡◌, ℕ, zero, suc, ◌+◌, ◌<◌, ◌≤◌, List, [], ◌∷◌, ◌++◌, length, slice_get, Some, None, Ok, Err, Option, Result, true, false, refl, sym, ap, ap₂, ◌∙◌, ◌-◌, take, drop, map, length-append, append_assoc, drop-cons, add-one, arith, true≢false}
+use Rattle.std.proofs.Common.{◌≡◌, ℕ, suc, ◌+◌, ◌<◌, List, [], ◌∷◌, ◌++◌, length, slice_get, Some, None, Ok, Err, Option, Result, true, refl, sym, ap, ap₂, ◌∙◌, ◌-◌, take, drop, map, length-append, append_assoc, drop-cons, add-one, arith, true≢false}
 use Rattle.std.specs.List.{list_all}
 use Rattle.std.proofs.Math.Seq.{take-append_seam}
 use Rattle.std.proofs.lemmas.List.{length-map}

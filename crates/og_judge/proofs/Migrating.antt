@@ -7,7 +7,6 @@ use Rattle.og_cert_read.specs.Reading.{LineFault}
 use Rattle.og_cert_read.specs.Read.{Gives}
 use Rattle.og_cert_read.specs.Shared.{shared_text}
 use Rattle.og_cert_read.specs.Laws.{OneAnswer, GivenIsRead, SharedIsRead, SharedIsShortest}
-use Rattle.og_cert_text.specs.declared.fault.CertTextError.{CertTextError}
 use Rattle.og_cert_text.specs.declared.fault.CertTextError.TheVariants as errors
 use Rattle.og_judge.specs.declared.entry.Entry.{Entry}
 use Rattle.og_judge.specs.declared.refusal.Refusal.{Refusal}

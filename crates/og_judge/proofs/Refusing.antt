@@ -1,5 +1,5 @@
 -- From the errors of the parts to the refusal of the whole.
-use Rattle.std.proofs.Common.{◌≡◌, ℕ, ◌<◌, ◌≤◌, List, length, Ok, Err, sym, subst}
+use Rattle.std.proofs.Common.{◌≡◌, ℕ, ◌≤◌, List, length, Ok, Err, sym, subst}
 use Rattle.og_text.specs.declared.token.Token.{Token}
 use Rattle.og_text.specs.Cut.{AreTokensOf}
 use Rattle.og_parse.specs.Trees.{Outline}

@@ -1,5 +1,5 @@
 -- What is promised of every run of an outline, and which conditions it rests on.
-use Rattle.std.specs.Prelude.{◌≡◌, ℕ, length, Bool, true, false}
+use Rattle.std.specs.Prelude.{◌≡◌, ℕ, Bool, true, false}
 use Rattle.og_typed.specs.Syntax.{Program}
 use Rattle.og_typed.specs.Truth.{truth}
 use Rattle.og_typed.specs.Machine.{Moment, IsReached, active, current, overflows, is_finished, IsStuck}

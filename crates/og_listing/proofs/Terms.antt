@@ -1,5 +1,5 @@
 -- The loop over the terms of a form.
-use Rattle.std.proofs.Common.{◌≡◌, ◌++◌, ◌∙◌, ℕ, zero, suc, ◌+◌, ◌<◌, ◌≤◌, ℤ, List, [], ◌∷◌, length, drop, Some, None, refl, ap, ap₂, sym, arith, append_assoc, drop-cons, add-one, Bool, false}
+use Rattle.std.proofs.Common.{◌≡◌, ◌++◌, ◌∙◌, ℕ, zero, suc, ◌+◌, ◌≤◌, ℤ, List, [], ◌∷◌, drop, Some, None, ap, ap₂, sym, arith, append_assoc, drop-cons, add-one, Bool, false}
 use Rattle.std.specs.Prelude.{slice_get, nat_abs}
 use Rattle.std.proofs.lemmas.Option.{none-some, same_Some, slice_get_within, get_or_from_slice_get}
 use Rattle.std.proofs.lemmas.List.{append-nil}

@@ -1,5 +1,5 @@
 -- The report of a judgement, as text.
-use Rattle.std.specs.Prelude.{ℕ, suc, Bool, true, false, if◌then◌else◌, List, [], ◌∷◌, ◌++◌, length, count_by, codes}
+use Rattle.std.specs.Prelude.{ℕ, suc, Bool, true, false, if◌then◌else◌, List, [], ◌∷◌, length, count_by, codes}
 use Rattle.std.specs.Fmt.{decimal}
 use Rattle.og_cond.specs.Names as cond
 use Rattle.og_cert.specs.Names as cert

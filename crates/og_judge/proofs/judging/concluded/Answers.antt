@@ -1,4 +1,4 @@
-use Rattle.std.proofs.Common.{◌≡◌, ap, sym, ◌∙◌}
+use Rattle.std.proofs.Common.{ap, sym, ◌∙◌}
 use Rattle.og_cond.specs.Conditions.{safety_conditions, blocking_condition}
 use Rattle.og_judge.specs.Report.{is_safe, is_unblocked}
 use Rattle.og_judge.proofs.Listing.{safe_is_valid, unblocked_is_valid}

@@ -1,4 +1,3 @@
-use Rattle.std.proofs.Common.{◌≡◌}
 use Rattle.std.proofs.lemmas.Result.{err_from_is_err_and}
 use Rattle.og_judge.proofs.Refusing.{whole_refused}
 use Rattle.og_judge.proofs.judging.judge.Goals as goal

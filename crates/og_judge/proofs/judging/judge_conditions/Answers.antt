@@ -1,4 +1,4 @@
-use Rattle.std.proofs.Common.{◌≡◌, length, map, ap, sym, ◌∙◌, ◌<◌, ◌+◌, ℕ, Some, Vec, vec_len, subst, ap₂, rules, List}
+use Rattle.std.proofs.Common.{◌≡◌, length, map, ap, sym, ◌∙◌, ◌<◌, ◌+◌, ℕ, Some, vec_len, subst, ap₂, rules, List}
 use Rattle.std.specs.Prelude.{slice_get}
 use Rattle.std.proofs.lemmas.List.{length-map}
 use Rattle.std.proofs.lemmas.Result.{err_from_is_err_and}

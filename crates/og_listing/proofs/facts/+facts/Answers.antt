@@ -1,4 +1,4 @@
-use Rattle.std.proofs.Common.{◌≡◌, ◌++◌, ◌∷◌, [], map, sym, ap, ◌∙◌}
+use Rattle.std.proofs.Common.{◌++◌, ◌∷◌, [], map, sym, ap, ◌∙◌}
 use Rattle.og_facts.specs.Answer.{shown}
 use Rattle.og_facts.specs.Facts.{parts_of_list}
 use Rattle.og_facts.specs.Plain.{plain_fact}
