@@ -26,7 +26,7 @@ struct Row<'a> {
     source: &'a str,
     values: &'a [i64],
     // Seats, by the numbers of their processes, with their deeds.
-    deeds: &'a [(usize, Deed)],
+    deeds: &'a [(u32, Deed)],
 }
 
 fn expect_deed<K: ArenaName, R: Wait + Abort>(
@@ -49,11 +49,15 @@ fn expect_deeds<K: ArenaName, R: Wait + Abort>(
     rt: &R,
     arena: &Arena<K, Board<'_>>,
     seats: &mut [Seat<K>],
-    deeds: &[(usize, Deed)],
+    deeds: &[(u32, Deed)],
 ) {
-    for (number, deed) in deeds {
-        if let Some(seat) = seats.get_mut(*number) {
-            expect_deed(rt, arena, seat, deed);
+    for (process, deed) in deeds {
+        match seats.get_mut(*process as usize) {
+            Some(seat) => {
+                assert!(rt; seat.process() == *process);
+                expect_deed(rt, arena, seat, deed);
+            }
+            None => panic!(rt; "no seat of {process}"),
         }
     }
 }
@@ -63,7 +67,7 @@ fn expect_arena<K: ArenaName, R: Wait + Abort>(
     alloc: Global,
     blank: Blank,
     board: Board<'_>,
-    deeds: &[(usize, Deed)],
+    deeds: &[(u32, Deed)],
 ) -> Result<(), AllocError>
     requires name { blank.table ≡ K.table }
     requires given { blank.given ≡ board.given }
