@@ -1,7 +1,6 @@
 pub mod Again
 pub mod Firsts
 pub mod Headers
-pub mod Joined
 pub mod LineSays
 pub mod LineSteps
 pub mod Numbers
@@ -15,3 +14,4 @@ pub mod Shortest
 pub mod Split
 pub mod Taking
 pub mod Texts
+pub mod Tidy

@@ -1,11 +1,6 @@
 //! One line of a certificate text.
 
-ghost use Rattle.std.specs.Prelude.{◌≡◌, true, IfOk, Some, option_map, length};
-ghost use Rattle.og_linear.specs.Linear.{form_value};
-ghost use Rattle.og_linear.specs.Arith.{fits_terms};
-ghost use Rattle.og_linear.specs.Answer.{IsAnswer};
-ghost use Rattle.og_linear.specs.declared.fault.FormFault.TheVariants as faults;
-ghost use Rattle.og_cert_text.specs.Lines.{rises_from};
+ghost use Rattle.std.specs.Prelude.{◌≡◌, IfOk, Some, option_map, length};
 ghost use Rattle.og_cert_text.specs.Plain.{combination_of};
 ghost use Rattle.og_cert_read.specs.Words as words;
 ghost use Rattle.og_cert_read.specs.Said.{said_line};
@@ -13,7 +8,7 @@ ghost use Rattle.og_cert_read.specs.Said.{said_line};
 use crate::limits::PARTS_LIMIT;
 use crate::words::{after, factor, index, number, part, split_at_byte, term, whole};
 use og_cert_text::Term;
-use og_linear::{Form, FormError};
+use og_linear::Form;
 use std::alloc::{AllocError, Global};
 
 /// What a line says.
@@ -28,11 +23,23 @@ pub(crate) enum Line {
     Close(Vec<Term>),
 }
 
+// At least as many as there are words, if each has three bytes or more, as a term has. A line of
+// spaces gets no more room than its length warrants.
+fn most_words(text: &[u8]) -> usize {
+    let mut words: usize = 1;
+    for b in text {
+        if *b == b' ' && words <= text.len() / 4 {
+            words += 1;
+        }
+    }
+    words
+}
+
 // The terms that the words are.
 fn combination(alloc: Global, text: &[u8]) -> Result<Option<Vec<Term>>, AllocError>
     ensures { IfOk result (λ r. option_map (λ v. combination_of v.items) r ≡ words.terms_of (words.words_in text.now)) }
 {
-    let mut terms = Vec::new(alloc);
+    let mut terms = Vec::with_capacity(alloc, most_words(text))?;
     let mut rest = Some(text);
     while let Some(words) = rest {
         let (word, later) = split_at_byte(words, b' ');
@@ -42,7 +49,6 @@ fn combination(alloc: Global, text: &[u8]) -> Result<Option<Vec<Term>>, AllocErr
         terms.push(t)?;
         rest = later;
     }
-    terms.shrink_to_fit();
     Ok(Some(terms))
 }
 
@@ -50,7 +56,11 @@ fn combination(alloc: Global, text: &[u8]) -> Result<Option<Vec<Term>>, AllocErr
 fn parts(alloc: Global, text: Option<&[u8]>) -> Result<Option<Vec<(u32, i128)>>, AllocError>
     ensures { IfOk result (λ r. option_map (λ v. v.items) r ≡ words.parts_of 0 (words.words_of (option_map (λ s. s.now) text.entry))) }
 {
-    let mut parts = Vec::new(alloc);
+    let room = match text {
+        Some(words) => most_words(words),
+        None => 0,
+    };
+    let mut parts = Vec::with_capacity(alloc, room)?;
     let mut low: u64 = 0;
     let mut rest = text;
     while let Some(words) = rest {
@@ -92,27 +102,6 @@ fn split(text: &[u8]) -> Option<Line>
     Some(Line::Split(fact, count as u32))
 }
 
-// The form with these variables. They rise, so that halves of them are added without loss.
-fn sum_of(alloc: Global, constant: i128, parts: &[(u32, i128)]) -> Result<Form, FormError>
-    requires rises { rises_from 0 parts.now ≡ true }
-    requires fits { fits_terms parts.now ≡ true }
-    ensures { IsAnswer (λ f. f) faults.TooLarge result (Some (form_value parts.now constant)) }
-{
-    if parts.is_empty() {
-        return Ok(Form::constant(alloc, constant));
-    }
-    if parts.len() == 1 {
-        let (v, a) = parts[0];
-        let mut form = Form::constant(alloc, constant);
-        form.add_scaled(a, &Form::variable(alloc, v)?)?;
-        return Ok(form);
-    }
-    let (front, later) = parts.split_at(parts.len() / 2);
-    let mut form = sum_of(alloc, constant, front)?;
-    form.add_scaled(1, &sum_of(alloc, 0, later)?)?;
-    Ok(form)
-}
-
 // The form that the words are.
 fn form(alloc: Global, text: &[u8]) -> Result<Option<Form>, AllocError>
     ensures { IfOk result (λ r. r ≡ words.form_of text.now) }
@@ -124,10 +113,7 @@ fn form(alloc: Global, text: &[u8]) -> Result<Option<Form>, AllocError>
     let Some(parts) = parts(alloc, behind)? else {
         return Ok(None);
     };
-    match sum_of(alloc, constant, &parts) {
-        Ok(form) => Ok(Some(form)),
-        Err(_) => Err(AllocError),
-    }
+    Ok(Some(Form::of_terms(parts, constant)))
 }
 
 /// The line that the bytes are, without its LF.

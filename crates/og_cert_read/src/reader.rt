@@ -78,14 +78,9 @@ impl Reader {
         ensures file { OnOk result (shown self.new.file ≡ with_entry n (plain_cert cert) (shown self.old.file)) }
         ensures number { OnOk result (self.new.number ≡ None) }
     {
-        match self.file.add(n, cert) {
-            Ok(()) => {
-                self.number = None;
-                Ok(())
-            }
-            Err(CertFileError::Memory) => Err(AllocError),
-            Err(CertFileError::Fault(_)) => unreachable!(),
-        }
+        self.file.put(n, cert)?;
+        self.number = None;
+        Ok(())
     }
 
     // Ends the innermost certificate.
@@ -152,7 +147,8 @@ impl Reader {
         if count == 0 {
             self.finish(alloc, n, Finish::Split(fact, Vec::new(alloc)))?;
         } else {
-            self.open(alloc, Fork::Part(fact, count - 1, Vec::new(alloc)))?;
+            let certs = Vec::with_capacity(alloc, count.min(4) as usize)?;
+            self.open(alloc, Fork::Part(fact, count - 1, certs))?;
         }
         Ok(())
     }

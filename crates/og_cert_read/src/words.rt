@@ -27,16 +27,19 @@ pub(crate) fn after<'a>(front: &[u8], text: &'a [u8]) -> Option<&'a [u8]>
     text.strip_prefix(front)
 }
 
+// A tenth of 2^127, rounded down. A greater value has no digit more within 2^127.
+const TENTH: u128 = 17_014_118_346_046_923_173_168_730_371_588_410_572;
+
 // The value with one digit more.
 fn next_value(value: u128, byte: u8, most: u128) -> Option<u128>
     requires most { most ≤ 170141183460469231731687303715884105728 }
     requires value { value ≤ most }
     ensures { result ≡ words.next_of most value byte }
 {
-    if byte < b'0' || b'9' < byte {
+    if byte < b'0' || b'9' < byte || value > TENTH {
         return None;
     }
-    let next = value.checked_mul(10)?.checked_add((byte - b'0') as u128)?;
+    let next = 10 * value + (byte - b'0') as u128;
     if next > most {
         return None;
     }

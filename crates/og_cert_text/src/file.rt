@@ -104,8 +104,9 @@ impl CertFile {
         Ok(())
     }
 
-    // Adds an entry.
-    fn put(&mut self, n: u32, cert: Cert) -> Result<(), AllocError>
+    /// Adds the certificate of condition n, which has none yet, where both are within the limits,
+    /// as `add` does, and looks at nothing again. An error leaves the file as it was.
+    pub fn put(&mut self, n: u32, cert: Cert) -> Result<(), AllocError>
         requires fresh { certificate_of n (shown self.old) ≡ None }
         requires number { lines.is_number n ≡ true }
         requires good { is_well_formed (plain_cert cert) ≡ true }

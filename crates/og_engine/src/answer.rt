@@ -71,6 +71,7 @@ pub(crate) fn of_refusal(
     ensures refused { IfOk result (λ a. IsTold source.now refusal.now a) }
     ensures unread { IfErr result (λ e. e ≢ EngineFault.ReadFailed) }
     ensures fault { IfErr result (λ e. e ≢ EngineFault.WriteFailed) }
+    ensures memory { refusal.now ≢ Refusal.Spawn → IfErr result (λ e. e ≡ EngineFault.Memory) }
 {
     match refusal {
         Refusal::Memory => Err(EngineFault::Memory),

@@ -1,6 +1,6 @@
 //! The answers of the commands that read one outline.
 
-ghost use Rattle.std.specs.Prelude.{◌≡◌, ◌≢◌, ◌≤◌, ◌^◌, length, IfOk, IfErr};
+ghost use Rattle.std.specs.Prelude.{◌≡◌, ◌≤◌, ◌^◌, length, IfOk, IfErr};
 ghost use Rattle.og_typed.specs.Erase.{erased as erased_of};
 ghost use Rattle.og_erase.specs.Collected.{raw_of};
 ghost use Rattle.og_parse.specs.Print.{program_text};
@@ -36,8 +36,7 @@ fn of_conditions(alloc: Global, outline: &Outline, source: &[u8]) -> Result<Answ
 /// `Memory` where an allocation was refused.
 pub fn listed(alloc: Global, source: &[u8]) -> Result<Answer, EngineFault>
     ensures answer { IfOk result (IsListed source.now) }
-    ensures unread { IfErr result (λ e. e ≢ EngineFault.ReadFailed) }
-    ensures fault { IfErr result (λ e. e ≢ EngineFault.WriteFailed) }
+    ensures fault { IfErr result (λ e. e ≡ EngineFault.Memory) }
 {
     let outline = match read_outline(alloc, source) {
         Ok(outline) => outline,
@@ -67,8 +66,7 @@ fn of_outline(alloc: Global, outline: &Outline) -> Result<Answer, AllocError>
 /// `Memory` where an allocation was refused.
 pub fn erased(alloc: Global, source: &[u8]) -> Result<Answer, EngineFault>
     ensures answer { IfOk result (IsErased source.now) }
-    ensures unread { IfErr result (λ e. e ≢ EngineFault.ReadFailed) }
-    ensures fault { IfErr result (λ e. e ≢ EngineFault.WriteFailed) }
+    ensures fault { IfErr result (λ e. e ≡ EngineFault.Memory) }
 {
     match read_outline(alloc, source) {
         Ok(outline) => Ok(of_outline(alloc, &outline)?),

@@ -1,6 +1,6 @@
 //! The answers of the commands that make certificates.
 
-ghost use Rattle.std.specs.Prelude.{◌≡◌, ◌≢◌, ◌≤◌, length, IfOk, IfErr};
+ghost use Rattle.std.specs.Prelude.{◌≡◌, ◌≤◌, length, IfOk, IfErr};
 ghost use Rattle.og_engine.specs.Commands.{IsConditionsRefused};
 ghost use Rattle.og_cert_text.specs.Shown.{shown};
 ghost use Rattle.og_cert_text.specs.Text.{file_text};
@@ -44,8 +44,7 @@ fn of_search(alloc: Global, outline: &Outline, budget: u64) -> Result<Answer, Re
 /// `Memory` where an allocation was refused.
 pub fn found(alloc: Global, source: &[u8], budget: u64) -> Result<Answer, EngineFault>
     ensures answer { IfOk result (IsFound source.now) }
-    ensures unread { IfErr result (λ e. e ≢ EngineFault.ReadFailed) }
-    ensures fault { IfErr result (λ e. e ≢ EngineFault.WriteFailed) }
+    ensures fault { IfErr result (λ e. e ≡ EngineFault.Memory) }
 {
     let outline = match read_outline(alloc, source) {
         Ok(outline) => outline,
@@ -65,8 +64,7 @@ pub fn found(alloc: Global, source: &[u8], budget: u64) -> Result<Answer, Engine
 /// `Memory` where an allocation was refused.
 pub fn migrated(alloc: Global, certs: &[u8]) -> Result<Answer, EngineFault>
     ensures answer { IfOk result (IsMigrated certs.now) }
-    ensures unread { IfErr result (λ e. e ≢ EngineFault.ReadFailed) }
-    ensures fault { IfErr result (λ e. e ≢ EngineFault.WriteFailed) }
+    ensures fault { IfErr result (λ e. e ≡ EngineFault.Memory) }
 {
     match migrate(alloc, certs) {
         Ok(text) => Ok(Answer { text, status: 0 }),

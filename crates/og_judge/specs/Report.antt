@@ -42,7 +42,7 @@ IsSourceRefused source (refusal.Resolve fault) =
 IsSourceRefused source (refusal.Conditions fault) = ⊥
 IsSourceRefused source (refusal.Certs fault) = ⊥
 IsSourceRefused source (refusal.Stray n) = ⊥
-IsSourceRefused source refusal.Spawn = ⊤
+IsSourceRefused source refusal.Spawn = ⊥
 IsSourceRefused source refusal.Memory = ⊤
 
 -- ---- its conditions with their statuses

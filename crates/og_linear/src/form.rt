@@ -57,6 +57,16 @@ impl Form {
         Ok(Form { terms, constant: 0 })
     }
 
+    /// The form of these variables, which rise, each with its nonzero coefficient, and of this
+    /// constant. Takes no memory.
+    pub fn of_terms(terms: Vec<(u32, i128)>, constant: i128) -> Form
+        requires tidy { IsTidy terms.items }
+        requires fits { arith.fits_terms terms.items ≡ true }
+        ensures { result ≡ form_value terms.items constant }
+    {
+        Form { terms, constant }
+    }
+
     /// An equal form.
     pub fn copy(&self) -> Result<Form, AllocError>
         ensures { IfOk result (λ f. f ≡ self.now) }

@@ -53,6 +53,13 @@ fn sums(rt: HostRuntime) -> Result<(), Fail> {
 }
 
 #[test]
+fn forms_of_terms(rt: HostRuntime) -> Result<(), Fail> {
+    let terms = vec![in rt.alloc(); (X, 4), (Y, -1)]?;
+    expect_form(&rt, &Form::of_terms(terms, 7), &[(X, 4), (Y, -1)], 7);
+    Ok(())
+}
+
+#[test]
 fn forms_in_place_of_variables(rt: HostRuntime) -> Result<(), Fail> {
     let alloc = rt.alloc();
     let twice = form(alloc, 2, 0, -3)?;

@@ -1,133 +1,149 @@
 //! Texts cut into tokens, and the lines of a text.
 
 use og_text::{
-    LexError, LexFault, LineIndex, NAME_LIMIT, NUMBER_LIMIT, Name, SOURCE_LIMIT, Span, TokenKind,
-    lex, line_col, one_cut, places_within,
+    LexError, LexFault, LineIndex, NAME_LIMIT, NUMBER_LIMIT, Name, SOURCE_LIMIT, Span, Token,
+    TokenKind, lex, line_col, one_cut, places_within,
 };
-use std::alloc::Global;
+use std::alloc::{AllocError, Global};
 use std::fmt::Write;
+use std::process::Abort;
 use std::test::Fail;
 
-// The tokens of a text with their spans, or its fault with its line and column.
-fn listing(alloc: Global, text: &[u8]) -> Result<String, Fail> {
-    let mut out = String::new(alloc);
-    match lex(alloc, text) {
-        Ok(tokens) => {
-            for token in &tokens {
-                match &token.kind {
-                    TokenKind::Name(name) => {
-                        for byte in name.as_slice() {
-                            out.push(*byte as char)?;
-                        }
-                    }
-                    TokenKind::Number(number) => write!(out, "{number}")?,
-                    kind => write!(out, "{kind:?}")?,
-                }
-                let Span { start, end } = token.span;
-                write!(out, " {start}..{end};")?;
+fn put_token(out: &mut String, token: &Token) -> Result<(), Fail> {
+    match &token.kind {
+        TokenKind::Name(name) => {
+            for byte in name.as_slice() {
+                out.push(*byte as char)?;
             }
         }
-        Err(LexError::Fault(fault)) => {
-            let number = fault.number();
-            let name = fault.name();
-            write!(out, "{number} {name}")?;
-            if let Some(at) = fault.place() {
-                if at as usize <= text.len() && text.len() <= SOURCE_LIMIT {
-                    let (line, column) = line_col(text, at);
-                    write!(out, " at {line}:{column}")?;
-                }
-            }
-        }
-        memory => {
-            let _tokens = memory?;
-        }
+        TokenKind::Number(number) => write!(out, "{number}")?,
+        kind => write!(out, "{kind:?}")?,
     }
-    Ok(out)
+    let Span { start, end } = token.span;
+    write!(out, " {start}..{end};")?;
+    Ok(())
 }
 
-#[test]
-fn cuts_a_text_into_tokens(rt: HostRuntime) -> Result<(), Fail> {
-    let rows: [(&[u8], &str); 14] = [
-        (b"".as_slice(), ""),
-        (b" \t\r\n# caf\xc3\xa9 $".as_slice(), ""),
-        (b"var # x\n_x1".as_slice(), "Var 0..3;_x1 8..11;"),
-        (
-            b"variable vars aux1".as_slice(),
-            "variable 0..8;vars 9..13;aux1 14..18;",
-        ),
-        (
-            b"var aux cobegin coend await then".as_slice(),
-            "Var 0..3;Aux 4..7;Cobegin 8..15;Coend 16..21;Await 22..27;Then 28..32;",
-        ),
-        (
-            b"begin end if else while do skip".as_slice(),
-            "Begin 0..5;End 6..9;If 10..12;Else 13..17;While 18..23;Do 24..26;Skip 27..31;",
-        ),
-        (
-            b"true false not and or".as_slice(),
-            "True 0..4;False 5..10;Not 11..14;And 15..18;Or 19..21;",
-        ),
-        (
-            b":=//<=>=<>->".as_slice(),
-            "Assign 0..2;Parallel 2..4;LessEqual 4..6;GreaterEqual 6..8;NotEqual 8..10;Arrow 10..12;",
-        ),
-        (
-            b"<<==>>-*+".as_slice(),
-            "Less 0..1;LessEqual 1..3;Equal 3..4;Greater 4..5;Greater 5..6;Minus 6..7;Star 7..8;Plus 8..9;",
-        ),
-        (
-            b"(){};,".as_slice(),
-            "OpenParen 0..1;CloseParen 1..2;OpenBrace 2..3;CloseBrace 3..4;Semicolon 4..5;Comma 5..6;",
-        ),
-        (b"007".as_slice(), "7 0..3;"),
-        (
-            b"0 9223372036854775808".as_slice(),
-            "0 0..1;9223372036854775808 2..21;",
-        ),
-        (b"12ab".as_slice(), "12 0..2;ab 2..4;"),
-        (
-            b"x:=1//".as_slice(),
-            "x 0..1;Assign 1..3;1 3..4;Parallel 4..6;",
-        ),
-    ];
-    for (text, expected) in rows {
-        let found = listing(rt.alloc(), text)?;
-        assert_eq!(rt; found.as_str(), expected);
+fn put_tokens(out: &mut String, tokens: &[Token]) -> Result<(), Fail> {
+    for token in tokens {
+        put_token(out, token)?;
     }
     Ok(())
 }
 
+fn put_fault(out: &mut String, text: &[u8], fault: LexFault) -> Result<(), Fail> {
+    let number = fault.number();
+    let name = fault.name();
+    write!(out, "{number} {name}")?;
+    if let Some(at) = fault.place() {
+        if at as usize <= text.len() && text.len() <= SOURCE_LIMIT {
+            let (line, column) = line_col(text, at);
+            write!(out, " at {line}:{column}")?;
+        }
+    }
+    Ok(())
+}
+
+fn put_answer(
+    out: &mut String,
+    text: &[u8],
+    answer: &Result<Vec<Token>, LexError>,
+) -> Result<(), Fail> {
+    match answer {
+        Ok(tokens) => put_tokens(out, tokens.as_slice()),
+        Err(LexError::Fault(fault)) => put_fault(out, text, *fault),
+        Err(LexError::Memory) => Err(AllocError)?,
+    }
+}
+
+// The tokens of a text with their spans, or its fault with its line and column.
+fn listing(alloc: Global, text: &[u8]) -> Result<String, Fail> {
+    let mut out = String::new(alloc);
+    let answer = lex(alloc, text);
+    put_answer(&mut out, text, &answer)?;
+    Ok(out)
+}
+
+fn expect_listing(rt: &impl Abort, alloc: Global, text: &[u8], expected: &str) -> Result<(), Fail> {
+    let found = listing(alloc, text)?;
+    assert_eq!(rt; found.as_str(), expected);
+    Ok(())
+}
+
+const LISTINGS: &[(&str, &str)] = &[
+    ("", ""),
+    (" \t\r\n# caf\u{e9} $", ""),
+    ("var # x\n_x1", "Var 0..3;_x1 8..11;"),
+    (
+        "variable vars aux1",
+        "variable 0..8;vars 9..13;aux1 14..18;",
+    ),
+    (
+        "var aux cobegin coend await then",
+        "Var 0..3;Aux 4..7;Cobegin 8..15;Coend 16..21;Await 22..27;Then 28..32;",
+    ),
+    (
+        "begin end if else while do skip",
+        "Begin 0..5;End 6..9;If 10..12;Else 13..17;While 18..23;Do 24..26;Skip 27..31;",
+    ),
+    (
+        "true false not and or",
+        "True 0..4;False 5..10;Not 11..14;And 15..18;Or 19..21;",
+    ),
+    (
+        ":=//<=>=<>->",
+        "Assign 0..2;Parallel 2..4;LessEqual 4..6;GreaterEqual 6..8;NotEqual 8..10;Arrow 10..12;",
+    ),
+    (
+        "<<==>>-*+",
+        "Less 0..1;LessEqual 1..3;Equal 3..4;Greater 4..5;Greater 5..6;Minus 6..7;Star 7..8;Plus 8..9;",
+    ),
+    (
+        "(){};,",
+        "OpenParen 0..1;CloseParen 1..2;OpenBrace 2..3;CloseBrace 3..4;Semicolon 4..5;Comma 5..6;",
+    ),
+    ("007", "7 0..3;"),
+    ("0 9223372036854775808", "0 0..1;9223372036854775808 2..21;"),
+    ("12ab", "12 0..2;ab 2..4;"),
+    ("x:=1//", "x 0..1;Assign 1..3;1 3..4;Parallel 4..6;"),
+];
+
+#[test]
+fn cuts_a_text_into_tokens(rt: HostRuntime) -> Result<(), Fail> {
+    for (text, expected) in LISTINGS {
+        expect_listing(&rt, rt.alloc(), text.as_bytes(), expected)?;
+    }
+    Ok(())
+}
+
+const FAULTS: &[(&str, &str)] = &[
+    ("var \u{e9};", "1 BadByte at 1:5"),
+    ("x : = 1", "1 BadByte at 1:3"),
+    ("/", "1 BadByte at 1:1"),
+    ("1a$ 9223372036854775809", "1 BadByte at 1:3"),
+    ("a\n 9223372036854775809 $", "2 NumberTooLarge at 2:2"),
+    (
+        "var x; {x = 9223372036854775809",
+        "2 NumberTooLarge at 1:13",
+    ),
+    (
+        "00000000000000000000009223372036854775809",
+        "2 NumberTooLarge at 1:1",
+    ),
+    (
+        "var aaaaaaaaaaaaaaaaaaaaaaaaaaaaaaaaaaaaaaaaaaaaaaaaaaaaaaaaaaaaaaaaa",
+        "3 NameTooLong at 1:5",
+    ),
+    (
+        "var aaaaaaaaaaaaaaaaaaaaaaaaaaaaaaaaaaaaaaaaaaaaaaaaaaaaaaaaaaaaaaaa",
+        "Var 0..3;aaaaaaaaaaaaaaaaaaaaaaaaaaaaaaaaaaaaaaaaaaaaaaaaaaaaaaaaaaaaaaaa 4..68;",
+    ),
+];
+
 #[test]
 fn places_the_first_fault(rt: HostRuntime) -> Result<(), Fail> {
-    let rows: [(&[u8], &str); 9] = [
-        (b"var \xc3\xa9;".as_slice(), "1 BadByte at 1:5"),
-        (b"x : = 1".as_slice(), "1 BadByte at 1:3"),
-        (b"/".as_slice(), "1 BadByte at 1:1"),
-        (b"1a$ 9223372036854775809".as_slice(), "1 BadByte at 1:3"),
-        (
-            b"a\n 9223372036854775809 $".as_slice(),
-            "2 NumberTooLarge at 2:2",
-        ),
-        (
-            b"var x; {x = 9223372036854775809".as_slice(),
-            "2 NumberTooLarge at 1:13",
-        ),
-        (
-            b"00000000000000000000009223372036854775809".as_slice(),
-            "2 NumberTooLarge at 1:1",
-        ),
-        (
-            b"var aaaaaaaaaaaaaaaaaaaaaaaaaaaaaaaaaaaaaaaaaaaaaaaaaaaaaaaaaaaaaaaaa".as_slice(),
-            "3 NameTooLong at 1:5",
-        ),
-        (
-            b"var aaaaaaaaaaaaaaaaaaaaaaaaaaaaaaaaaaaaaaaaaaaaaaaaaaaaaaaaaaaaaaaa".as_slice(),
-            "Var 0..3;aaaaaaaaaaaaaaaaaaaaaaaaaaaaaaaaaaaaaaaaaaaaaaaaaaaaaaaaaaaaaaaa 4..68;",
-        ),
-    ];
-    for (text, expected) in rows {
-        let found = listing(rt.alloc(), text)?;
-        assert_eq!(rt; found.as_str(), expected);
+    for (text, expected) in FAULTS {
+        expect_listing(&rt, rt.alloc(), text.as_bytes(), expected)?;
     }
     Ok(())
 }
@@ -140,12 +156,9 @@ fn repeated(alloc: Global, byte: u8, count: usize) -> Result<Vec<u8>, Fail> {
 #[test]
 fn keeps_the_limit_of_a_text(rt: HostRuntime) -> Result<(), Fail> {
     let full = repeated(rt.alloc(), b' ', 1_048_576)?;
-    let blank = listing(rt.alloc(), full.as_slice())?;
-    assert_eq!(rt; blank.as_str(), "");
+    expect_listing(&rt, rt.alloc(), full.as_slice(), "")?;
     let long = repeated(rt.alloc(), b' ', 1_048_577)?;
-    let refused = listing(rt.alloc(), long.as_slice())?;
-    assert_eq!(rt; refused.as_str(), "4 SourceTooLong");
-    Ok(())
+    expect_listing(&rt, rt.alloc(), long.as_slice(), "4 SourceTooLong")
 }
 
 #[test]
@@ -159,32 +172,43 @@ fn lexes_deep_parentheses(rt: HostRuntime) -> Result<(), Fail> {
     Ok(())
 }
 
+// An offset of the text, with its line and its column.
+const OFFSETS: &[(u32, u32, u32)] = &[
+    (0, 1, 1),
+    (1, 1, 2),
+    (2, 1, 3),
+    (3, 1, 4),
+    (4, 2, 1),
+    (5, 3, 1),
+    (6, 3, 2),
+    (7, 3, 3),
+    (8, 4, 1),
+    (9, 4, 2),
+    (10, 4, 3),
+];
+
+// The place of an offset, by the text alone and by its index.
+fn expect_place(
+    rt: &impl Abort,
+    alloc: Global,
+    text: &[u8],
+    at: u32,
+    place: (u32, u32),
+) -> Result<(), Fail> {
+    assert!(rt; at as usize <= text.len() && text.len() <= SOURCE_LIMIT);
+    assert_eq!(rt; line_col(text, at), place);
+    let index = LineIndex::new(alloc, text)?;
+    assert_eq!(rt; index.line_col(at), place);
+    Ok(())
+}
+
 #[test]
 fn places_offsets(rt: HostRuntime) -> Result<(), Fail> {
-    let text = b"ab\r\n\ncd\n e";
-    let rows: [(u32, u32, u32); 11] = [
-        (0, 1, 1),
-        (1, 1, 2),
-        (2, 1, 3),
-        (3, 1, 4),
-        (4, 2, 1),
-        (5, 3, 1),
-        (6, 3, 2),
-        (7, 3, 3),
-        (8, 4, 1),
-        (9, 4, 2),
-        (10, 4, 3),
-    ];
-    let index = LineIndex::new(rt.alloc(), text)?;
-    for (at, line, column) in rows {
-        assert!(rt; at as usize <= text.len());
-        assert_eq!(rt; line_col(text, at), (line, column));
-        assert_eq!(rt; index.line_col(at), (line, column));
+    for (at, line, column) in OFFSETS {
+        expect_place(&rt, rt.alloc(), b"ab\r\n\ncd\n e", *at, (*line, *column))?;
     }
-    assert_eq!(rt; line_col(b"", 0), (1, 1));
-    assert_eq!(rt; LineIndex::new(rt.alloc(), b"")?.line_col(0), (1, 1));
-    assert_eq!(rt; LineIndex::new(rt.alloc(), b"\n")?.line_col(1), (2, 1));
-    Ok(())
+    expect_place(&rt, rt.alloc(), b"", 0, (1, 1))?;
+    expect_place(&rt, rt.alloc(), b"\n", 1, (2, 1))
 }
 
 #[test]

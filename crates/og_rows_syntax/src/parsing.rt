@@ -52,157 +52,174 @@ fn answer_of(alloc: Global, source: &str) -> Result<String, Fail> {
     Ok(answer(alloc, tokens.as_slice())?)
 }
 
+fn expect_answer(rt: &impl Abort, alloc: Global, source: &str, expected: &str) -> Result<(), Fail> {
+    let got = answer_of(alloc, source)?;
+    assert_eq!(rt; got.as_str(), expected, "at {source}");
+    Ok(())
+}
+
+const FIRST_FAULTS: &[(&str, &str)] = &[
+    ("", "7 Expected 0..0"),
+    (" # no outline\n", "7 Expected 0..0"),
+    ("var x; {x =", "7 Expected 11..11"),
+    ("var x; {x = 1} ", "7 Expected 14..14"),
+    ("var x y; {true}", "7 Expected 6..7"),
+    ("aux a; {true}", "7 Expected 5..6"),
+    ("aux a = -x; {true}", "7 Expected 9..10"),
+    ("{true = true}", "7 Expected 6..7"),
+    ("{x + -1 = 0}", "7 Expected 5..6"),
+    ("{x = y = 0}", "7 Expected 7..8"),
+    ("{x * 2 = 0}", "7 Expected 3..4"),
+    ("{(x) = 0}", "7 Expected 3..4"),
+    ("{true} cobegin coend {true}", "7 Expected 15..20"),
+    ("{true} cobegin {true} coend {true}", "7 Expected 22..27"),
+    (
+        "{true} cobegin {true} skip; skip {true} coend {true}",
+        "7 Expected 26..27",
+    ),
+    (
+        "{true} cobegin {true} if true then skip else skip {true} coend {true}",
+        "7 Expected 35..39",
+    ),
+    (
+        "{true} cobegin {true} await true then if true {true} coend {true}",
+        "7 Expected 38..40",
+    ),
+    (
+        "{true} begin {true} await true then skip {true} end cobegin {true} skip {true} coend {true}",
+        "7 Expected 20..25",
+    ),
+    (
+        "{true} cobegin {true} skip {true} coend begin {true} while true do begin {true} await true then skip {true} end {true} end {true}",
+        "7 Expected 80..85",
+    ),
+    (
+        "{true} cobegin {true} skip {true} coend {true} {true}",
+        "7 Expected 47..48",
+    ),
+];
+
 #[test]
 fn tells_the_first_fault(rt: HostRuntime) -> Result<(), Fail> {
-    let rows = [
-        ("", "7 Expected 0..0"),
-        (" # no outline\n", "7 Expected 0..0"),
-        ("var x; {x =", "7 Expected 11..11"),
-        ("var x; {x = 1} ", "7 Expected 14..14"),
-        ("var x y; {true}", "7 Expected 6..7"),
-        ("aux a; {true}", "7 Expected 5..6"),
-        ("aux a = -x; {true}", "7 Expected 9..10"),
-        ("{true = true}", "7 Expected 6..7"),
-        ("{x + -1 = 0}", "7 Expected 5..6"),
-        ("{x = y = 0}", "7 Expected 7..8"),
-        ("{x * 2 = 0}", "7 Expected 3..4"),
-        ("{(x) = 0}", "7 Expected 3..4"),
-        ("{true} cobegin coend {true}", "7 Expected 15..20"),
-        ("{true} cobegin {true} coend {true}", "7 Expected 22..27"),
-        (
-            "{true} cobegin {true} skip; skip {true} coend {true}",
-            "7 Expected 26..27",
-        ),
-        (
-            "{true} cobegin {true} if true then skip else skip {true} coend {true}",
-            "7 Expected 35..39",
-        ),
-        (
-            "{true} cobegin {true} await true then if true {true} coend {true}",
-            "7 Expected 38..40",
-        ),
-        (
-            "{true} begin {true} await true then skip {true} end cobegin {true} skip {true} coend {true}",
-            "7 Expected 20..25",
-        ),
-        (
-            "{true} cobegin {true} skip {true} coend begin {true} while true do begin {true} await true then skip {true} end {true} end {true}",
-            "7 Expected 80..85",
-        ),
-        (
-            "{true} cobegin {true} skip {true} coend {true} {true}",
-            "7 Expected 47..48",
-        ),
-    ];
-    for (source, expected) in rows {
-        let got = answer_of(rt.alloc(), source)?;
-        assert_eq!(rt; got.as_str(), expected, "at {source}");
+    for (source, expected) in FIRST_FAULTS {
+        expect_answer(&rt, rt.alloc(), source, expected)?;
     }
     Ok(())
 }
 
+const BODY: &str = "} cobegin {true} skip {true} coend {true}";
+
+// What stands before, what is repeated, how often, what stands behind, and the answer.
+const LEVELS: &[(&str, &str, u32, &str, &str)] = &[
+    ("var ", "a", 64, "", "7 Expected 68..68"),
+    ("{", "(", 100, "", "7 Expected 101..101"),
+    ("{", "(", 101, "", "8 TooDeep 101..102"),
+    ("{", "not ", 101, "", "8 TooDeep 401..404"),
+    ("{", "true -> ", 101, "", "8 TooDeep 806..808"),
+    (
+        "{",
+        "(true) or (true) or ",
+        90,
+        "true",
+        "7 Expected 1805..1805",
+    ),
+    (
+        "{true} cobegin {true} ",
+        "while true do begin {true} ",
+        100,
+        " skip {true}",
+        "7 Expected 2734..2734",
+    ),
+    (
+        "{true} cobegin {true} ",
+        "while true do begin {true} ",
+        101,
+        "",
+        "8 TooDeep 2722..2727",
+    ),
+    (
+        "{true} cobegin {true} ",
+        "if (true) then begin {true} ",
+        101,
+        "",
+        "8 TooDeep 2822..2824",
+    ),
+];
+
 #[test]
 fn keeps_the_limits_on_levels(rt: HostRuntime) -> Result<(), Fail> {
-    let body = "} cobegin {true} skip {true} coend {true}";
-    let ends = " skip {true}";
-    // What stands before, what is repeated, how often, what stands behind, and the answer.
-    let rows = [
-        ("var ", "a", 64, "", "7 Expected 68..68"),
-        ("{", "(", 100, "", "7 Expected 101..101"),
-        ("{", "(", 101, "", "8 TooDeep 101..102"),
-        ("{", "not ", 101, "", "8 TooDeep 401..404"),
-        ("{", "true -> ", 101, "", "8 TooDeep 806..808"),
-        (
-            "{",
-            "(true) or (true) or ",
-            90,
-            "true",
-            "7 Expected 1805..1805",
-        ),
-        (
-            "{true} cobegin {true} ",
-            "while true do begin {true} ",
-            100,
-            ends,
-            "7 Expected 2734..2734",
-        ),
-        (
-            "{true} cobegin {true} ",
-            "while true do begin {true} ",
-            101,
-            "",
-            "8 TooDeep 2722..2727",
-        ),
-        (
-            "{true} cobegin {true} ",
-            "if (true) then begin {true} ",
-            101,
-            "",
-            "8 TooDeep 2822..2824",
-        ),
-    ];
-    for (head, part, times, tail, expected) in rows {
-        let source = text(rt.alloc(), head, part, times, tail)?;
-        let got = answer_of(rt.alloc(), source.as_str())?;
-        assert_eq!(rt; got.as_str(), expected, "at {head} {times} {part}");
+    for (head, part, times, tail, expected) in LEVELS {
+        let source = text(rt.alloc(), head, part, *times, tail)?;
+        expect_answer(&rt, rt.alloc(), source.as_str(), expected)?;
     }
     let inside = text(rt.alloc(), "{", "(", 100, "true")?;
-    let source = text(rt.alloc(), inside.as_str(), ")", 100, body)?;
-    let got = answer_of(rt.alloc(), source.as_str())?;
-    assert_eq!(rt; got.as_str(), "True");
-    Ok(())
+    let source = text(rt.alloc(), inside.as_str(), ")", 100, BODY)?;
+    expect_answer(&rt, rt.alloc(), source.as_str(), "True")
+}
+
+// 64 statements, and twice 2,016.
+fn most_statements(alloc: Global) -> Result<String, AllocError> {
+    let process = text(alloc, "{true} ", "x := 1 {true} ", 64, "")?;
+    let part = "// {true} skip {true} await true then begin skip; skip end {true} ";
+    text(alloc, process.as_str(), part, 2016, "coend {true}")
 }
 
 #[test]
 fn keeps_the_limit_on_statements(rt: HostRuntime) -> Result<(), Fail> {
-    let alloc = rt.alloc();
-    let process = text(alloc, "{true} ", "x := 1 {true} ", 64, "")?;
-    let part = "// {true} skip {true} await true then begin skip; skip end {true} ";
-    let others = text(alloc, process.as_str(), part, 2016, "coend {true}")?;
-    // 64 statements, and twice 2,016: one more, in a prologue, is one too many.
-    let full = text(alloc, "var x; {true} cobegin ", others.as_str(), 1, "")?;
-    let got = answer_of(alloc, full.as_str())?;
-    assert_eq!(rt; got.as_str(), "True");
-    let main = "var x; {true} begin {true} skip {true} end cobegin ";
-    let more = text(alloc, main, others.as_str(), 1, "")?;
-    let got = answer_of(alloc, more.as_str())?;
-    assert_eq!(rt; got.as_str(), "9 TooManyStatements 133966..133971");
-    // What stands before, how many `skip`, what is repeated, how often, and the answer.
-    let rows = [
-        (
-            "{true} cobegin {true} ",
-            4096,
-            "skip",
-            1,
-            "9 TooManyStatements 49174..49178",
-        ),
-        (
-            "{true} cobegin {true} ",
-            3996,
-            "while true do begin {true} ",
-            101,
-            "9 TooManyStatements 50674..50679",
-        ),
-        (
-            "{true} cobegin {true} ",
-            3995,
-            "while true do begin {true} ",
-            101,
-            "8 TooDeep 50662..50667",
-        ),
-        (
-            "{true} begin {true} ",
-            4096,
-            "await ",
-            1,
-            "7 Expected 49172..49177",
-        ),
-    ];
-    for (head, skips, part, times, expected) in rows {
-        let before = text(alloc, head, "skip {true} ", skips, "")?;
-        let source = text(alloc, before.as_str(), part, times, "")?;
-        let got = answer_of(alloc, source.as_str())?;
-        assert_eq!(rt; got.as_str(), expected, "at {skips} and {part}");
+    let processes = most_statements(rt.alloc())?;
+    let head = "var x; {true} cobegin ";
+    let full = text(rt.alloc(), head, processes.as_str(), 1, "")?;
+    expect_answer(&rt, rt.alloc(), full.as_str(), "True")
+}
+
+// One more, in a prologue, is one too many.
+#[test]
+fn counts_the_statements_of_main(rt: HostRuntime) -> Result<(), Fail> {
+    let processes = most_statements(rt.alloc())?;
+    let head = "var x; {true} begin {true} skip {true} end cobegin ";
+    let more = text(rt.alloc(), head, processes.as_str(), 1, "")?;
+    let expected = "9 TooManyStatements 133966..133971";
+    expect_answer(&rt, rt.alloc(), more.as_str(), expected)
+}
+
+// What stands before, how many `skip`, what is repeated, how often, and the answer.
+const STATEMENTS: &[(&str, u32, &str, u32, &str)] = &[
+    (
+        "{true} cobegin {true} ",
+        4096,
+        "skip",
+        1,
+        "9 TooManyStatements 49174..49178",
+    ),
+    (
+        "{true} cobegin {true} ",
+        3996,
+        "while true do begin {true} ",
+        101,
+        "9 TooManyStatements 50674..50679",
+    ),
+    (
+        "{true} cobegin {true} ",
+        3995,
+        "while true do begin {true} ",
+        101,
+        "8 TooDeep 50662..50667",
+    ),
+    (
+        "{true} begin {true} ",
+        4096,
+        "await ",
+        1,
+        "7 Expected 49172..49177",
+    ),
+];
+
+#[test]
+fn tells_too_many_statements_in_order(rt: HostRuntime) -> Result<(), Fail> {
+    for (head, skips, part, times, expected) in STATEMENTS {
+        let before = text(rt.alloc(), head, "skip {true} ", *skips, "")?;
+        let source = text(rt.alloc(), before.as_str(), part, *times, "")?;
+        expect_answer(&rt, rt.alloc(), source.as_str(), expected)?;
     }
     Ok(())
 }
@@ -231,50 +248,50 @@ fn asks_for_more_at_each_prefix(rt: HostRuntime) -> Result<(), Fail> {
     Ok(())
 }
 
+const ASSERTIONS: &[(&str, &str)] = &[
+    ("true", "True"),
+    ("((false))", "False"),
+    ("not not true", "Not(Not(True))"),
+    ("true and true or true", "Or([And([True, True]), True])"),
+    ("(true and true) or true", "Or([And([True, True]), True])"),
+    ("true and (true or true)", "And([True, Or([True, True])])"),
+    ("(true and true) and true", "And([And([True, True]), True])"),
+    ("not true and false", "And([Not(True), False])"),
+    (
+        "true -> true -> false",
+        "Implies(True, Implies(True, False))",
+    ),
+    (
+        "true -> (true -> true)",
+        "Implies(True, Implies(True, True))",
+    ),
+    (
+        "(true -> true) -> true",
+        "Implies(Implies(True, True), True)",
+    ),
+    ("true or false -> true", "Implies(Or([True, False]), True)"),
+];
+
 #[test]
 fn builds_assertions(rt: HostRuntime) -> Result<(), Fail> {
-    let rows = [
-        ("true", "True"),
-        ("((false))", "False"),
-        ("not not true", "Not(Not(True))"),
-        ("true and true or true", "Or([And([True, True]), True])"),
-        ("(true and true) or true", "Or([And([True, True]), True])"),
-        ("true and (true or true)", "And([True, Or([True, True])])"),
-        ("(true and true) and true", "And([And([True, True]), True])"),
-        ("not true and false", "And([Not(True), False])"),
-        (
-            "true -> true -> false",
-            "Implies(True, Implies(True, False))",
-        ),
-        (
-            "true -> (true -> true)",
-            "Implies(True, Implies(True, True))",
-        ),
-        (
-            "(true -> true) -> true",
-            "Implies(Implies(True, True), True)",
-        ),
-        ("true or false -> true", "Implies(Or([True, False]), True)"),
-    ];
-    for (assertion, expected) in rows {
-        let head = text(
-            rt.alloc(),
-            "{",
-            assertion,
-            1,
-            "} cobegin {true} skip {true} coend {true}",
-        )?;
-        let got = answer_of(rt.alloc(), head.as_str())?;
-        assert_eq!(rt; got.as_str(), expected, "at {assertion}");
+    for (assertion, expected) in ASSERTIONS {
+        let source = text(rt.alloc(), "{", assertion, 1, BODY)?;
+        expect_answer(&rt, rt.alloc(), source.as_str(), expected)?;
     }
     Ok(())
+}
+
+fn tree_of(alloc: Global, tokens: &[Token]) -> Result<String, Fail> {
+    let raw = parse(alloc, tokens)?;
+    let tree = format!(in alloc; "{raw:?}");
+    drop(raw);
+    Ok(tree?)
 }
 
 // The listing of a tree.
 fn listing(alloc: Global, source: &str) -> Result<String, Fail> {
     let tokens = lex(alloc, source.as_bytes())?;
-    let raw = parse(alloc, tokens.as_slice())?;
-    Ok(format!(in alloc; "{raw:?}")?)
+    tree_of(alloc, tokens.as_slice())
 }
 
 // The same in parts.

@@ -6,6 +6,7 @@ use og_parse::{
 };
 use og_text::{Name, Span, lex};
 use std::alloc::{AllocError, Global};
+use std::process::Abort;
 use std::test::Fail;
 
 fn parsed(alloc: Global, source: &str) -> Result<Raw, Fail> {
@@ -15,66 +16,81 @@ fn parsed(alloc: Global, source: &str) -> Result<Raw, Fail> {
 
 fn outline_text(alloc: Global, source: &str) -> Result<Vec<u8>, Fail> {
     let raw = parsed(alloc, source)?;
-    Ok(print_outline(alloc, &raw)?)
+    let text = print_outline(alloc, &raw);
+    drop(raw);
+    Ok(text?)
 }
 
 fn program_text(alloc: Global, source: &str) -> Result<Vec<u8>, Fail> {
     let raw = parsed(alloc, source)?;
-    Ok(print_program(alloc, &raw)?)
+    let text = print_program(alloc, &raw);
+    drop(raw);
+    Ok(text?)
 }
+
+fn expect_outline(rt: &impl Abort, alloc: Global, source: &str, lines: &str) -> Result<(), Fail> {
+    let text = outline_text(alloc, source)?;
+    assert_eq!(rt; text.as_slice(), lines.as_bytes());
+    Ok(())
+}
+
+fn expect_program(rt: &impl Abort, alloc: Global, source: &str, lines: &str) -> Result<(), Fail> {
+    let text = program_text(alloc, source)?;
+    assert_eq!(rt; text.as_slice(), lines.as_bytes());
+    Ok(())
+}
+
+const OUTLINES: &[(&str, &str)] = &[
+    (
+        "var y; {y = 0} cobegin {y = 0} skip {y = 0} // {true} y := 1 {true} coend {true}",
+        "var y;\n{y = 0}\ncobegin\n  {y = 0}\n  skip\n  {y = 0}\n//\n  {true}\n  y := 1\n  {true}\ncoend\n{true}\n",
+    ),
+    (
+        "{(true and true) or true} cobegin {true -> (true -> true)} skip {(true -> true) -> true} coend {(true and true) and true}",
+        "{true and true or true}\ncobegin\n  {true -> true -> true}\n  skip\n  {(true -> true) -> true}\ncoend\n{(true and true) and true}\n",
+    ),
+    (
+        "{not (not (true))} cobegin {not ((true or false))} skip {(true or false) and true} coend {(true -> false) or (true and false)}",
+        "{not not true}\ncobegin\n  {not (true or false)}\n  skip\n  {(true or false) and true}\ncoend\n{(true -> false) or true and false}\n",
+    ),
+    (
+        "var x,y; aux a=0,b=-01; {-2*x-3+y<=-0} cobegin {x<>0} begin_ := - y {x>y} coend {true}",
+        "var x, y;\naux a = 0, b = -1;\n{-2*x - 3 + y <= -0}\ncobegin\n  {x <> 0}\n  begin_ := -y\n  {x > y}\ncoend\n{true}\n",
+    ),
+    (
+        "{true} begin {true} while x<1 do begin {true} skip {true} end {true} end cobegin {true} if x>=0 then begin {true} skip {true} end else begin {true} await true then begin skip end {true} end {true} await x<y then begin skip;x:=1 end {true} coend {true}",
+        "{true}\nbegin\n  {true}\n  while x < 1 do begin\n    {true}\n    skip\n    {true}\n  end\n  {true}\nend\ncobegin\n  {true}\n  if x >= 0 then begin\n    {true}\n    skip\n    {true}\n  end else begin\n    {true}\n    await true then skip\n    {true}\n  end\n  {true}\n  await x < y then begin skip; x := 1 end\n  {true}\ncoend\n{true}\n",
+    ),
+];
 
 #[test]
 fn prints_outlines(rt: HostRuntime) -> Result<(), Fail> {
-    let rows = [
-        (
-            "var y; {y = 0} cobegin {y = 0} skip {y = 0} // {true} y := 1 {true} coend {true}",
-            "var y;\n{y = 0}\ncobegin\n  {y = 0}\n  skip\n  {y = 0}\n//\n  {true}\n  y := 1\n  {true}\ncoend\n{true}\n",
-        ),
-        (
-            "{(true and true) or true} cobegin {true -> (true -> true)} skip {(true -> true) -> true} coend {(true and true) and true}",
-            "{true and true or true}\ncobegin\n  {true -> true -> true}\n  skip\n  {(true -> true) -> true}\ncoend\n{(true and true) and true}\n",
-        ),
-        (
-            "{not (not (true))} cobegin {not ((true or false))} skip {(true or false) and true} coend {(true -> false) or (true and false)}",
-            "{not not true}\ncobegin\n  {not (true or false)}\n  skip\n  {(true or false) and true}\ncoend\n{(true -> false) or true and false}\n",
-        ),
-        (
-            "var x,y; aux a=0,b=-01; {-2*x-3+y<=-0} cobegin {x<>0} begin_ := - y {x>y} coend {true}",
-            "var x, y;\naux a = 0, b = -1;\n{-2*x - 3 + y <= -0}\ncobegin\n  {x <> 0}\n  begin_ := -y\n  {x > y}\ncoend\n{true}\n",
-        ),
-        (
-            "{true} begin {true} while x<1 do begin {true} skip {true} end {true} end cobegin {true} if x>=0 then begin {true} skip {true} end else begin {true} await true then begin skip end {true} end {true} await x<y then begin skip;x:=1 end {true} coend {true}",
-            "{true}\nbegin\n  {true}\n  while x < 1 do begin\n    {true}\n    skip\n    {true}\n  end\n  {true}\nend\ncobegin\n  {true}\n  if x >= 0 then begin\n    {true}\n    skip\n    {true}\n  end else begin\n    {true}\n    await true then skip\n    {true}\n  end\n  {true}\n  await x < y then begin skip; x := 1 end\n  {true}\ncoend\n{true}\n",
-        ),
-    ];
-    for (source, lines) in rows {
-        let text = outline_text(rt.alloc(), source)?;
-        assert_eq!(rt; text.as_slice(), lines.as_bytes());
-        let again = outline_text(rt.alloc(), lines)?;
-        assert_eq!(rt; again.as_slice(), lines.as_bytes());
+    for (source, lines) in OUTLINES {
+        expect_outline(&rt, rt.alloc(), source, lines)?;
+        expect_outline(&rt, rt.alloc(), lines, lines)?;
     }
     Ok(())
 }
 
+const PROGRAMS: &[(&str, &str)] = &[
+    (
+        "var x; {x = 0} cobegin {true} await true then x := x + 1 {true} // {true} await true then x := x + 1 {true} coend {x = 2}",
+        "var x;\ncobegin\n  await true then x := x + 1\n//\n  await true then x := x + 1\ncoend\n",
+    ),
+    (
+        "var x; {true} begin {true} x := 0 {x = 0} end cobegin {x = 0} await true then x := x + 1 {x = 1} coend begin {x = 1} x := x + 1 {x = 2} end {x = 2}",
+        "var x;\nbegin\n  x := 0\nend\ncobegin\n  await true then x := x + 1\ncoend\nbegin\n  x := x + 1\nend\n",
+    ),
+    (
+        "{true} cobegin {true} if x = 0 then begin {true} skip {true} skip {true} end {true} while false do begin {true} skip {true} end {true} skip {true} coend {true}",
+        "cobegin\n  if x = 0 then begin\n    skip;\n    skip\n  end;\n  while false do begin\n    skip\n  end;\n  skip\ncoend\n",
+    ),
+];
+
 #[test]
 fn prints_programs(rt: HostRuntime) -> Result<(), Fail> {
-    let rows = [
-        (
-            "var x; {x = 0} cobegin {true} await true then x := x + 1 {true} // {true} await true then x := x + 1 {true} coend {x = 2}",
-            "var x;\ncobegin\n  await true then x := x + 1\n//\n  await true then x := x + 1\ncoend\n",
-        ),
-        (
-            "var x; {true} begin {true} x := 0 {x = 0} end cobegin {x = 0} await true then x := x + 1 {x = 1} coend begin {x = 1} x := x + 1 {x = 2} end {x = 2}",
-            "var x;\nbegin\n  x := 0\nend\ncobegin\n  await true then x := x + 1\ncoend\nbegin\n  x := x + 1\nend\n",
-        ),
-        (
-            "{true} cobegin {true} if x = 0 then begin {true} skip {true} skip {true} end {true} while false do begin {true} skip {true} end {true} skip {true} coend {true}",
-            "cobegin\n  if x = 0 then begin\n    skip;\n    skip\n  end;\n  while false do begin\n    skip\n  end;\n  skip\ncoend\n",
-        ),
-    ];
-    for (source, lines) in rows {
-        let text = program_text(rt.alloc(), source)?;
-        assert_eq!(rt; text.as_slice(), lines.as_bytes());
+    for (source, lines) in PROGRAMS {
+        expect_program(&rt, rt.alloc(), source, lines)?;
     }
     Ok(())
 }
@@ -155,7 +171,14 @@ fn program(
         epilogue: None,
         post: truth(),
     };
-    print_program(alloc, &raw)
+    let text = print_program(alloc, &raw);
+    drop(raw);
+    text
+}
+
+// The variable x.
+fn x_alone(alloc: Global) -> Result<Vec<RawName>, AllocError> {
+    Ok(vec![in alloc; name(alloc, "x")?]?)
 }
 
 // x := value
@@ -193,12 +216,13 @@ fn waits(alloc: Global) -> Result<RawSeq, AllocError> {
 // The outline of one process between a prologue and an epilogue, and its program in print.
 fn with_main(
     alloc: Global,
+    vars: Vec<RawName>,
     prologue: RawSeq,
     first: RawSeq,
     epilogue: RawSeq,
 ) -> Result<Vec<u8>, AllocError> {
     let raw = Raw {
-        vars: vec![in alloc; name(alloc, "x")?]?,
+        vars,
         auxes: Vec::new(alloc),
         pre: truth(),
         prologue: Some(prologue),
@@ -210,14 +234,18 @@ fn with_main(
         epilogue: Some(epilogue),
         post: truth(),
     };
-    print_program(alloc, &raw)
+    let text = print_program(alloc, &raw);
+    drop(raw);
+    text
 }
 
 // The program of which the main process sets x to 0 and then adds 1.
 fn main_text(alloc: Global) -> Result<Vec<u8>, AllocError> {
+    let vars = x_alone(alloc)?;
+    let process = waits(alloc)?;
     let prologue = assigns(alloc, sum(alloc, RawFactor::Number(0))?)?;
     let epilogue = assigns(alloc, successor(alloc)?)?;
-    with_main(alloc, prologue, waits(alloc)?, epilogue)
+    with_main(alloc, vars, prologue, process, epilogue)
 }
 
 #[test]
@@ -234,7 +262,7 @@ fn prints_the_parts_of_main(rt: HostRuntime) -> Result<(), Fail> {
 fn await_text(alloc: Global) -> Result<Vec<u8>, AllocError> {
     let wait = RawStmt::Await(x_is_zero(alloc)?, Vec::new(alloc));
     let process = one(alloc, wait)?;
-    let vars = vec![in alloc; name(alloc, "x")?]?;
+    let vars = x_alone(alloc)?;
     program(alloc, vars, process, Vec::new(alloc))
 }
 
