@@ -1,6 +1,6 @@
 -- The status of a condition, by what is found of it.
 use Rattle.std.proofs.lemmas.Option.{slice_get_cases}
-use Rattle.std.proofs.Common.{◌≡◌, ℕ, zero, suc, ◌-◌, ◌<◌, ◌≤◌, ◌⊎◌, ⊎_elim, arith, length, get_or, List, [], ◌∷◌, map, slice_get, Option, Some, None, Ok, Err, refl, sym, ap, ◌∙◌}
+use Rattle.std.proofs.Common.{◌≡◌, ℕ, zero, suc, ◌-◌, ◌<◌, ◌≤◌, ⊎_elim, arith, length, get_or, List, [], ◌∷◌, map, slice_get, Option, Some, None, Ok, Err, refl, sym, ap, ◌∙◌}
 use Rattle.og_cond.specs.Condition as plain
 use Rattle.og_cond.specs.declared.condition.Condition.{Condition}
 use Rattle.og_cond.specs.Seen.{seen}
@@ -11,9 +11,8 @@ use Rattle.og_cert_text.specs.Files.{certificate_of}
 use Rattle.og_cert_text.specs.Shown.{shown}
 use Rattle.og_cert_text.specs.declared.file.CertFile.{CertFile}
 use Rattle.og_cert.specs.Faults.{first_fault}
-use Rattle.og_pool.specs.declared.status.Status.{Status}
 use Rattle.og_pool.specs.declared.status.Status.TheVariants as status
-use Rattle.og_pool.specs.Status.{by_fault, by_facts, by_cert, by_condition, status_of}
+use Rattle.og_pool.specs.Status.{by_fault, by_facts, by_condition, status_of}
 
 seen_at : (cs : List Condition) (i : ℕ) (c : Condition) → slice_get cs i ≡ Some c → slice_get (map seen cs) i ≡ Some (seen c)
 seen_at [] i c at = absurd (cc)

@@ -1,5 +1,5 @@
 -- Each step of the draw word keeps the rule.
-use Rattle.std.proofs.Common.{◌≡◌, ◌≢◌, ◌⊎◌, ℕ, zero, suc, ◌+◌, ◌-◌, ◌/◌, ◌%◌, ◌^◌, ◌<◌, ◌≤◌, Bool, true, false, leb, eqb, List, [], ◌∷◌, ◌++◌, length, set, get_or, refl, sym, ap, inl, inr, ◌↔◌, true≢false, ◌∙◌, subst, ⊎_elim, arith, length-set, get_or-set_same, mod-eq_of_lt, div-le_self, if◌then◌else◌, ◌==◌, nat_le, nat_lt}
+use Rattle.std.proofs.Common.{◌≡◌, ◌≢◌, ◌⊎◌, ℕ, zero, suc, ◌+◌, ◌-◌, ◌/◌, ◌%◌, ◌^◌, ◌<◌, ◌≤◌, Bool, true, false, leb, eqb, List, [], ◌∷◌, ◌++◌, set, get_or, refl, sym, ap, inl, inr, ◌↔◌, true≢false, ◌∙◌, subst, ⊎_elim, arith, length-set, get_or-set_same, mod-eq_of_lt, div-le_self, if◌then◌else◌, ◌==◌, nat_le}
 use Rattle.std.proofs.lemmas.Bool.Decides.{leb_tells, eqb_tells, nat_tests}
 use mathlib.Core.Option.{some, none, some-ne-none, some-injective}
 use lib.ListN.{get_elem?}

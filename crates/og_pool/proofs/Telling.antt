@@ -1,12 +1,10 @@
 -- Lists of tasks with their statuses.
-use Rattle.std.proofs.Common.{◌≡◌, ℕ, zero, suc, max, ◌+◌, ◌-◌, ◌*◌, ◌/◌, ◌%◌, ◌<◌, ◌≤◌, List, [], ◌∷◌, ◌++◌, Some, None, refl, sym, ap, ◌∙◌, subst, ⊎_elim, inl, inr, arith, mod-lt, mul-le-mul_left, eq-or-lt_of_le, leb, eqb, true, false, if◌then◌else◌, ◌==◌, ◌≢◌, nat_le}
-use Rattle.std.proofs.Math.Nat.{div-add-mod}
-use Rattle.std.proofs.lemmas.Bool.Decides.{leb_tells, eqb_tells, nat_tests}
+use Rattle.std.proofs.Common.{◌≡◌, ℕ, zero, suc, max, ◌+◌, ◌-◌, ◌<◌, ◌≤◌, List, [], ◌∷◌, ◌++◌, Some, refl, sym, ap, subst, ⊎_elim, arith, eq-or-lt_of_le, eqb, true, false, if◌then◌else◌, ◌==◌, ◌≢◌, nat_le}
+use Rattle.std.proofs.lemmas.Bool.Decides.{eqb_tells, nat_tests}
 use Rattle.std.specs.Prelude.{slice_get}
 use Rattle.og_pool.specs.declared.told.Told.{Told}
 use Rattle.std.proofs.lemmas.List.Elements.{All-append}
-use Rattle.std.specs.List.{All}
-use Rattle.og_pool.specs.Drawing.{times, past}
+use Rattle.og_pool.specs.Drawing.{times}
 use Rattle.og_pool.proofs.Steps.{weigh-append}
 use Rattle.og_pool.specs.declared.status.Status.{Status}
 use Rattle.og_pool.specs.Drawing.{Source, Part}

@@ -77,6 +77,25 @@ impl Draws {
         }
     }
 
+    /// Hands one of so many workers on: half of them, of which all but one come back.
+    pub(crate) fn split_one(&self, drawer: &mut Drawer, several: u32) -> Drawer
+        requires own { drawer.old.source ≡ self.now }
+        requires several { (2 ≤ several) × (drawer.old.workers ≡ several) }
+        requires fresh { drawer.old.drawn ≡ [] }
+        ensures kept { (drawer.new.source ≡ self.now) × (drawer.new.workers + 1 ≡ several) × (drawer.new.drawn ≡ []) }
+        ensures given { (result.source ≡ self.now) × (result.workers ≡ 1) × (result.drawn ≡ []) }
+    {
+        let mut part = self.split(drawer);
+        let mut count = several / 2;
+        while count > 1 {
+            let half = self.split(&mut part);
+            self.join(drawer, part);
+            part = half;
+            count /= 2;
+        }
+        part
+    }
+
     /// The next task, counted from 1. It answers `None` once a number past the tasks was drawn.
     pub fn draw(&self, drawer: &mut Drawer) -> Option<u32>
         requires { drawer.old.source ≡ self.now }

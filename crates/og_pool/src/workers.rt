@@ -73,8 +73,8 @@ impl<K: WorkName> Promise<Result<(Drawer, Vec<Told>), PoolFault>> for Share<K> {
     ghost kept_by = { λ p r. IfOk r (λ r. PartDone K.source p.several K.statuses r.0 r.1.items) };
 }
 
-/// A part of the workers, `several` of them: one half in a thread of its own, the other in this
-/// one.
+/// A part of the workers, `several` of them: one in a thread of its own, and the others as a part
+/// in this one. So one thread starts all others.
 #[cycle(part)]
 pub(crate) fn part<K: WorkName + Send + Sync, C: Numbered, G: Gate, R: Threads + Wait + Sync>(
     rt: &R,
@@ -96,21 +96,21 @@ pub(crate) fn part<K: WorkName + Send + Sync, C: Numbered, G: Gate, R: Threads +
     if several == 1 {
         return conditions.work(alloc, draws, drawer, gate);
     }
-    let low = several / 2;
-    let high = several - low;
-    let other = draws.split(&mut drawer);
+    let one = 1;
+    let rest = several - one;
+    let other = draws.split_one(&mut drawer, several);
     thread::scope(
         thread::scope_env(),
         rt,
         |scope| -> Result<(Drawer, Vec<Told>), PoolFault>
             requires { IsSync R.row × IsSync G.row × IsSync C.row
                 × (draws.now ≡ K.source) × (C.status conditions.now ≡ K.statuses) × (draws.now.count ≡ C.count conditions.now)
-                × (other.source ≡ draws.now) × (other.workers ≡ low) × (0 < low) × (other.drawn ≡ [])
-                × (drawer.source ≡ draws.now) × (drawer.workers ≡ high) × (0 < high) × (drawer.drawn ≡ []) }
-            ensures { IfOk result (λ r. PartDone K.source (low + high) K.statuses r.0 r.1.items) }
+                × (other.source ≡ draws.now) × (other.workers ≡ one) × (0 < one) × (other.drawn ≡ [])
+                × (drawer.source ≡ draws.now) × (drawer.workers ≡ rest) × (0 < rest) × (drawer.drawn ≡ []) }
+            ensures { IfOk result (λ r. PartDone K.source (one + rest) K.statuses r.0 r.1.items) }
         {
             let share = Share::<K> {
-                several: low,
+                several: one,
                 name: PhantomData,
             };
             let started = scope.spawn_with(
@@ -118,14 +118,14 @@ pub(crate) fn part<K: WorkName + Send + Sync, C: Numbered, G: Gate, R: Threads +
                 move || -> Result<(Drawer, Vec<Told>), PoolFault>
                     requires { IsSync R.row × IsSync G.row × IsSync C.row
                         × (draws.now ≡ K.source) × (C.status conditions.now ≡ K.statuses) × (draws.now.count ≡ C.count conditions.now)
-                        × (other.source ≡ draws.now) × (other.workers ≡ low) × (0 < low) × (other.drawn ≡ []) }
-                    ensures { IfOk result (λ r. PartDone K.source low K.statuses r.0 r.1.items) }
-                { part(rt, alloc, draws, other, conditions, low, gate, name) },
+                        × (other.source ≡ draws.now) × (other.workers ≡ one) × (0 < one) × (other.drawn ≡ []) }
+                    ensures { IfOk result (λ r. PartDone K.source one K.statuses r.0 r.1.items) }
+                { part(rt, alloc, draws, other, conditions, one, gate, name) },
             );
             let Ok(thread) = started else {
                 return Err(PoolFault::Spawn);
             };
-            let mine = part(rt, alloc, draws, drawer, conditions, high, gate, name);
+            let mine = part(rt, alloc, draws, drawer, conditions, rest, gate, name);
             let theirs = thread.join(rt);
             let (mut drawer, mut told) = mine?;
             let (other, mut more) = theirs?;

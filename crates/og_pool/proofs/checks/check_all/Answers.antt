@@ -1,5 +1,4 @@
-use Rattle.std.proofs.Common.{◌≡◌, ◌+◌, ◌-◌, ◌<◌, sym, ap, ◌∙◌, subst, arith, ℕ}
-use Rattle.og_pool.specs.Drawing.{times, Source}
+use Rattle.std.proofs.Common.{◌≡◌, ◌+◌, ◌-◌, ◌<◌, subst, arith}
 use Rattle.og_pool.specs.Telling.{Tells}
 use Rattle.og_pool.proofs.checks.check_all.Goals as goal
 

@@ -1,4 +1,4 @@
-use Rattle.std.proofs.Common.{◌≡◌, Option, Some, get_or, sym, subst}
+use Rattle.std.proofs.Common.{Option, get_or, sym, subst}
 use Rattle.std.proofs.lemmas.Option.{slice_get-get_or}
 use Rattle.og_cond.specs.declared.condition.Condition.{Condition}
 use Rattle.og_subst.specs.declared.action.Action.{Action}

@@ -1,4 +1,4 @@
-use Rattle.std.proofs.Common.{◌≡◌, ◌+◌, ◌-◌, ◌<◌, [], ◌∷◌, ◌++◌, sym, ap, ◌∙◌, refl, arith, ℕ, List}
+use Rattle.std.proofs.Common.{◌∙◌, refl}
 use Rattle.std.proofs.lemmas.List.Elements.{All-push}
 use Rattle.og_pool.specs.declared.told.Told.{Told}
 use Rattle.og_pool.specs.Status.{status_of}

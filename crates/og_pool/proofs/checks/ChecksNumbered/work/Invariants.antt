@@ -1,4 +1,4 @@
-use Rattle.std.proofs.Common.{◌≡◌, ℕ, ◌+◌, ◌-◌, ◌<◌, length}
+use Rattle.std.proofs.Common.{◌≡◌, ℕ, ◌+◌, ◌-◌, ◌<◌}
 use Rattle.std.specs.List.{All}
 use Rattle.og_pool.specs.Drawing.{past, times}
 use Rattle.og_pool.specs.Last.{Keeps}

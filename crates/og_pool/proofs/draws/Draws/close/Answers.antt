@@ -1,6 +1,6 @@
-use Rattle.std.proofs.Common.{◌≡◌, ◌≤◌, ◌<◌, [], sym, ap, ◌∙◌, subst, refl, arith, ℕ, List}
+use Rattle.std.proofs.Common.{sym, ap, ◌∙◌}
 use Rattle.og_pool.specs.declared.rule.Plan.{Plan}
-use Rattle.og_pool.specs.Drawing.{Part, Source, past, times}
+use Rattle.og_pool.specs.Drawing.{Part, Source, times}
 use Rattle.og_pool.proofs.Steps.{closes}
 use Rattle.og_pool.proofs.draws.Draws.close.Goals as goal
 

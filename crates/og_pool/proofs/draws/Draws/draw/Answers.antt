@@ -1,4 +1,4 @@
-use Rattle.std.proofs.Common.{◌≡◌, ◌+◌, ◌-◌, ◌<◌, ◌≤◌, true, false, true≢false, [], ◌∷◌, ◌++◌, sym, ap, ◌∙◌, subst, refl, arith, ℕ, List}
+use Rattle.std.proofs.Common.{◌≡◌, ◌+◌, ◌-◌, ◌<◌, true≢false, [], ◌∷◌, ◌++◌, sym, ap, ◌∙◌, subst, refl, arith, ℕ, List}
 use Rattle.og_pool.specs.declared.rule.Hand.{Hand}
 use Rattle.og_pool.specs.Drawing.{past, Part, Source}
 use Rattle.og_pool.specs.declared.rule.Plan.{Plan}

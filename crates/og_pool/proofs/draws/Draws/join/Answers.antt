@@ -1,6 +1,6 @@
-use Rattle.std.proofs.Common.{◌≡◌, ◌≤◌, ◌<◌, ◌+◌, ◌++◌, ◌⊎◌, ◌↔◌, [], true, false, sym, ap, ◌∙◌, subst, inl, inr, arith, ℕ, List}
+use Rattle.std.proofs.Common.{◌≡◌, ◌<◌, ◌⊎◌, ◌↔◌, true, false, sym, ap, ◌∙◌, subst, inl, inr, arith, ℕ, List}
 use Rattle.og_pool.specs.declared.rule.Hand.{Hand}
-use Rattle.og_pool.specs.Drawing.{Part, Source, past, hand}
+use Rattle.og_pool.specs.Drawing.{Part, Source, past}
 use Rattle.og_pool.proofs.Steps.{joins_keep, either_past}
 use Rattle.og_pool.proofs.draws.Draws.join.Goals as goal
 use Rattle.og_pool.proofs.draws.Draws.join.Goals.{then-drawer, else-drawer}

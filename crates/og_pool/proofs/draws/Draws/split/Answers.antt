@@ -1,4 +1,4 @@
-use Rattle.std.proofs.Common.{◌≡◌, ◌≤◌, ◌<◌, [], sym, ap, ◌∙◌, subst, refl, arith, ℕ}
+use Rattle.std.proofs.Common.{sym, ap, ◌∙◌, arith}
 use Rattle.og_pool.specs.Drawing.{Part, Source}
 use Rattle.og_pool.proofs.Steps.{splits_keep}
 use Rattle.og_pool.proofs.draws.Draws.split.Goals as goal
