@@ -1,0 +1,160 @@
+//! Times the workers alone: `og_bench SOURCE CERTS`.
+//!
+//! Lists the conditions of an outline and reads its certificates, once, and prints how many
+//! conditions there are and how many are proved. Then, for each digit of standard input, it finds
+//! the statuses with that many workers, and prints how many microseconds that took.
+#![tactic(auto)]
+
+ghost use Rattle.std.specs.Prelude.{◌<◌, ◌≤◌, ◌^◌, length};
+
+use og_cert_read::read_certs;
+use og_cert_text::CertFile;
+use og_cond::{Condition, conditions};
+use og_input::read_up_to;
+use og_parse::parse;
+use og_pool::{OpenGate, Status, check_all};
+use og_text::lex;
+use og_typed::{Outline, resolve};
+use std::alloc::Global;
+use std::env;
+use std::fs::File;
+use std::io::{Read, Write};
+use std::process::ExitCode;
+use std::sync::Wait;
+use std::thread::Threads;
+use std::time::Instant;
+
+// More than a source or a text of certificates may have.
+const MOST: usize = 67_108_865;
+
+// The bytes of a file.
+fn bytes(rt: &HostRuntime, name: &str) -> Option<Vec<u8>> {
+    let Ok(mut file) = File::open(rt, name) else {
+        return None;
+    };
+    read_up_to(rt.alloc(), &mut file, MOST).ok()
+}
+
+fn outline_of(alloc: Global, source: &[u8]) -> Option<Outline> {
+    let tokens = lex(alloc, source).ok()?;
+    let raw = parse(alloc, tokens.as_slice()).ok()?;
+    resolve(alloc, raw).ok()
+}
+
+fn print(rt: &HostRuntime, text: &str) -> Option<()> {
+    rt.stdout().write_all(text.as_bytes()).ok()
+}
+
+// Prints how many conditions there are, and how many are proved.
+fn tell<H: Threads + Wait + Sync>(
+    rt: &HostRuntime,
+    threads: &H,
+    conditions: &[Condition],
+    certs: &CertFile,
+) -> Option<()>
+    requires few { length conditions.now < 2 ^ 32 }
+{
+    let alloc = rt.alloc();
+    let statuses = check_all(threads, alloc, conditions, certs, 1, &OpenGate).ok()?;
+    let count = statuses.len();
+    let proved = statuses
+        .iter()
+        .filter(|status| **status == Status::Proved)
+        .count();
+    let text = format!(in alloc; "conditions: {count}\nproved: {proved}\n").ok()?;
+    print(rt, text.as_str())
+}
+
+// Prints how many microseconds so many workers take.
+fn time<H: Threads + Wait + Sync>(
+    rt: &HostRuntime,
+    threads: &H,
+    conditions: &[Condition],
+    certs: &CertFile,
+    workers: u32,
+) -> Option<()>
+    requires workers { (0 < workers) × (workers ≤ 64) }
+    requires few { length conditions.now < 2 ^ 32 }
+{
+    let alloc = rt.alloc();
+    let begin = Instant::now(rt).ok()?;
+    let statuses = check_all(threads, alloc, conditions, certs, workers, &OpenGate);
+    let took = begin.elapsed(rt).ok()?.as_micros();
+    statuses.ok()?;
+    let text = format!(in alloc; "{took}\n").ok()?;
+    print(rt, text.as_str())
+}
+
+// Times the workers once for each digit of standard input.
+fn time_all<H: Threads + Wait + Sync>(
+    rt: &HostRuntime,
+    threads: &H,
+    conditions: &[Condition],
+    certs: &CertFile,
+) -> Option<()>
+    requires few { length conditions.now < 2 ^ 32 }
+{
+    let mut input = rt.stdin();
+    let mut byte = [0u8];
+    for _ in 0..u32::MAX {
+        if input.read(&mut byte).ok()? == 0 {
+            break;
+        }
+        if let b'1'..=b'9' = byte[0] {
+            time(rt, threads, conditions, certs, u32::from(byte[0] - b'0'))?;
+        }
+    }
+    Some(())
+}
+
+fn measure<H: Threads + Wait + Sync>(
+    rt: &HostRuntime,
+    threads: &H,
+    outline: &Outline,
+    certs: &CertFile,
+) -> Option<()> {
+    let list = conditions(rt.alloc(), outline).ok()?;
+    let told = match tell(rt, threads, &list, certs) {
+        Some(()) => time_all(rt, threads, &list, certs),
+        None => None,
+    };
+    drop(list);
+    told
+}
+
+fn measure_files<H: Threads + Wait + Sync>(
+    rt: &HostRuntime,
+    threads: &H,
+    source: &str,
+    certs: &str,
+) -> Option<()> {
+    let source = bytes(rt, source)?;
+    let certs = bytes(rt, certs)?;
+    let file = read_certs(rt.alloc(), &certs).ok()?;
+    let outline = outline_of(rt.alloc(), &source)?;
+    let told = measure(rt, threads, &outline, &file);
+    drop(outline);
+    told
+}
+
+fn run<H: Threads + Wait + Sync>(rt: &HostRuntime, threads: &H) -> Option<()> {
+    let mut words = Vec::new(rt.alloc());
+    for word in env::args(rt).ok()? {
+        words.push(word).ok()?;
+    }
+    let source = words.get(1)?;
+    let certs = words.get(2)?;
+    measure_files(rt, threads, source.as_str(), certs.as_str())
+}
+
+fn main(rt: HostRuntime) -> ExitCode {
+    match run(&rt, &rt) {
+        Some(()) => ExitCode::from(0),
+        None => {
+            let _ = rt
+                .stderr()
+                .write_all(b"og_bench: not measured: og_bench SOURCE CERTS\n");
+            ExitCode::from(1)
+        }
+    }
+}
