@@ -8,6 +8,7 @@ use crate::sources::{
 use og_cond::{Condition, ConditionsError, Kind, conditions};
 use og_typed::Outline;
 use std::alloc::{AllocError, Global};
+use std::process::Abort;
 use std::test::Fail;
 
 // Kind and place, and the place of the action behind `with`.
@@ -35,13 +36,17 @@ fn told_all(alloc: Global, source: &str, list: &[Condition]) -> Result<String, A
 
 fn listing_of(alloc: Global, source: &str, outline: &Outline) -> Result<String, Fail> {
     let list = conditions(alloc, outline)?;
-    Ok(told_all(alloc, source, &list)?)
+    let told = told_all(alloc, source, &list);
+    drop(list);
+    Ok(told?)
 }
 
 // The conditions of a source.
 fn listing(alloc: Global, source: &str) -> Result<String, Fail> {
     let outline = outline_of(alloc, source)?;
-    listing_of(alloc, source, &outline)
+    let told = listing_of(alloc, source, &outline);
+    drop(outline);
+    told
 }
 
 const BRANCHES: &str =
@@ -51,41 +56,52 @@ const BRANCHES: &str =
 const OF_TWO_AWAITS: &str =
     "start 4:1; start 8:1; step 5:1; range 5:1; step 9:1; range 9:1; interfere 8:1 with 5:1; interfere 10:1 with 5:1; interfere 4:1 with 9:1; interfere 6:1 with 9:1; end 12:1; blocking 3:1; ";
 
+const LISTINGS: &[(&str, &str)] = &[
+    (TWO_ADD, OF_TWO_AWAITS),
+    (EQUAL_ADD, OF_TWO_AWAITS),
+    (TOLD_ADD, OF_TWO_AWAITS),
+    (
+        SKIP_AND_ASSIGN,
+        "start 4:1; start 6:1; step 4:9; step 6:8; range 6:8; interfere 4:1 with 6:8; interfere 4:14 with 6:8; end 8:1; blocking 3:1; ",
+    ),
+    (
+        EACH_WAITS,
+        "start 4:1; start 6:1; step 4:8; range 4:8; step 6:8; range 6:8; end 8:1; blocking 3:1; ",
+    ),
+    (ONE_SKIP, "start 3:1; step 3:8; end 5:1; blocking 2:1; "),
+    (
+        AUXILIARY_LOOP,
+        "start 4:1; enter 4:8; step 4:35; range 4:35; again 4:42; leave 4:8; end 6:1; blocking 3:1; ",
+    ),
+    (
+        NESTED,
+        "start 4:1; start 16:1; enter 5:1; then 7:3; step 9:5; join 10:5; else 7:3; again 12:3; leave 5:1; step 17:1; range 17:1; interfere 4:1 with 17:1; interfere 6:3 with 17:1; interfere 8:5 with 17:1; end 20:1; blocking 3:1; ",
+    ),
+    (
+        BRANCHES,
+        "start 4:1; then 4:8; step 4:36; join 4:41; else 4:8; step 4:73; join 4:78; end 6:1; blocking 3:1; ",
+    ),
+    (
+        WITH_MAIN,
+        "prologue 4:1; step 4:8; range 4:8; start 7:1; step 7:9; range 7:9; end 10:1; step 10:9; range 10:9; epilogue 12:1; blocking 6:1; ",
+    ),
+];
+
+fn expect_listing(
+    rt: &impl Abort,
+    alloc: Global,
+    source: &str,
+    expected: &str,
+) -> Result<(), Fail> {
+    let got = listing(alloc, source)?;
+    assert_eq!(rt; got.as_str(), expected, "of {source}");
+    Ok(())
+}
+
 #[test]
 fn kinds_and_places(rt: HostRuntime) -> Result<(), Fail> {
-    let rows = [
-        (TWO_ADD, OF_TWO_AWAITS),
-        (EQUAL_ADD, OF_TWO_AWAITS),
-        (TOLD_ADD, OF_TWO_AWAITS),
-        (
-            SKIP_AND_ASSIGN,
-            "start 4:1; start 6:1; step 4:9; step 6:8; range 6:8; interfere 4:1 with 6:8; interfere 4:14 with 6:8; end 8:1; blocking 3:1; ",
-        ),
-        (
-            EACH_WAITS,
-            "start 4:1; start 6:1; step 4:8; range 4:8; step 6:8; range 6:8; end 8:1; blocking 3:1; ",
-        ),
-        (ONE_SKIP, "start 3:1; step 3:8; end 5:1; blocking 2:1; "),
-        (
-            AUXILIARY_LOOP,
-            "start 4:1; enter 4:8; step 4:35; range 4:35; again 4:42; leave 4:8; end 6:1; blocking 3:1; ",
-        ),
-        (
-            NESTED,
-            "start 4:1; start 16:1; enter 5:1; then 7:3; step 9:5; join 10:5; else 7:3; again 12:3; leave 5:1; step 17:1; range 17:1; interfere 4:1 with 17:1; interfere 6:3 with 17:1; interfere 8:5 with 17:1; end 20:1; blocking 3:1; ",
-        ),
-        (
-            BRANCHES,
-            "start 4:1; then 4:8; step 4:36; join 4:41; else 4:8; step 4:73; join 4:78; end 6:1; blocking 3:1; ",
-        ),
-        (
-            WITH_MAIN,
-            "prologue 4:1; step 4:8; range 4:8; start 7:1; step 7:9; range 7:9; end 10:1; step 10:9; range 10:9; epilogue 12:1; blocking 6:1; ",
-        ),
-    ];
-    for (source, expected) in rows {
-        let got = listing(rt.alloc(), source)?;
-        assert_eq!(rt; got.as_str(), expected, "of {source}");
+    for (source, expected) in LISTINGS {
+        expect_listing(&rt, rt.alloc(), source, expected)?;
     }
     Ok(())
 }
@@ -122,11 +138,19 @@ fn answer(
     }
 }
 
+fn counts_of_outline(alloc: Global, outline: &Outline) -> Result<String, AllocError> {
+    let list = conditions(alloc, outline);
+    let told = answer(alloc, &list);
+    drop(list);
+    told
+}
+
 // What is told of the conditions of a source.
 fn counts(alloc: Global, source: &str) -> Result<String, Fail> {
     let outline = outline_of(alloc, source)?;
-    let list = conditions(alloc, &outline);
-    Ok(answer(alloc, &list)?)
+    let told = counts_of_outline(alloc, &outline);
+    drop(outline);
+    Ok(told?)
 }
 
 // Equal processes of so many assignments and then so many skips, every assertion `x >= 0`.
@@ -145,17 +169,23 @@ fn alike(alloc: Global, assigns: u32, skips: u32, others: u32) -> Result<String,
 }
 
 // The assignments, the skips, the processes behind the first, and what is told of the conditions.
+const COUNTS: &[(u32, u32, u32, &str)] = &[
+    (2, 38, 7, "8 4592 1 of 4938"),
+    (64, 0, 11, "12 549120 1 of 550670"),
+    (64, 0, 63, "18 TooManyConditions"),
+];
+
+fn expect_counts(rt: &impl Abort, alloc: Global, source: &str, expected: &str) -> Result<(), Fail> {
+    let got = counts(alloc, source)?;
+    assert_eq!(rt; got.as_str(), expected);
+    Ok(())
+}
+
 #[test]
 fn counts_of_many(rt: HostRuntime) -> Result<(), Fail> {
-    let rows = [
-        (2, 38, 7, "8 4592 1 of 4938"),
-        (64, 0, 11, "12 549120 1 of 550670"),
-        (64, 0, 63, "18 TooManyConditions"),
-    ];
-    for (assigns, skips, others, expected) in rows {
-        let source = alike(rt.alloc(), assigns, skips, others)?;
-        let got = counts(rt.alloc(), source.as_str())?;
-        assert_eq!(rt; got.as_str(), expected);
+    for (assigns, skips, others, expected) in COUNTS {
+        let source = alike(rt.alloc(), *assigns, *skips, *others)?;
+        expect_counts(&rt, rt.alloc(), source.as_str(), expected)?;
     }
     Ok(())
 }
@@ -169,9 +199,7 @@ fn counts_of_skips(rt: HostRuntime) -> Result<(), Fail> {
         255,
         "coend\n{true}\n",
     )?;
-    let got = counts(rt.alloc(), skips.as_str())?;
-    assert_eq!(rt; got.as_str(), "256 0 1 of 514");
-    Ok(())
+    expect_counts(&rt, rt.alloc(), skips.as_str(), "256 0 1 of 514")
 }
 
 // Two processes, one of assignments and one of skips. With a assignments and s skips there are
@@ -189,7 +217,5 @@ fn two_sides(alloc: Global, assigns: u32, skips: u32) -> Result<String, AllocErr
 #[test]
 fn one_beyond_the_limit(rt: HostRuntime) -> Result<(), Fail> {
     let source = two_sides(rt.alloc(), 1999, 1997)?;
-    let got = counts(rt.alloc(), source.as_str())?;
-    assert_eq!(rt; got.as_str(), "18 TooManyConditions");
-    Ok(())
+    expect_counts(&rt, rt.alloc(), source.as_str(), "18 TooManyConditions")
 }

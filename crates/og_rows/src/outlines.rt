@@ -59,7 +59,9 @@ fn told(alloc: Global, source: &str, outline: &Outline) -> Result<String, AllocE
 #[test]
 fn places(rt: HostRuntime) -> Result<(), Fail> {
     let outline = outline_of(rt.alloc(), NESTED)?;
-    let got = told(rt.alloc(), NESTED, &outline)?;
+    let got = told(rt.alloc(), NESTED, &outline);
+    drop(outline);
+    let got = got?;
     assert_eq!(rt;
         got.as_str(),
         "2:1 3:1 4:1 5:1 6:3 7:3 8:5 9:5 10:5 12:3 14:1 16:1 17:1 18:1 20:1 "

@@ -31,7 +31,9 @@ fn told_refusal(alloc: Global, answer: &Result<Outline, TypeError>) -> Result<St
 // How the refusal of a source is told.
 fn refusal(alloc: Global, source: &str) -> Result<String, Fail> {
     let answer = resolved(alloc, source)?;
-    Ok(told_refusal(alloc, &answer)?)
+    let told = told_refusal(alloc, &answer);
+    drop(answer);
+    Ok(told?)
 }
 
 // A text: `head`, `part` as often as `times` says, and `tail`.
@@ -50,97 +52,115 @@ fn text(
     Ok(out)
 }
 
+fn expect_refusal(
+    rt: &impl Abort,
+    alloc: Global,
+    source: &str,
+    expected: &str,
+) -> Result<(), Fail> {
+    let got = refusal(alloc, source)?;
+    assert_eq!(rt; got.as_str(), expected, "at {source}");
+    Ok(())
+}
+
+const REFUSALS: &[(&str, &str)] = &[
+    (
+        "aux a = 0; {true} cobegin {true} await a = 1 then skip {true} coend {true}",
+        "12 AuxUsed 39",
+    ),
+    (
+        "aux a = 0; {true} cobegin {true} skip {true} coend {a = 0}",
+        "13 AuxInPrePost 52",
+    ),
+    (
+        "var x; aux a = 0; {true} cobegin {true} x := a {true} coend {true}",
+        "12 AuxUsed 45",
+    ),
+    (
+        "var x; aux a = 0; {true} cobegin {true} x := 0*a {true} coend {true}",
+        "12 AuxUsed 47",
+    ),
+    (
+        "var x; {x >= -9223372036854775808} cobegin {true} skip {true} coend {true}",
+        "",
+    ),
+    (
+        "var x; {x > 9223372036854775807} cobegin {true} skip {true} coend {true}",
+        "14 CoefficientTooLarge 8",
+    ),
+    (
+        "var x; {2147483648*x = 0} cobegin {true} skip {true} coend {true}",
+        "",
+    ),
+    (
+        "var x; {true} cobegin {true} x := 2147483648*x + x {true} coend {true}",
+        "14 CoefficientTooLarge 34",
+    ),
+    (
+        "{x = 0} cobegin {true} skip {true} coend {true}",
+        "10 Undeclared 1",
+    ),
+    (
+        "var x, x; {true} cobegin {true} skip {true} coend {true}",
+        "11 DeclaredTwice 7",
+    ),
+    (
+        "var x; aux x = 0; {true} cobegin {true} skip {true} coend {true}",
+        "11 DeclaredTwice 11",
+    ),
+    (
+        "aux a = 9223372036854775808; {true} cobegin {true} skip {true} coend {true}",
+        "14 CoefficientTooLarge 8",
+    ),
+    (
+        "aux a = -9223372036854775808; {true} cobegin {true} a := a {true} coend {true}",
+        "",
+    ),
+];
+
 #[test]
 fn refuses_names_and_numbers(rt: HostRuntime) -> Result<(), Fail> {
-    let rows = [
-        (
-            "aux a = 0; {true} cobegin {true} await a = 1 then skip {true} coend {true}",
-            "12 AuxUsed 39",
-        ),
-        (
-            "aux a = 0; {true} cobegin {true} skip {true} coend {a = 0}",
-            "13 AuxInPrePost 52",
-        ),
-        (
-            "var x; aux a = 0; {true} cobegin {true} x := a {true} coend {true}",
-            "12 AuxUsed 45",
-        ),
-        (
-            "var x; aux a = 0; {true} cobegin {true} x := 0*a {true} coend {true}",
-            "12 AuxUsed 47",
-        ),
-        (
-            "var x; {x >= -9223372036854775808} cobegin {true} skip {true} coend {true}",
-            "",
-        ),
-        (
-            "var x; {x > 9223372036854775807} cobegin {true} skip {true} coend {true}",
-            "14 CoefficientTooLarge 8",
-        ),
-        (
-            "var x; {2147483648*x = 0} cobegin {true} skip {true} coend {true}",
-            "",
-        ),
-        (
-            "var x; {true} cobegin {true} x := 2147483648*x + x {true} coend {true}",
-            "14 CoefficientTooLarge 34",
-        ),
-        (
-            "{x = 0} cobegin {true} skip {true} coend {true}",
-            "10 Undeclared 1",
-        ),
-        (
-            "var x, x; {true} cobegin {true} skip {true} coend {true}",
-            "11 DeclaredTwice 7",
-        ),
-        (
-            "var x; aux x = 0; {true} cobegin {true} skip {true} coend {true}",
-            "11 DeclaredTwice 11",
-        ),
-        (
-            "aux a = 9223372036854775808; {true} cobegin {true} skip {true} coend {true}",
-            "14 CoefficientTooLarge 8",
-        ),
-        (
-            "aux a = -9223372036854775808; {true} cobegin {true} a := a {true} coend {true}",
-            "",
-        ),
-    ];
-    for (source, expected) in rows {
-        let got = refusal(rt.alloc(), source)?;
-        assert_eq!(rt; got.as_str(), expected, "at {source}");
+    for (source, expected) in REFUSALS {
+        expect_refusal(&rt, rt.alloc(), source, expected)?;
     }
     Ok(())
 }
 
+const AWAITS: &str = "{true} cobegin {true} await true then begin skip";
+
+const PROCESSES: &str = "{true} cobegin {true} skip {true}";
+
+// What stands before, what is repeated, how often, what stands behind, and the answer.
+const LISTS: &[(&str, &str, u32, &str, &str)] = &[
+    (AWAITS, "; skip", 63, " end {true} coend {true}", ""),
+    (
+        AWAITS,
+        "; skip",
+        64,
+        " end {true} coend {true}",
+        "17 AwaitTooLong 428",
+    ),
+    (
+        PROCESSES,
+        " // {true} skip {true}",
+        255,
+        " coend {true}",
+        "",
+    ),
+    (
+        PROCESSES,
+        " // {true} skip {true}",
+        256,
+        " coend {true}",
+        "16 TooManyProcesses 5647",
+    ),
+];
+
 #[test]
 fn keeps_the_limits_on_lists(rt: HostRuntime) -> Result<(), Fail> {
-    let awaits = "{true} cobegin {true} await true then begin skip";
-    let end = " end {true} coend {true}";
-    let process = " // {true} skip {true}";
-    // What stands before, what is repeated, how often, what stands behind, and the answer.
-    let rows = [
-        (awaits, "; skip", 63, end, ""),
-        (awaits, "; skip", 64, end, "17 AwaitTooLong 428"),
-        (
-            "{true} cobegin {true} skip {true}",
-            process,
-            255,
-            " coend {true}",
-            "",
-        ),
-        (
-            "{true} cobegin {true} skip {true}",
-            process,
-            256,
-            " coend {true}",
-            "16 TooManyProcesses 5647",
-        ),
-    ];
-    for (head, part, times, tail, expected) in rows {
-        let source = text(rt.alloc(), head, part, times, tail)?;
-        let got = refusal(rt.alloc(), source.as_str())?;
-        assert_eq!(rt; got.as_str(), expected, "at {times} {part}");
+    for (head, part, times, tail, expected) in LISTS {
+        let source = text(rt.alloc(), head, part, *times, tail)?;
+        expect_refusal(&rt, rt.alloc(), source.as_str(), expected)?;
     }
     Ok(())
 }
@@ -157,14 +177,14 @@ fn with_variables(alloc: Global, count: u32) -> Result<String, AllocError> {
     Ok(out)
 }
 
+// Each name has 4 bytes, and 2 bytes stand between two of them.
+const VARIABLES: &[(u32, &str)] = &[(256, ""), (257, "15 TooManyVariables 1540")];
+
 #[test]
 fn keeps_the_limit_on_variables(rt: HostRuntime) -> Result<(), Fail> {
-    // Each name has 4 bytes, and 2 bytes stand between two of them.
-    let rows = [(256, ""), (257, "15 TooManyVariables 1540")];
-    for (count, expected) in rows {
-        let source = with_variables(rt.alloc(), count)?;
-        let got = refusal(rt.alloc(), source.as_str())?;
-        assert_eq!(rt; got.as_str(), expected, "with {count} variables");
+    for (count, expected) in VARIABLES {
+        let source = with_variables(rt.alloc(), *count)?;
+        expect_refusal(&rt, rt.alloc(), source.as_str(), expected)?;
     }
     Ok(())
 }
@@ -196,25 +216,34 @@ fn told_relation(alloc: Global, assertion: &Assert) -> Result<String, AllocError
 // What is told of the precondition of a source.
 fn told_pre(alloc: Global, source: &str) -> Result<String, Fail> {
     let outline = resolved(alloc, source)??;
-    Ok(told_relation(alloc, &outline.pre().assertion)?)
+    let told = told_relation(alloc, &outline.pre().assertion);
+    drop(outline);
+    Ok(told?)
+}
+
+// An assertion, and the relation that it is.
+const RELATIONS: &[(&str, &str)] = &[
+    ("x <= 1", "<= 1*0 -1"),
+    ("x < y", "<= 1*0 -1*1 1"),
+    ("x > y", "<= -1*0 1*1 1"),
+    ("x >= 2*y", "<= -1*0 2*1 0"),
+    ("3 <= 2*x - x + 1", "<= -1*0 2"),
+    ("x + x = 2*x", "= 0"),
+    ("y <> -x + 7", "<> 1*0 1*1 -7"),
+];
+
+fn expect_pre(rt: &impl Abort, alloc: Global, source: &str, expected: &str) -> Result<(), Fail> {
+    let got = told_pre(alloc, source)?;
+    assert_eq!(rt; got.as_str(), expected, "at {source}");
+    Ok(())
 }
 
 #[test]
 fn collects_both_sides(rt: HostRuntime) -> Result<(), Fail> {
-    let rows = [
-        ("x <= 1", "<= 1*0 -1"),
-        ("x < y", "<= 1*0 -1*1 1"),
-        ("x > y", "<= -1*0 1*1 1"),
-        ("x >= 2*y", "<= -1*0 2*1 0"),
-        ("3 <= 2*x - x + 1", "<= -1*0 2"),
-        ("x + x = 2*x", "= 0"),
-        ("y <> -x + 7", "<> 1*0 1*1 -7"),
-    ];
     let end = "} cobegin {true} skip {true} coend {true}";
-    for (assertion, expected) in rows {
+    for (assertion, expected) in RELATIONS {
         let source = text(rt.alloc(), "var x, y; {", assertion, 1, end)?;
-        let got = told_pre(rt.alloc(), source.as_str())?;
-        assert_eq!(rt; got.as_str(), expected, "at {assertion}");
+        expect_pre(&rt, rt.alloc(), source.as_str(), expected)?;
     }
     Ok(())
 }
@@ -247,5 +276,6 @@ fn reads_the_parts_of_an_outline(rt: HostRuntime) -> Result<(), Fail> {
     let outline = resolved(rt.alloc(), source)??;
     expect_parts(&rt, &outline);
     expect_main(&rt, &outline);
+    drop(outline);
     Ok(())
 }

@@ -42,7 +42,9 @@ fn told_from(
     turns: &[u32],
 ) -> Result<String, Fail> {
     let mut moment = begun(alloc, outline, values)?;
-    Ok(told(alloc, &mut moment, turns)?)
+    let told = told(alloc, &mut moment, turns);
+    drop(moment);
+    Ok(told?)
 }
 
 fn standing(moment: &Moment<'_>) -> &'static str {
@@ -55,51 +57,48 @@ fn standing(moment: &Moment<'_>) -> &'static str {
     }
 }
 
+// A source, the values that it starts from, the turns, and what is told of them.
+const TURNS: &[(&str, &[i64], &[u32], &str)] = &[
+    (TWO_ADD, &[0], &[1, 0], "Moved Moved 3 finished"),
+    (
+        ONE_BELOW,
+        &[i64::MAX - 1],
+        &[0, 0],
+        "Moved Done 9223372036854775807 finished",
+    ),
+    (
+        UP_AND_DOWN,
+        &[i64::MAX],
+        &[0],
+        "Overflow 9223372036854775807 under way",
+    ),
+    (
+        AUXILIARY_LOOP,
+        &[],
+        &[0, 0, 0, 0],
+        "Moved Moved Moved Moved 0 under way",
+    ),
+    (EACH_WAITS, &[0, 0], &[0, 1], "Waits Waits 0 0 stuck"),
+    (
+        WITH_MAIN,
+        &[0],
+        &[0, 1, 0, 1, 1],
+        "Early Moved Moved Moved Done 2 finished",
+    ),
+];
+
+fn turns_of(alloc: Global, source: &str, values: &[i64], turns: &[u32]) -> Result<String, Fail> {
+    let outline = outline_of(alloc, source)?;
+    let told = told_from(alloc, &outline, values, turns);
+    drop(outline);
+    told
+}
+
 #[test]
 fn takes_turns(rt: HostRuntime) -> Result<(), Fail> {
-    let alloc = rt.alloc();
-    let rows = [
-        (
-            TWO_ADD,
-            [0].as_slice(),
-            [1, 0].as_slice(),
-            "Moved Moved 3 finished",
-        ),
-        (
-            ONE_BELOW,
-            [i64::MAX - 1].as_slice(),
-            [0, 0].as_slice(),
-            "Moved Done 9223372036854775807 finished",
-        ),
-        (
-            UP_AND_DOWN,
-            [i64::MAX].as_slice(),
-            [0].as_slice(),
-            "Overflow 9223372036854775807 under way",
-        ),
-        (
-            AUXILIARY_LOOP,
-            [].as_slice(),
-            [0, 0, 0, 0].as_slice(),
-            "Moved Moved Moved Moved 0 under way",
-        ),
-        (
-            EACH_WAITS,
-            [0, 0].as_slice(),
-            [0, 1].as_slice(),
-            "Waits Waits 0 0 stuck",
-        ),
-        (
-            WITH_MAIN,
-            [0].as_slice(),
-            [0, 1, 0, 1, 1].as_slice(),
-            "Early Moved Moved Moved Done 2 finished",
-        ),
-    ];
-    for (source, values, turns, expected) in rows {
-        let outline = outline_of(alloc, source)?;
-        let got = told_from(alloc, &outline, values, turns)?;
-        assert_eq!(rt; got.as_str(), expected);
+    for (source, values, turns, expected) in TURNS {
+        let got = turns_of(rt.alloc(), source, values, turns)?;
+        assert_eq!(rt; got.as_str(), *expected);
     }
     Ok(())
 }
@@ -117,26 +116,35 @@ fn refusal(alloc: Global, started: &Result<Moment<'_>, StartError>) -> Result<St
     }
 }
 
+fn refusal_from(alloc: Global, outline: &Outline, values: &[i64]) -> Result<String, AllocError> {
+    let started = begun(alloc, outline, values);
+    let told = refusal(alloc, &started);
+    drop(started);
+    told
+}
+
 fn refusal_of(alloc: Global, source: &str, values: &[i64]) -> Result<String, Fail> {
     let outline = outline_of(alloc, source)?;
-    let started = begun(alloc, &outline, values);
-    Ok(refusal(alloc, &started)?)
+    let told = refusal_from(alloc, &outline, values);
+    drop(outline);
+    Ok(told?)
 }
+
+// A source, the values that it starts from, and the refusal.
+const STARTS: &[(&str, &[i64], &str)] = &[
+    (TWO_ADD, &[], "51 WrongLength"),
+    (TWO_ADD, &[1], "50 NotPre"),
+    (TWO_ADD, &[0], ""),
+    (ONE_BELOW, &[], "51 WrongLength"),
+    (ONE_BELOW, &[1], "50 NotPre"),
+    (ONE_BELOW, &[i64::MAX - 1], ""),
+];
 
 #[test]
 fn refuses_starts(rt: HostRuntime) -> Result<(), Fail> {
-    let alloc = rt.alloc();
-    let rows = [
-        (TWO_ADD, [].as_slice(), "51 WrongLength"),
-        (TWO_ADD, [1].as_slice(), "50 NotPre"),
-        (TWO_ADD, [0].as_slice(), ""),
-        (ONE_BELOW, [].as_slice(), "51 WrongLength"),
-        (ONE_BELOW, [1].as_slice(), "50 NotPre"),
-        (ONE_BELOW, [i64::MAX - 1].as_slice(), ""),
-    ];
-    for (source, values, expected) in rows {
-        let got = refusal_of(alloc, source, values)?;
-        assert_eq!(rt; got.as_str(), expected);
+    for (source, values, expected) in STARTS {
+        let got = refusal_of(rt.alloc(), source, values)?;
+        assert_eq!(rt; got.as_str(), *expected);
     }
     Ok(())
 }
@@ -147,10 +155,17 @@ fn expect_end<R: Abort>(rt: &R, moment: &mut Moment<'_>) {
     assert!(rt; moment.is_done(0));
 }
 
+fn expect_end_of<R: Abort>(rt: &R, alloc: Global, outline: &Outline) -> Result<(), Fail> {
+    let mut moment = begun(alloc, outline, [i64::MAX - 1].as_slice())?;
+    expect_end(rt, &mut moment);
+    drop(moment);
+    Ok(())
+}
+
 #[test]
 fn ends_after_the_last_step(rt: HostRuntime) -> Result<(), Fail> {
     let outline = outline_of(rt.alloc(), ONE_BELOW)?;
-    let mut moment = begun(rt.alloc(), &outline, [i64::MAX - 1].as_slice())?;
-    expect_end(&rt, &mut moment);
-    Ok(())
+    let told = expect_end_of(&rt, rt.alloc(), &outline);
+    drop(outline);
+    told
 }

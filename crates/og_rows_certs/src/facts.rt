@@ -147,13 +147,17 @@ fn told_of_list(alloc: Global, list: &[Condition], n: usize) -> Result<String, F
 
 fn told_of_outline(alloc: Global, outline: &Outline, n: usize) -> Result<String, Fail> {
     let list = conditions(alloc, outline)?;
-    told_of_list(alloc, &list, n)
+    let told = told_of_list(alloc, &list, n);
+    drop(list);
+    told
 }
 
 // What is told of the n-th condition of the source.
 fn told_of(alloc: Global, source: &str, n: usize) -> Result<String, Fail> {
     let outline = outline_of(alloc, source)?;
-    told_of_outline(alloc, &outline, n)
+    let told = told_of_outline(alloc, &outline, n);
+    drop(outline);
+    told
 }
 
 const AT_THE_END: &str =
@@ -171,50 +175,52 @@ const FIVE_DOUBLINGS: &str =
 const TWO_SKIPS: &str =
     "var x; {true} cobegin {true} await x = 0 then begin skip; skip end {true} coend {true}";
 
+// A source, the number of a condition, and its facts.
+const FACTS: &[(&str, usize, &str)] = &[
+    (
+        TWO_ADD,
+        3,
+        "1: (x <= 0 and -x <= 0) or (x - 2 <= 0 and -x + 2 <= 0); 2: (x + 1 <= 0) or (-x + 1 <= 0); 3: (x - 1 <= 0) or (-x + 3 <= 0); ",
+    ),
+    (
+        TWO_ADD,
+        12,
+        "1: (((x - 1 <= 0 and -x + 1 <= 0) or (x - 3 <= 0 and -x + 3 <= 0))) or (((x <= 0 and -x <= 0) or (x - 2 <= 0 and -x + 2 <= 0)) and 1 <= 0); 2: (((x - 2 <= 0 and -x + 2 <= 0) or (x - 3 <= 0 and -x + 3 <= 0))) or (((x <= 0 and -x <= 0) or (x - 1 <= 0 and -x + 1 <= 0)) and 1 <= 0); 3: (((x <= 0 and -x <= 0) or (x - 2 <= 0 and -x + 2 <= 0)) and 1 <= 0) or (((x <= 0 and -x <= 0) or (x - 1 <= 0 and -x + 1 <= 0)) and 1 <= 0); ",
+    ),
+    (
+        AT_THE_END,
+        3,
+        "1: x - 9223372036854775807 <= 0; 2: -x + 9223372036854775807 <= 0; 3: (x + 9223372036854775810 <= 0) or (-x + 9223372036854775807 <= 0); ",
+    ),
+    (
+        NOT_EVEN,
+        1,
+        "1: 2*x - 2*y - 1 <= 0; 2: -2*x + 2*y + 1 <= 0; ",
+    ),
+    (ONE_SKIP, 1, "1: 1 <= 0; "),
+    (ONE_SKIP, 2, "1: 1 <= 0; "),
+    (ONE_SKIP, 3, "1: 1 <= 0; "),
+    (ONE_SKIP, 4, "1: 1 <= 0; "),
+    (FOUR_DOUBLINGS, 2, "1: 1 <= 0; "),
+    (FIVE_DOUBLINGS, 1, "1: 1 <= 0; "),
+    (
+        FIVE_DOUBLINGS,
+        2,
+        "a coefficient or a constant is too large",
+    ),
+    (
+        FIVE_DOUBLINGS,
+        3,
+        "a coefficient or a constant is too large",
+    ),
+    (TWO_SKIPS, 3, "1: x <= 0; 2: -x <= 0; 3: 1 <= 0; "),
+];
+
 #[test]
 fn facts_of_conditions(rt: HostRuntime) -> Result<(), Fail> {
-    let rows = [
-        (
-            TWO_ADD,
-            3,
-            "1: (x <= 0 and -x <= 0) or (x - 2 <= 0 and -x + 2 <= 0); 2: (x + 1 <= 0) or (-x + 1 <= 0); 3: (x - 1 <= 0) or (-x + 3 <= 0); ",
-        ),
-        (
-            TWO_ADD,
-            12,
-            "1: (((x - 1 <= 0 and -x + 1 <= 0) or (x - 3 <= 0 and -x + 3 <= 0))) or (((x <= 0 and -x <= 0) or (x - 2 <= 0 and -x + 2 <= 0)) and 1 <= 0); 2: (((x - 2 <= 0 and -x + 2 <= 0) or (x - 3 <= 0 and -x + 3 <= 0))) or (((x <= 0 and -x <= 0) or (x - 1 <= 0 and -x + 1 <= 0)) and 1 <= 0); 3: (((x <= 0 and -x <= 0) or (x - 2 <= 0 and -x + 2 <= 0)) and 1 <= 0) or (((x <= 0 and -x <= 0) or (x - 1 <= 0 and -x + 1 <= 0)) and 1 <= 0); ",
-        ),
-        (
-            AT_THE_END,
-            3,
-            "1: x - 9223372036854775807 <= 0; 2: -x + 9223372036854775807 <= 0; 3: (x + 9223372036854775810 <= 0) or (-x + 9223372036854775807 <= 0); ",
-        ),
-        (
-            NOT_EVEN,
-            1,
-            "1: 2*x - 2*y - 1 <= 0; 2: -2*x + 2*y + 1 <= 0; ",
-        ),
-        (ONE_SKIP, 1, "1: 1 <= 0; "),
-        (ONE_SKIP, 2, "1: 1 <= 0; "),
-        (ONE_SKIP, 3, "1: 1 <= 0; "),
-        (ONE_SKIP, 4, "1: 1 <= 0; "),
-        (FOUR_DOUBLINGS, 2, "1: 1 <= 0; "),
-        (FIVE_DOUBLINGS, 1, "1: 1 <= 0; "),
-        (
-            FIVE_DOUBLINGS,
-            2,
-            "a coefficient or a constant is too large",
-        ),
-        (
-            FIVE_DOUBLINGS,
-            3,
-            "a coefficient or a constant is too large",
-        ),
-        (TWO_SKIPS, 3, "1: x <= 0; 2: -x <= 0; 3: 1 <= 0; "),
-    ];
-    for (source, n, expected) in rows {
-        let got = told_of(rt.alloc(), source, n)?;
-        assert_eq!(rt; got.as_str(), expected, "condition {n} of {source}");
+    for (source, n, expected) in FACTS {
+        let got = told_of(rt.alloc(), source, *n)?;
+        assert_eq!(rt; got.as_str(), *expected, "condition {n} of {source}");
     }
     Ok(())
 }
@@ -238,6 +244,7 @@ fn expect_same(rt: &impl Abort, alloc: Global, condition: &Condition) -> Result<
     let own = told(alloc, &facts(alloc, condition))?;
     let other = told_by_map(alloc, condition)?;
     assert_eq!(rt; other.as_str(), own.as_str());
+    drop(other);
     Ok(())
 }
 
@@ -250,22 +257,31 @@ fn expect_all_same(rt: &impl Abort, alloc: Global, list: &[Condition]) -> Result
 
 fn expect_same_by_maps(rt: &impl Abort, alloc: Global, outline: &Outline) -> Result<(), Fail> {
     let list = conditions(alloc, outline)?;
-    expect_all_same(rt, alloc, &list)
+    let told = expect_all_same(rt, alloc, &list);
+    drop(list);
+    told
+}
+
+const WITH_ACTIONS: &[&str] = &[
+    TWO_ADD,
+    TOLD_ADD,
+    SKIP_AND_ASSIGN,
+    AT_THE_END,
+    FOUR_DOUBLINGS,
+    FIVE_DOUBLINGS,
+];
+
+fn expect_same_of(rt: &impl Abort, alloc: Global, source: &str) -> Result<(), Fail> {
+    let outline = outline_of(alloc, source)?;
+    let told = expect_same_by_maps(rt, alloc, &outline);
+    drop(outline);
+    told
 }
 
 #[test]
 fn facts_by_a_prepared_map(rt: HostRuntime) -> Result<(), Fail> {
-    let alloc = rt.alloc();
-    for source in [
-        TWO_ADD,
-        TOLD_ADD,
-        SKIP_AND_ASSIGN,
-        AT_THE_END,
-        FOUR_DOUBLINGS,
-        FIVE_DOUBLINGS,
-    ] {
-        let outline = outline_of(alloc, source)?;
-        expect_same_by_maps(&rt, alloc, &outline)?;
+    for source in WITH_ACTIONS {
+        expect_same_of(&rt, rt.alloc(), source)?;
     }
     Ok(())
 }
@@ -289,14 +305,18 @@ fn expect_first(rt: &impl Abort, alloc: Global, list: &[Condition]) -> Result<()
 
 fn expect_first_of(rt: &impl Abort, alloc: Global, outline: &Outline) -> Result<(), Fail> {
     let list = conditions(alloc, outline)?;
-    expect_first(rt, alloc, &list)
+    let told = expect_first(rt, alloc, &list);
+    drop(list);
+    told
 }
 
 #[test]
 fn numbers_of_facts(rt: HostRuntime) -> Result<(), Fail> {
     let alloc = rt.alloc();
     let outline = outline_of(alloc, NOT_EVEN)?;
-    expect_first_of(&rt, alloc, &outline)
+    let told = expect_first_of(&rt, alloc, &outline);
+    drop(outline);
+    told
 }
 
 // A condition from this many initial values, two facts each.

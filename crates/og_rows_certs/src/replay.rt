@@ -104,17 +104,23 @@ fn told_of_list(alloc: Global, list: &[Condition], file: &CertFile) -> Result<St
 
 fn told_of_outline(alloc: Global, outline: &Outline, file: &CertFile) -> Result<String, Fail> {
     let list = conditions(alloc, outline)?;
-    told_of_list(alloc, &list, file)
+    let told = told_of_list(alloc, &list, file);
+    drop(list);
+    told
 }
 
 fn told_of_file(alloc: Global, source: &str, file: &CertFile) -> Result<String, Fail> {
     let outline = outline_of(alloc, source)?;
-    told_of_outline(alloc, &outline, file)
+    let told = told_of_outline(alloc, &outline, file);
+    drop(outline);
+    told
 }
 
 fn told(alloc: Global, source: &str, certs: &str) -> Result<String, Fail> {
     let file = read_certs(alloc, certs.as_bytes())?;
-    told_of_file(alloc, source, &file)
+    let told = told_of_file(alloc, source, &file);
+    drop(file);
+    told
 }
 
 fn expect_told(
@@ -162,28 +168,31 @@ const FOR_EACH_WAITS: &[Lines] = &[
     (&[7], "close 1*1|"),
 ];
 
+// The end of the outline is false at 1.
+const FOR_EQUAL_ADD: &[Lines] = &[(
+    &[11],
+    "split 1 2|split 3 2|close 1*5 1*6|close 1*4 1*6|close 1*5|",
+)];
+
+// An outline, its certificates, and what becomes of its conditions.
+type Row<'a> = (&'a str, &'a [Lines<'a>], &'a str);
+
+const AWAITS: &[Row] = &[
+    (TWO_ADD, FOR_TWO_ADD, "12 of 12 proved"),
+    (
+        EQUAL_ADD,
+        FOR_EQUAL_ADD,
+        "1: missing; 2: missing; 3: missing; 4: missing; 5: missing; 6: missing; 7: missing; 8: missing; 9: missing; 10: missing; 11: NotClosed at step 3; 12: missing; 0 of 12 proved",
+    ),
+    (EACH_WAITS, FOR_EACH_WAITS, "8: missing; 7 of 8 proved"),
+];
+
 #[test]
 fn outlines_with_awaits(rt: HostRuntime) -> Result<(), Fail> {
-    let alloc = rt.alloc();
-    expect_told(&rt, alloc, TWO_ADD, FOR_TWO_ADD, "12 of 12 proved")?;
-    // The end of the second outline is false at 1.
-    expect_told(
-        &rt,
-        alloc,
-        EQUAL_ADD,
-        &[(
-            &[11],
-            "split 1 2|split 3 2|close 1*5 1*6|close 1*4 1*6|close 1*5|",
-        )],
-        "1: missing; 2: missing; 3: missing; 4: missing; 5: missing; 6: missing; 7: missing; 8: missing; 9: missing; 10: missing; 11: NotClosed at step 3; 12: missing; 0 of 12 proved",
-    )?;
-    expect_told(
-        &rt,
-        alloc,
-        EACH_WAITS,
-        FOR_EACH_WAITS,
-        "8: missing; 7 of 8 proved",
-    )
+    for (source, certs, expected) in AWAITS {
+        expect_told(&rt, rt.alloc(), source, certs, expected)?;
+    }
+    Ok(())
 }
 
 // The two halves of an equation give the two sides of an inequality.
@@ -192,35 +201,35 @@ const BOTH_SIDES: &str = "split 3 2|close 1*2 1*4|close 1*1 1*4|";
 const AT_THE_LIMIT: &str =
     "var x;\n{x = 9223372036854775807}\ncobegin\n{x = 9223372036854775807} x := x + 1 {true}\ncoend\n{true}\n";
 
-#[test]
-fn ranges(rt: HostRuntime) -> Result<(), Fail> {
-    let alloc = rt.alloc();
-    expect_told(
-        &rt,
-        alloc,
+// A variable's own bound says nothing of its value behind the assignment.
+const WITH_BOUND: &str = "split 3 2|close 1*2 1*4|close 1*4 1*u0|";
+
+const RANGES: &[Row] = &[
+    (
         ONE_BELOW,
         &[(&[1, 2, 3, 4], BOTH_SIDES), (&[5], "close 1*3|")],
         "5 of 5 proved",
-    )?;
-    // A variable's own bound says nothing of its value behind the assignment.
-    let with_bound = "split 3 2|close 1*2 1*4|close 1*4 1*u0|";
-    for lines in [BOTH_SIDES, with_bound] {
-        expect_told(
-            &rt,
-            alloc,
-            AT_THE_LIMIT,
-            &[
-                (&[1], BOTH_SIDES),
-                (&[3], lines),
-                (&[2], "close 1*3|"),
-                (&[4, 5], "close 1*1|"),
-            ],
-            "3: NotClosed at step 3; 4 of 5 proved",
-        )?;
-    }
-    expect_told(
-        &rt,
-        alloc,
+    ),
+    (
+        AT_THE_LIMIT,
+        &[
+            (&[1, 3], BOTH_SIDES),
+            (&[2], "close 1*3|"),
+            (&[4, 5], "close 1*1|"),
+        ],
+        "3: NotClosed at step 3; 4 of 5 proved",
+    ),
+    (
+        AT_THE_LIMIT,
+        &[
+            (&[1], BOTH_SIDES),
+            (&[3], WITH_BOUND),
+            (&[2], "close 1*3|"),
+            (&[4, 5], "close 1*1|"),
+        ],
+        "3: NotClosed at step 3; 4 of 5 proved",
+    ),
+    (
         UP_AND_DOWN,
         &[
             (&[1, 2], BOTH_SIDES),
@@ -230,26 +239,35 @@ fn ranges(rt: HostRuntime) -> Result<(), Fail> {
             ),
         ],
         "3: NotClosed at step 3; 4: missing; 5: missing; 2 of 5 proved",
-    )
+    ),
+];
+
+#[test]
+fn ranges(rt: HostRuntime) -> Result<(), Fail> {
+    for (source, certs, expected) in RANGES {
+        expect_told(&rt, rt.alloc(), source, certs, expected)?;
+    }
+    Ok(())
 }
 
 const ODD: &str = "var x, y;\n{2*x = 2*y + 1}\ncobegin\n{false} skip {false}\ncoend\n{false}\n";
 
+const CUTS: &[(&str, &str)] = &[
+    ("cut 1 2|cut 2 2|close 1*3 1*4|", "4 of 4 proved"),
+    (
+        "cut 1 0|close 1*1|",
+        "1: NotDivisible at step 1; 3 of 4 proved",
+    ),
+    (
+        "cut 1 3|close 1*1|",
+        "1: NotDivisible at step 1; 3 of 4 proved",
+    ),
+];
+
 #[test]
 fn cuts(rt: HostRuntime) -> Result<(), Fail> {
     let alloc = rt.alloc();
-    let rows = [
-        ("cut 1 2|cut 2 2|close 1*3 1*4|", "4 of 4 proved"),
-        (
-            "cut 1 0|close 1*1|",
-            "1: NotDivisible at step 1; 3 of 4 proved",
-        ),
-        (
-            "cut 1 3|close 1*1|",
-            "1: NotDivisible at step 1; 3 of 4 proved",
-        ),
-    ];
-    for (lines, expected) in rows {
+    for (lines, expected) in CUTS {
         expect_told(
             &rt,
             alloc,
@@ -261,33 +279,34 @@ fn cuts(rt: HostRuntime) -> Result<(), Fail> {
     Ok(())
 }
 
+const SPLITS: &[(&str, &str)] = &[
+    (
+        "split 1 2|close 1*2|close 1*2|",
+        "6: missing; 7: missing; 7 of 9 proved",
+    ),
+    (
+        "split 1 3|close 1*2|close 1*2|close 1*2|",
+        "5: LeftOver at step 1; 6: missing; 7: missing; 6 of 9 proved",
+    ),
+    (
+        "split 1 1|close 1*2|",
+        "5: NotClosed at step 1; 6: missing; 7: missing; 6 of 9 proved",
+    ),
+    (
+        "close 1*1|",
+        "5: NotAtom at step 1; 6: missing; 7: missing; 6 of 9 proved",
+    ),
+    // The lines of the first part count, and its facts are not there in the second.
+    (
+        "split 1 2|sum 1*2|close 1*3|close 1*3|",
+        "5: NoSuchFact at step 4; 6: missing; 7: missing; 6 of 9 proved",
+    ),
+];
+
 #[test]
 fn splits(rt: HostRuntime) -> Result<(), Fail> {
     let alloc = rt.alloc();
-    let rows = [
-        (
-            "split 1 2|close 1*2|close 1*2|",
-            "6: missing; 7: missing; 7 of 9 proved",
-        ),
-        (
-            "split 1 3|close 1*2|close 1*2|close 1*2|",
-            "5: LeftOver at step 1; 6: missing; 7: missing; 6 of 9 proved",
-        ),
-        (
-            "split 1 1|close 1*2|",
-            "5: NotClosed at step 1; 6: missing; 7: missing; 6 of 9 proved",
-        ),
-        (
-            "close 1*1|",
-            "5: NotAtom at step 1; 6: missing; 7: missing; 6 of 9 proved",
-        ),
-        // The lines of the first part count, and its facts are not there in the second.
-        (
-            "split 1 2|sum 1*2|close 1*3|close 1*3|",
-            "5: NoSuchFact at step 4; 6: missing; 7: missing; 6 of 9 proved",
-        ),
-    ];
-    for (lines, expected) in rows {
+    for (lines, expected) in SPLITS {
         expect_told(
             &rt,
             alloc,
@@ -304,42 +323,43 @@ fn splits(rt: HostRuntime) -> Result<(), Fail> {
     Ok(())
 }
 
+const FAULTS: &[(&str, &str)] = &[
+    ("close 1*1|", "4 of 4 proved"),
+    (
+        "split 1 2|close 1*1|close 1*1|",
+        "1: NotSplit at step 1; 3 of 4 proved",
+    ),
+    ("close 1*2|", "1: NoSuchFact at step 1; 3 of 4 proved"),
+    ("close 1*l0|", "1: NoSuchFact at step 1; 3 of 4 proved"),
+    (
+        "sum 9223372036854775807*1|sum 9223372036854775807*2|sum 9223372036854775807*3|close 1*1|",
+        "1: TooLarge at step 3; 3 of 4 proved",
+    ),
+    (
+        "branch -170141183460469231731687303715884105728|close 1*1|close 1*1|",
+        "1: TooLarge at step 1; 3 of 4 proved",
+    ),
+    (
+        "branch 170141183460469231731687303715884105727|close 1*1|close 1*1|",
+        "4 of 4 proved",
+    ),
+    // The lines of both certificates of a branch count.
+    (
+        "branch 0|sum 1*1|close 1*1|close 0*1|",
+        "1: NotClosed at step 4; 3 of 4 proved",
+    ),
+    // A fact of the first one is not there in the second.
+    (
+        "branch 0|sum 1*1|close 1*3|close 1*3|",
+        "1: NoSuchFact at step 4; 3 of 4 proved",
+    ),
+];
+
 // What becomes of the first condition of a program whose conditions have the one fact 1 <= 0.
 #[test]
 fn faults_and_their_steps(rt: HostRuntime) -> Result<(), Fail> {
     let alloc = rt.alloc();
-    let rows = [
-        ("close 1*1|", "4 of 4 proved"),
-        (
-            "split 1 2|close 1*1|close 1*1|",
-            "1: NotSplit at step 1; 3 of 4 proved",
-        ),
-        ("close 1*2|", "1: NoSuchFact at step 1; 3 of 4 proved"),
-        ("close 1*l0|", "1: NoSuchFact at step 1; 3 of 4 proved"),
-        (
-            "sum 9223372036854775807*1|sum 9223372036854775807*2|sum 9223372036854775807*3|close 1*1|",
-            "1: TooLarge at step 3; 3 of 4 proved",
-        ),
-        (
-            "branch -170141183460469231731687303715884105728|close 1*1|close 1*1|",
-            "1: TooLarge at step 1; 3 of 4 proved",
-        ),
-        (
-            "branch 170141183460469231731687303715884105727|close 1*1|close 1*1|",
-            "4 of 4 proved",
-        ),
-        // The lines of both certificates of a branch count.
-        (
-            "branch 0|sum 1*1|close 1*1|close 0*1|",
-            "1: NotClosed at step 4; 3 of 4 proved",
-        ),
-        // A fact of the first one is not there in the second.
-        (
-            "branch 0|sum 1*1|close 1*3|close 1*3|",
-            "1: NoSuchFact at step 4; 3 of 4 proved",
-        ),
-    ];
-    for (lines, expected) in rows {
+    for (lines, expected) in FAULTS {
         expect_told(
             &rt,
             alloc,

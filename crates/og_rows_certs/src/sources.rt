@@ -36,24 +36,6 @@ pub(crate) fn add_times(out: &mut String, part: &str, times: u32) -> Result<(), 
     Ok(())
 }
 
-// Processes that are equal, with `//` between them, behind `head` and before `tail`.
-pub(crate) fn equal_processes(
-    alloc: Global,
-    head: &str,
-    process: &str,
-    others: u32,
-    tail: &str,
-) -> Result<String, AllocError> {
-    let mut out = String::from_str(alloc, head)?;
-    out.push_str(process)?;
-    for _ in 0..others {
-        out.push_str("//\n")?;
-        out.push_str(process)?;
-    }
-    out.push_str(tail)?;
-    Ok(out)
-}
-
 // The text in which `|` stands for the end of a line.
 pub(crate) fn with_lines(alloc: Global, text: &str) -> Result<String, AllocError> {
     let mut out = String::new(alloc);

@@ -6,6 +6,7 @@ use og_cert_text::{
 };
 use og_linear::Form;
 use std::alloc::{AllocError, Global};
+use std::process::Abort;
 use std::test::Fail;
 
 fn known(fact: u32) -> Term {
@@ -48,19 +49,24 @@ fn nested(alloc: Global, count: u32) -> Result<Cert, AllocError> {
     Ok(cert)
 }
 
-#[test]
-fn a_file_is_written(rt: HostRuntime) -> Result<(), Fail> {
-    let alloc = rt.alloc();
-    let mut file = CertFile::new(alloc);
+fn expect_written(rt: &impl Abort, alloc: Global, file: &mut CertFile) -> Result<(), Fail> {
     file.add(5, closed(alloc, &[known(3)])?)?;
     for n in 1..5u32 {
         file.add(n, two_cases(alloc)?)?;
     }
-    let text = write_certs(alloc, &file)?;
+    let text = write_certs(alloc, file)?;
     let wanted =
         b"og-cert 1\ncond 1\nsplit 3 2\nclose 1*2 1*4\nclose 1*1 1*4\ncond 2\nsplit 3 2\nclose 1*2 1*4\nclose 1*1 1*4\ncond 3\nsplit 3 2\nclose 1*2 1*4\nclose 1*1 1*4\ncond 4\nsplit 3 2\nclose 1*2 1*4\nclose 1*1 1*4\ncond 5\nclose 1*3\n";
     assert_eq!(rt; text.as_slice(), wanted.as_slice());
     Ok(())
+}
+
+#[test]
+fn a_file_is_written(rt: HostRuntime) -> Result<(), Fail> {
+    let mut file = CertFile::new(rt.alloc());
+    let told = expect_written(&rt, rt.alloc(), &mut file);
+    drop(file);
+    told
 }
 
 // `-3 -2*v0 1*v7`
@@ -108,10 +114,7 @@ fn each_line_is_written(rt: HostRuntime) -> Result<(), Fail> {
     Ok(())
 }
 
-#[test]
-fn a_condition_has_one_certificate(rt: HostRuntime) -> Result<(), Fail> {
-    let alloc = rt.alloc();
-    let mut file = CertFile::new(alloc);
+fn expect_one(rt: &impl Abort, alloc: Global, file: &mut CertFile) -> Result<(), Fail> {
     file.add(1, closed(alloc, &[known(1)])?)?;
     let again = file.add(1, closed(alloc, &[known(1)])?);
     assert_eq!(rt; again, Err(CertFileError::Fault(CertFileFault::Twice)));
@@ -123,9 +126,14 @@ fn a_condition_has_one_certificate(rt: HostRuntime) -> Result<(), Fail> {
 }
 
 #[test]
-fn the_numbers_of_entries_are_limited(rt: HostRuntime) -> Result<(), Fail> {
-    let alloc = rt.alloc();
-    let mut file = CertFile::new(alloc);
+fn a_condition_has_one_certificate(rt: HostRuntime) -> Result<(), Fail> {
+    let mut file = CertFile::new(rt.alloc());
+    let told = expect_one(&rt, rt.alloc(), &mut file);
+    drop(file);
+    told
+}
+
+fn expect_limits(rt: &impl Abort, alloc: Global, file: &mut CertFile) -> Result<(), Fail> {
     let zero = file.add(0, closed(alloc, &[known(1)])?);
     assert_eq!(rt; zero, Err(CertFileError::Fault(CertFileFault::BadNumber)));
     let large = file.add(1_000_000_000, closed(alloc, &[known(1)])?);
@@ -135,9 +143,14 @@ fn the_numbers_of_entries_are_limited(rt: HostRuntime) -> Result<(), Fail> {
 }
 
 #[test]
-fn certificates_are_shared(rt: HostRuntime) -> Result<(), Fail> {
-    let alloc = rt.alloc();
-    let mut file = CertFile::new(alloc);
+fn the_numbers_of_entries_are_limited(rt: HostRuntime) -> Result<(), Fail> {
+    let mut file = CertFile::new(rt.alloc());
+    let told = expect_limits(&rt, rt.alloc(), &mut file);
+    drop(file);
+    told
+}
+
+fn expect_shared(rt: &impl Abort, alloc: Global, file: &mut CertFile) -> Result<(), Fail> {
     let none = file.add_same(2, 1);
     assert_eq!(rt;
         none,
@@ -153,16 +166,21 @@ fn certificates_are_shared(rt: HostRuntime) -> Result<(), Fail> {
         file.add_same(0, 2),
         Err(CertFileError::Fault(CertFileFault::BadNumber))
     );
-    let text = write_certs(alloc, &file)?;
+    let text = write_certs(alloc, file)?;
     let wanted = b"og-cert 1\ncond 1\nclose 1*1\ncond 2\nclose 1*1\ncond 7\nclose 1*1\n";
     assert_eq!(rt; text.as_slice(), wanted.as_slice());
     Ok(())
 }
 
 #[test]
-fn depth_is_limited(rt: HostRuntime) -> Result<(), Fail> {
-    let alloc = rt.alloc();
-    let mut file = CertFile::new(alloc);
+fn certificates_are_shared(rt: HostRuntime) -> Result<(), Fail> {
+    let mut file = CertFile::new(rt.alloc());
+    let told = expect_shared(&rt, rt.alloc(), &mut file);
+    drop(file);
+    told
+}
+
+fn expect_depth(rt: &impl Abort, alloc: Global, file: &mut CertFile) -> Result<(), Fail> {
     assert!(rt; nested(alloc, 200)?.is_well_formed());
     assert!(rt; !nested(alloc, 201)?.is_well_formed());
     file.add(1, nested(alloc, 200)?)?;
@@ -174,8 +192,14 @@ fn depth_is_limited(rt: HostRuntime) -> Result<(), Fail> {
 }
 
 #[test]
-fn numbers_of_certificates_are_limited(rt: HostRuntime) -> Result<(), Fail> {
-    let alloc = rt.alloc();
+fn depth_is_limited(rt: HostRuntime) -> Result<(), Fail> {
+    let mut file = CertFile::new(rt.alloc());
+    let told = expect_depth(&rt, rt.alloc(), &mut file);
+    drop(file);
+    told
+}
+
+fn expect_numbers(rt: &impl Abort, alloc: Global, file: &mut CertFile) -> Result<(), Fail> {
     assert!(rt; !closed(alloc, &[])?.is_well_formed());
     assert!(rt; !closed(alloc, &[known(0)])?.is_well_formed());
     assert!(rt; !closed(alloc, &[known(1_000_000_000)])?.is_well_formed());
@@ -184,7 +208,6 @@ fn numbers_of_certificates_are_limited(rt: HostRuntime) -> Result<(), Fail> {
         source: Source::Known(1),
     };
     assert!(rt; !closed(alloc, &[many])?.is_well_formed());
-    let mut file = CertFile::new(alloc);
     let refused = file.add(1, closed(alloc, &[many])?);
     assert_eq!(rt;
         refused,
@@ -194,15 +217,41 @@ fn numbers_of_certificates_are_limited(rt: HostRuntime) -> Result<(), Fail> {
 }
 
 #[test]
+fn numbers_of_certificates_are_limited(rt: HostRuntime) -> Result<(), Fail> {
+    let mut file = CertFile::new(rt.alloc());
+    let told = expect_numbers(&rt, rt.alloc(), &mut file);
+    drop(file);
+    told
+}
+
+const FILE_FAULTS: &[(CertFileFault, u8, &str)] = &[
+    (CertFileFault::BadNumber, 19, "BadNumber"),
+    (CertFileFault::Twice, 21, "Twice"),
+    (CertFileFault::TooDeep, 22, "TooDeep"),
+    (CertFileFault::NoSuchCertificate, 26, "NoSuchCertificate"),
+];
+
+const TEXT_FAULTS: &[(CertTextFault, u8, &str, Option<u32>)] = &[
+    (CertTextFault::BadLine(3), 20, "BadLine", Some(3)),
+    (CertTextFault::Twice(4), 21, "Twice", Some(4)),
+    (CertTextFault::TooDeep(5), 22, "TooDeep", Some(5)),
+    (CertTextFault::CertsTooLong, 23, "CertsTooLong", None),
+    (CertTextFault::BadVersion, 24, "BadVersion", None),
+];
+
+#[test]
 fn refusals_have_numbers_and_names(rt: HostRuntime) {
-    assert_eq!(rt; CertFileFault::BadNumber.number(), 19);
-    assert_eq!(rt;
-        CertFileFault::NoSuchCertificate.name(),
-        "NoSuchCertificate"
-    );
-    assert_eq!(rt; CertTextFault::BadLine(3).number(), 20);
-    assert_eq!(rt; CertTextFault::Twice(4).line(), Some(4));
-    assert_eq!(rt; CertTextFault::CertsTooLong.number(), 23);
-    assert_eq!(rt; CertTextFault::BadVersion.name(), "BadVersion");
-    assert_eq!(rt; CertTextFault::BadVersion.line(), None);
+    for (fault, number, name) in FILE_FAULTS {
+        assert_eq!(rt; fault.number(), *number);
+        assert_eq!(rt; fault.name(), *name);
+    }
+}
+
+#[test]
+fn refusals_of_texts(rt: HostRuntime) {
+    for (fault, number, name, line) in TEXT_FAULTS {
+        assert_eq!(rt; fault.number(), *number);
+        assert_eq!(rt; fault.name(), *name);
+        assert_eq!(rt; fault.line(), *line);
+    }
 }

@@ -9,6 +9,7 @@ use og_cond::{Condition, conditions};
 use og_find::{Verdict, examine, find, find_all, has_all};
 use og_typed::Outline;
 use std::alloc::{AllocError, Global};
+use std::process::Abort;
 use std::test::Fail;
 
 const BUDGET: u64 = 100_000;
@@ -74,7 +75,9 @@ fn list_has(
     expected: &[u8],
 ) -> Result<bool, AllocError> {
     let file = find_all(alloc, list, budget)?;
-    has_letters(alloc, list, &file, budget, expected)
+    let told = has_letters(alloc, list, &file, budget, expected);
+    drop(file);
+    told
 }
 
 fn outline_has(
@@ -84,34 +87,55 @@ fn outline_has(
     expected: &[u8],
 ) -> Result<bool, Fail> {
     let list = conditions(alloc, outline)?;
-    Ok(list_has(alloc, &list, budget, expected)?)
+    let told = list_has(alloc, &list, budget, expected);
+    drop(list);
+    Ok(told?)
 }
 
 // Whether these are the letters of the conditions of a source.
 fn source_has(alloc: Global, source: &str, budget: u64, expected: &str) -> Result<bool, Fail> {
     let outline = outline_of(alloc, source)?;
-    outline_has(alloc, &outline, budget, expected.as_bytes())
+    let told = outline_has(alloc, &outline, budget, expected.as_bytes());
+    drop(outline);
+    told
+}
+
+const VERDICTS: &[(&str, u64, &str)] = &[
+    (TWO_ADD, BUDGET, "tttttttttttt"),
+    (EQUAL_ADD, BUDGET, "ttttttftftft"),
+    (TOLD_ADD, BUDGET, "tttttttttttt"),
+    (NESTED, BUDGET, "tttttttttttffftt"),
+    (NOT_EVEN, BUDGET, "tttt"),
+    (LARGE, BUDGET, "tttfttt"),
+    (NO_FACTS, BUDGET, "tftt"),
+    (NO_FACTS, 0, "oooo"),
+    (NO_FACTS, 1, "tftt"),
+    (TWO_ADD, GREATEST_BUDGET, "tttttttttttt"),
+];
+
+fn expect_letters(
+    rt: &impl Abort,
+    alloc: Global,
+    source: &str,
+    budget: u64,
+    expected: &str,
+) -> Result<(), Fail> {
+    let is_right = source_has(alloc, source, budget, expected)?;
+    assert!(rt; is_right, "{expected} of {source} with {budget}");
+    Ok(())
 }
 
 #[test]
 fn verdicts(rt: HostRuntime) -> Result<(), Fail> {
-    let alloc = rt.alloc();
-    let rows = [
-        (TWO_ADD, BUDGET, "tttttttttttt"),
-        (EQUAL_ADD, BUDGET, "ttttttftftft"),
-        (TOLD_ADD, BUDGET, "tttttttttttt"),
-        (NESTED, BUDGET, "tttttttttttffftt"),
-        (NOT_EVEN, BUDGET, "tttt"),
-        (LARGE, BUDGET, "tttfttt"),
-        (NO_FACTS, BUDGET, "tftt"),
-        (NO_FACTS, 0, "oooo"),
-        (NO_FACTS, 1, "tftt"),
-        (TWO_ADD, GREATEST_BUDGET, "tttttttttttt"),
-    ];
-    for (source, budget, expected) in rows {
-        let is_right = source_has(alloc, source, budget, expected)?;
-        assert!(rt; is_right, "{expected} of {source} with {budget}");
+    for (source, budget, expected) in VERDICTS {
+        expect_letters(&rt, rt.alloc(), source, *budget, expected)?;
     }
+    Ok(())
+}
+
+fn expect_made(rt: &impl Abort, alloc: Global, source: String, expected: &str) -> Result<(), Fail> {
+    let is_right = source_has(alloc, source.as_str(), BUDGET, expected)?;
+    assert!(rt; is_right, "{expected}");
     Ok(())
 }
 
@@ -120,25 +144,26 @@ fn verdicts(rt: HostRuntime) -> Result<(), Fail> {
 #[test]
 fn made_sources(rt: HostRuntime) -> Result<(), Fail> {
     let alloc = rt.alloc();
-    let rows = [
-        (multiplied(alloc, 2)?, "ttftt"),
-        (multiplied(alloc, 4)?, "toftt"),
-        (multiplied(alloc, 5)?, "toott"),
-        (many(alloc)?, "tftttt"),
-        (deep(alloc)?, "tttftt"),
-    ];
-    for (source, expected) in &rows {
-        let is_right = source_has(alloc, source.as_str(), BUDGET, expected)?;
-        assert!(rt; is_right, "{expected}");
-    }
-    Ok(())
+    expect_made(&rt, alloc, multiplied(alloc, 2)?, "ttftt")?;
+    expect_made(&rt, alloc, multiplied(alloc, 4)?, "toftt")?;
+    expect_made(&rt, alloc, multiplied(alloc, 5)?, "toott")?;
+    expect_made(&rt, alloc, many(alloc)?, "tftttt")?;
+    expect_made(&rt, alloc, deep(alloc)?, "tttftt")
 }
 
 // How many conditions there are, and whether all are certified.
+fn certified_list(alloc: Global, list: &[Condition]) -> Result<(usize, bool), AllocError> {
+    let file = find_all(alloc, list, BUDGET)?;
+    let all = has_all(&file, 4938);
+    drop(file);
+    Ok((list.len(), all))
+}
+
 fn certified(alloc: Global, outline: &Outline) -> Result<(usize, bool), Fail> {
     let list = conditions(alloc, outline)?;
-    let file = find_all(alloc, &list, BUDGET)?;
-    Ok((list.len(), has_all(&file, 4938)))
+    let told = certified_list(alloc, &list);
+    drop(list);
+    Ok(told?)
 }
 
 #[test]
@@ -146,14 +171,18 @@ fn many_conditions(rt: HostRuntime) -> Result<(), Fail> {
     let alloc = rt.alloc();
     let source = alike(alloc)?;
     let outline = outline_of(alloc, source.as_str())?;
-    assert!(rt; certified(alloc, &outline)? == (4938, true));
+    let told = certified(alloc, &outline);
+    drop(outline);
+    assert!(rt; told? == (4938, true));
     Ok(())
 }
 
 // The text of what is found.
 fn found(alloc: Global, list: &[Condition], budget: u64) -> Result<Vec<u8>, Fail> {
     let file = find_all(alloc, list, budget)?;
-    Ok(write_certs(alloc, &file)?)
+    let text = write_certs(alloc, &file);
+    drop(file);
+    Ok(text?)
 }
 
 fn is_same(alloc: Global, list: &[Condition]) -> Result<bool, Fail> {
@@ -164,7 +193,9 @@ fn is_same(alloc: Global, list: &[Condition]) -> Result<bool, Fail> {
 
 fn is_same_of(alloc: Global, outline: &Outline) -> Result<bool, Fail> {
     let list = conditions(alloc, outline)?;
-    is_same(alloc, &list)
+    let told = is_same(alloc, &list);
+    drop(list);
+    told
 }
 
 // The same budget or a greater one finds the same certificates.
@@ -172,6 +203,8 @@ fn is_same_of(alloc: Global, outline: &Outline) -> Result<bool, Fail> {
 fn same_certificates(rt: HostRuntime) -> Result<(), Fail> {
     let alloc = rt.alloc();
     let outline = outline_of(alloc, EQUAL_ADD)?;
-    assert!(rt; is_same_of(alloc, &outline)?);
+    let told = is_same_of(alloc, &outline);
+    drop(outline);
+    assert!(rt; told?);
     Ok(())
 }

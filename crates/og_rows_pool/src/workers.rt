@@ -157,14 +157,28 @@ fn expect_one_answer_of_most<R: Threads + Wait + Sync + Abort>(
 // The outline of eight processes.
 fn outline_of_eight(alloc: Global) -> Result<Outline, Fail> {
     let source = eight(alloc)?;
-    outline_of(alloc, source.as_str())
+    let told = outline_of(alloc, source.as_str());
+    drop(source);
+    told
+}
+
+fn expect_one_answer_of_outline<R: Threads + Wait + Sync + Abort>(
+    rt: &R,
+    alloc: Global,
+    outline: &Outline,
+) -> Result<(), Fail> {
+    let conditions = conditions(alloc, outline)?;
+    let told = expect_one_answer_of_most(rt, alloc, &conditions);
+    drop(conditions);
+    told
 }
 
 #[test]
 fn one_answer_for_all_workers(rt: HostRuntime) -> Result<(), Fail> {
     let outline = outline_of_eight(rt.alloc())?;
-    let conditions = conditions(rt.alloc(), &outline)?;
-    expect_one_answer_of_most(&rt, rt.alloc(), &conditions)
+    let told = expect_one_answer_of_outline(&rt, rt.alloc(), &outline);
+    drop(outline);
+    told
 }
 
 // An await in which x is multiplied by 2147483648, and so many times again.
@@ -210,6 +224,19 @@ fn expect_statuses<R: Threads + Wait + Sync + Abort>(
     expect_one_answer(rt, alloc, conditions, &file)
 }
 
+fn expect_too_large_of<R: Threads + Wait + Sync + Abort>(
+    rt: &R,
+    alloc: Global,
+    outline: &Outline,
+    second: Status,
+    is_third: bool,
+) -> Result<(), Fail> {
+    let conditions = conditions(alloc, outline)?;
+    let told = expect_statuses(rt, alloc, &conditions, second, is_third);
+    drop(conditions);
+    told
+}
+
 fn expect_too_large<R: Threads + Wait + Sync + Abort>(
     rt: &R,
     alloc: Global,
@@ -218,8 +245,9 @@ fn expect_too_large<R: Threads + Wait + Sync + Abort>(
     is_third: bool,
 ) -> Result<(), Fail> {
     let outline = outline_of(alloc, source)?;
-    let conditions = conditions(alloc, &outline)?;
-    expect_statuses(rt, alloc, &conditions, second, is_third)
+    let told = expect_too_large_of(rt, alloc, &outline, second, is_third);
+    drop(outline);
+    told
 }
 
 // With five the coefficient 2^155 leaves 128 bits; with four it does not.
@@ -259,12 +287,24 @@ fn expect_failed_range<R: Threads + Wait + Sync + Abort>(
     Ok(())
 }
 
+fn expect_failed_range_of<R: Threads + Wait + Sync + Abort>(
+    rt: &R,
+    alloc: Global,
+    outline: &Outline,
+) -> Result<(), Fail> {
+    let conditions = conditions(alloc, outline)?;
+    let told = expect_failed_range(rt, alloc, &conditions);
+    drop(conditions);
+    told
+}
+
 // One step that adds and takes away at the greatest value: its range does not close.
 #[test]
 fn failed_range(rt: HostRuntime) -> Result<(), Fail> {
     let outline = outline_of(rt.alloc(), UP_AND_DOWN)?;
-    let conditions = conditions(rt.alloc(), &outline)?;
-    expect_failed_range(&rt, rt.alloc(), &conditions)
+    let told = expect_failed_range_of(&rt, rt.alloc(), &outline);
+    drop(outline);
+    told
 }
 
 // Counts how often it is told of each condition, before and after.
@@ -341,11 +381,23 @@ fn expect_each_once_by_all<R: Threads + Wait + Sync + Abort>(
     expect_each_once(rt, alloc, conditions, 64)
 }
 
+fn expect_each_once_of<R: Threads + Wait + Sync + Abort>(
+    rt: &R,
+    alloc: Global,
+    outline: &Outline,
+) -> Result<(), Fail> {
+    let conditions = conditions(alloc, outline)?;
+    let told = expect_each_once_by_all(rt, alloc, &conditions);
+    drop(conditions);
+    told
+}
+
 #[test]
 fn gates_are_told_once_of_each(rt: HostRuntime) -> Result<(), Fail> {
     let outline = outline_of_eight(rt.alloc())?;
-    let conditions = conditions(rt.alloc(), &outline)?;
-    expect_each_once_by_all(&rt, rt.alloc(), &conditions)
+    let told = expect_each_once_of(&rt, rt.alloc(), &outline);
+    drop(outline);
+    told
 }
 
 // Holds condition 1 until another one is done, for at most 100,000 turns.
@@ -407,10 +459,22 @@ fn expect_no_hold_of_either<R: Threads + Wait + Sync + Abort>(
     expect_no_hold(rt, alloc, conditions, 3)
 }
 
+fn expect_no_hold_of<R: Threads + Wait + Sync + Abort>(
+    rt: &R,
+    alloc: Global,
+    outline: &Outline,
+) -> Result<(), Fail> {
+    let conditions = conditions(alloc, outline)?;
+    let told = expect_no_hold_of_either(rt, alloc, &conditions);
+    drop(conditions);
+    told
+}
+
 // Two workers really run at once, and the one that is not held draws on.
 #[test]
 fn a_worker_draws_on(rt: HostRuntime) -> Result<(), Fail> {
     let outline = outline_of_eight(rt.alloc())?;
-    let conditions = conditions(rt.alloc(), &outline)?;
-    expect_no_hold_of_either(&rt, rt.alloc(), &conditions)
+    let told = expect_no_hold_of(&rt, rt.alloc(), &outline);
+    drop(outline);
+    told
 }

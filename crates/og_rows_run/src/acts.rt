@@ -92,7 +92,9 @@ fn expect_board<R: Wait + Abort>(
 
 fn expect_row<R: Wait + Abort>(rt: &R, alloc: Global, row: &Row<'_>) -> Result<(), Fail> {
     let outline = outline_of(alloc, row.source)?;
-    expect_board(rt, alloc, &outline, row)
+    let told = expect_board(rt, alloc, &outline, row);
+    drop(outline);
+    told
 }
 
 // A guard is judged at the newest history, and a wait ends once that is longer.

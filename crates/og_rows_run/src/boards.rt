@@ -45,7 +45,9 @@ fn expect_board<R: Abort>(
 
 fn expect_row<R: Abort>(rt: &R, alloc: Global, row: &Row<'_>) -> Result<(), Fail> {
     let outline = outline_of(alloc, row.source)?;
-    expect_board(rt, alloc, &outline, row)
+    let told = expect_board(rt, alloc, &outline, row);
+    drop(outline);
+    told
 }
 
 #[test]

@@ -56,7 +56,9 @@ fn told_proved<G: Gate, R: Threads + Wait + Sync>(
 ) -> Result<String, Fail> {
     let (source, certs) = texts;
     let judgement = judged(rt, alloc, source, certs)?;
-    told_of_judged(rt, alloc, &judgement, values, gate)
+    let told = told_of_judged(rt, alloc, &judgement, values, gate);
+    drop(judgement);
+    told
 }
 
 fn expect_steps<R: Abort>(rt: &R, board: &mut ProvedBoard<'_>) {
@@ -77,7 +79,9 @@ fn expect_board<R: Abort>(rt: &R, alloc: Global, judgement: &Judgement) -> Resul
 fn proved_board_steps(rt: HostRuntime) -> Result<(), Fail> {
     let alloc = rt.alloc();
     let judgement = judged(&rt, alloc, TWO_ADD, TWO_ADD_CERTS)?;
-    expect_board(&rt, alloc, &judgement)
+    let told = expect_board(&rt, alloc, &judgement);
+    drop(judgement);
+    told
 }
 
 // Either process goes first, as the gate says.

@@ -42,75 +42,72 @@ pub(crate) fn told_of<G: Gate, R: Threads + Wait + Sync>(
     gate: &G,
 ) -> Result<String, Fail> {
     let outline = outline_of(alloc, source)?;
-    told(rt, alloc, &outline, values, limit, gate)
+    let told = told(rt, alloc, &outline, values, limit, gate);
+    drop(outline);
+    told
 }
 
-#[derive(Clone, Copy)]
-struct Row<'a> {
-    source: &'a str,
-    values: &'a [i64],
-    limit: u32,
-    told: &'a str,
-}
-
-fn case<'a>(source: &'a str, values: &'a [i64], limit: u32, told: &'a str) -> Row<'a> {
-    Row {
-        source,
-        values,
-        limit,
-        told,
-    }
-}
+// A source, the values that it starts from, the limit, and what comes of it.
+type Row<'a> = (&'a str, &'a [i64], u32, &'a str);
 
 fn expect_rows<R: Threads + Wait + Sync + Abort>(
     rt: &R,
     alloc: Global,
     rows: &[Row<'_>],
 ) -> Result<(), Fail> {
-    for row in rows {
-        let told = told_of(rt, alloc, row.source, row.values, row.limit, &OpenGate)?;
-        assert!(rt; told.as_str() == row.told, "{told}");
+    for (source, values, limit, expected) in rows {
+        let told = told_of(rt, alloc, source, values, *limit, &OpenGate)?;
+        assert!(rt; told.as_str() == *expected, "{told}");
     }
     Ok(())
 }
 
+const ENDS: &[Row] = &[
+    (
+        UP_AND_DOWN,
+        &[i64::MAX],
+        1000,
+        "Overflow(0) 9223372036854775807 ",
+    ),
+    (UP_AND_DOWN, &[i64::MAX], 0, "Limit 9223372036854775807 "),
+    (
+        ONE_OVERFLOWS,
+        &[i64::MAX],
+        10,
+        "Overflow(1) 9223372036854775807 ",
+    ),
+    (EACH_WAITS, &[0, 0], 1000, "Stuck 0 0 "),
+    (ONE_WAITS, &[0], 10, "2 1 Finished 1 "),
+    (ONE_SKIP, &[], 1, "1 Finished "),
+    (TWO_ADD, &[0], 0, "Limit 0 "),
+];
+
 #[test]
 fn runs_end(rt: HostRuntime) -> Result<(), Fail> {
-    let greatest = [i64::MAX];
-    let overflow = "Overflow(0) 9223372036854775807 ";
-    let second = "Overflow(1) 9223372036854775807 ";
-    let rows = [
-        case(UP_AND_DOWN, &greatest, 1000, overflow),
-        case(UP_AND_DOWN, &greatest, 0, "Limit 9223372036854775807 "),
-        case(ONE_OVERFLOWS, &greatest, 10, second),
-        case(EACH_WAITS, &[0, 0], 1000, "Stuck 0 0 "),
-        case(ONE_WAITS, &[0], 10, "2 1 Finished 1 "),
-        case(ONE_SKIP, &[], 1, "1 Finished "),
-        case(TWO_ADD, &[0], 0, "Limit 0 "),
-    ];
-    expect_rows(&rt, rt.alloc(), &rows)
+    expect_rows(&rt, rt.alloc(), ENDS)
 }
+
+const LIMITS: &[Row] = &[
+    (AUXILIARY_LOOP, &[], 10, "1 1 1 1 1 1 1 1 1 1 Limit 0 "),
+    (AUXILIARY_LOOP, &[], 0, "Limit 0 "),
+    (WITH_MAIN, &[7], 10, "0 1 0 Finished 2 "),
+    (WITH_MAIN, &[7], 1, "0 Limit 0 "),
+];
 
 #[test]
 fn runs_with_a_limit(rt: HostRuntime) -> Result<(), Fail> {
-    let ten_turns = "1 1 1 1 1 1 1 1 1 1 Limit 0 ";
-    let rows = [
-        case(AUXILIARY_LOOP, &[], 10, ten_turns),
-        case(AUXILIARY_LOOP, &[], 0, "Limit 0 "),
-        case(WITH_MAIN, &[7], 10, "0 1 0 Finished 2 "),
-        case(WITH_MAIN, &[7], 1, "0 Limit 0 "),
-    ];
-    expect_rows(&rt, rt.alloc(), &rows)
+    expect_rows(&rt, rt.alloc(), LIMITS)
 }
+
+const REFUSED: &[Row] = &[
+    (NO_START, &[], 1000, "50 NotPre"),
+    (TWO_ADD, &[], 10, "51 WrongLength"),
+    (TWO_ADD, &[1], 10, "50 NotPre"),
+];
 
 #[test]
 fn runs_are_refused(rt: HostRuntime) -> Result<(), Fail> {
-    let rows = [
-        case(NO_START, &[], 1000, "50 NotPre"),
-        case(TWO_ADD, &[], 10, "51 WrongLength"),
-        case(TWO_ADD, &[1], 10, "50 NotPre"),
-    ];
-    expect_rows(&rt, rt.alloc(), &rows)
+    expect_rows(&rt, rt.alloc(), REFUSED)
 }
 
 fn told_erased<R: Threads + Wait + Sync>(
@@ -119,7 +116,9 @@ fn told_erased<R: Threads + Wait + Sync>(
     outline: &Outline,
 ) -> Result<String, Fail> {
     let program = erase(alloc, outline)?;
-    told(rt, alloc, program.outline(), &[], 10, &OpenGate)
+    let told = told(rt, alloc, program.outline(), &[], 10, &OpenGate);
+    drop(program);
+    told
 }
 
 // What comes of a run of a source's program, which has no auxiliaries.
@@ -129,7 +128,9 @@ fn told_without_auxiliaries<R: Threads + Wait + Sync>(
     source: &str,
 ) -> Result<String, Fail> {
     let outline = outline_of(alloc, source)?;
-    told_erased(rt, alloc, &outline)
+    let told = told_erased(rt, alloc, &outline);
+    drop(outline);
+    told
 }
 
 #[test]
@@ -157,7 +158,9 @@ pub(crate) fn outcome_of_source<G: Gate, R: Threads + Wait + Sync>(
     gate: &G,
 ) -> Result<Outcome, Fail> {
     let outline = outline_of(alloc, source)?;
-    outcome_of(rt, alloc, &outline, gate)
+    let told = outcome_of(rt, alloc, &outline, gate);
+    drop(outline);
+    told
 }
 
 fn expect_moves<R: Abort>(rt: &R, history: &[u32], p: u32, wanted: usize) {
