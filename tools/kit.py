@@ -1,0 +1,54 @@
+"""What the tools here share: the kit's own library for crates, and the folder of this repository."""
+import importlib.machinery
+import importlib.util
+import os
+import subprocess
+import sys
+
+sys.dont_write_bytecode = True
+TOP = os.path.dirname(os.path.dirname(os.path.realpath(__file__)))
+
+
+def load():
+    """Returns the kit's module of crates, which `rt` itself uses."""
+    ran = subprocess.run(["rt", "doc"], capture_output=True, text=True, check=True)
+    file = f"{os.path.dirname(ran.stdout.strip())}/bin/rtlib.py"
+    loader = importlib.machinery.SourceFileLoader("rtlib", file)
+    module = importlib.util.module_from_spec(importlib.util.spec_from_loader("rtlib", loader))
+    sys.modules["rtlib"] = module
+    loader.exec_module(module)
+    return module
+
+
+rtlib = load()
+
+
+def crates_of(top):
+    """Returns the crates of a repository, each after those that it stands on."""
+    before = os.getcwd()
+    os.chdir(top)
+    try:
+        return rtlib.crates_below(top)
+    finally:
+        os.chdir(before)
+
+
+def take_libraries(source, target):
+    """Copies to `target` each library that `source` has built from the same files, and returns the names of the others."""
+    theirs = {crate.name: crate for crate in crates_of(source)}
+    lacking = []
+    for crate in crates_of(target):
+        given = theirs.get(crate.name)
+        if crate.is_program or crate.is_built():
+            continue
+        stamp = crate.stamp()
+        if given is None or not os.path.isdir(given.rlib) or given.stamp() != stamp:
+            lacking.append(crate.name)
+            continue
+        folder = os.path.dirname(crate.rlib)
+        subprocess.run(["rm", "-rf", folder], check=True)
+        os.makedirs(folder)
+        subprocess.run(["cp", "-a", "--reflink=auto", given.rlib, crate.rlib], check=True)
+        with open(f"{folder}/stamp", "w", encoding="utf-8") as file:
+            file.write(stamp)
+    return lacking
