@@ -3,14 +3,17 @@ use Rattle.std.proofs.Common.{◌≡◌, inl, inr, sym, subst, ℕ, Bool, List, 
 use Rattle.std.specs.Io.KnownBytes.{Appends}
 use Rattle.og_input.specs.Joined.{IsSplit}
 use Rattle.og_typed.specs.Syntax.{Program}
+use Rattle.og_typed.specs.Erase.{erased}
+use Rattle.og_erase.specs.Collected.{raw_of}
+use Rattle.og_parse.specs.Print.{program_text}
 use Rattle.og_judge.specs.declared.entry.Entry.{Entry}
 use Rattle.og_judge.specs.declared.refusal.Refusal.{Refusal}
 use Rattle.og_judge.specs.Report.{IsSource, IsReport, IsRefused}
 use Rattle.og_engine.specs.declared.answer.Answer.{Answer}
 use Rattle.og_engine.specs.declared.fault.EngineFault.{EngineFault}
 use Rattle.og_engine.specs.Answers.{report_in, status_of, IsOutput, IsChecked, IsTold, Writes, WritesJoined}
-use Rattle.og_engine.specs.Commands.{IsConditionsRefused, IsListed}
-use Rattle.og_engine.specs.Making.{IsFound}
+use Rattle.og_engine.specs.Commands.{IsConditionsRefused, IsListedOf, IsListed, IsErased}
+use Rattle.og_engine.specs.Making.{IsFoundOf, IsFound}
 use Rattle.og_engine.specs.Inputs.{source_of, certs_of, joined_of}
 use Rattle.og_engine.proofs.Fronts.{of_fronts, of_front}
 
@@ -24,10 +27,20 @@ pub turned_down : (json : Bool) (source certs : List ℕ) (why : Refusal) (r : R
 turned_down json source certs why (Err e) h told = tt
 turned_down json source certs why (Ok a) h told = inr (record { why = why; refused = h; has_line = (told.0, told.1); printed = told.2; told = told.3 })
 
-pub not_listed : (source : List ℕ) (o : Program) (why : Refusal) (r : Result Answer EngineFault) → IsSource source o → IsConditionsRefused o why
-    → IfOk r (IsTold source why) → IfOk r (IsListed source)
-not_listed source o why (Err e) s h told = tt
-not_listed source o why (Ok a) s h told = inr (o, s, inr (why, h, told))
+pub not_listed : (source : List ℕ) (o : Program) (why : Refusal) (r : Result Answer EngineFault) → IsConditionsRefused o why
+    → IfOk r (IsTold source why) → IfOk r (IsListedOf o source)
+not_listed source o why (Err e) h told = tt
+not_listed source o why (Ok a) h told = inr (why, h, told)
+
+pub listed_source : (source : List ℕ) (o : Program) (r : Result Answer EngineFault) → IsSource source o
+    → IfOk r (IsListedOf o source) → IfOk r (IsListed source)
+listed_source source o (Err e) s told = tt
+listed_source source o (Ok a) s told = inr (o, s, told)
+
+pub erased_source : (source : List ℕ) (o : Program) (r : Result Answer EngineFault) → IsSource source o
+    → IfOk r (λ a. a.text.items ≡ program_text (raw_of (erased o))) → IfOk r (λ a. a.status ≡ 0) → IfOk r (IsErased source)
+erased_source source o (Err e) s text status = tt
+erased_source source o (Ok a) s text status = inr (o, s, text, status)
 
 pub written : (json : Bool) (source certs : List ℕ) (a : Answer) (status : ℕ) (before after : Option (List ℕ)) → IsChecked json source certs a → status ≡ a.status
     → Appends before after a.text.items → Writes json source certs before after status
@@ -51,7 +64,12 @@ pub joined_engine_written : (json : Bool) (a before after : Option (List ℕ)) (
 joined_engine_written json a before after i s c answer status p cut h same appended =
     of_front (λ x. WritesJoined json x before after status) a i p (joined_written json i s c answer status before after cut h same appended)
 
-pub not_found : (source : List ℕ) (o : Program) (why : Refusal) (r : Result Answer EngineFault) → IsSource source o → IsConditionsRefused o why
-    → IfOk r (IsTold source why) → IfOk r (IsFound source)
-not_found source o why (Err e) s h told = tt
-not_found source o why (Ok a) s h told = inr (o, s, inr (why, h, told))
+pub not_found : (source : List ℕ) (o : Program) (why : Refusal) (r : Result Answer EngineFault) → IsConditionsRefused o why
+    → IfOk r (IsTold source why) → IfOk r (IsFoundOf o source)
+not_found source o why (Err e) h told = tt
+not_found source o why (Ok a) h told = inr (why, h, told)
+
+pub found_source : (source : List ℕ) (o : Program) (r : Result Answer EngineFault) → IsSource source o
+    → IfOk r (IsFoundOf o source) → IfOk r (IsFound source)
+found_source source o (Err e) s told = tt
+found_source source o (Ok a) s told = inr (o, s, told)

@@ -24,12 +24,15 @@ abbrev pub IsUnread : List ℕ → Answer → Type 0
 IsUnread source answer = (why : Refusal) × IsSourceRefused source why × IsTold source why answer
 
 -- the listing of the conditions with status 0, or the line of a refusal
+abbrev pub IsListedOf : Program → List ℕ → Answer → Type 0
+IsListedOf o source answer =
+    ((answer.text.items ≡ conditions_lines o.names source 1 (conditions o)) × (answer.status ≡ 0))
+    ⊎ ((why : Refusal) × IsConditionsRefused o why × IsTold source why answer)
+
+-- that of the source's outline, or the line of a refusal
 abbrev pub IsListed : List ℕ → Answer → Type 0
 IsListed source answer =
-    IsUnread source answer
-    ⊎ ((o : Program) × IsSource source o
-    × (((answer.text.items ≡ conditions_lines o.names source 1 (conditions o)) × (answer.status ≡ 0))
-    ⊎ ((why : Refusal) × IsConditionsRefused o why × IsTold source why answer)))
+    IsUnread source answer ⊎ ((o : Program) × IsSource source o × IsListedOf o source answer)
 
 -- the program without its auxiliaries and its assertions with status 0, or the line of a refusal
 abbrev pub IsErased : List ℕ → Answer → Type 0

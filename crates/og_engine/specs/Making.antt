@@ -28,12 +28,14 @@ abbrev pub IsFoundText : Program → Answer → Type 0
 IsFoundText o answer =
     (es : Entries) × AreOf (conditions o) es × (answer.text.items ≡ file_text es) × TellsWhetherAll (length (conditions o)) es answer.status
 
+-- that text, or the line of a refusal
+abbrev pub IsFoundOf : Program → List ℕ → Answer → Type 0
+IsFoundOf o source answer = IsFoundText o answer ⊎ ((why : Refusal) × IsConditionsRefused o why × IsTold source why answer)
+
 -- that of the source's outline, or the line of a refusal
 abbrev pub IsFound : List ℕ → Answer → Type 0
 IsFound source answer =
-    IsUnread source answer
-    ⊎ ((o : Program) × IsSource source o
-    × (IsFoundText o answer ⊎ ((why : Refusal) × IsConditionsRefused o why × IsTold source why answer)))
+    IsUnread source answer ⊎ ((o : Program) × IsSource source o × IsFoundOf o source answer)
 
 -- the text in version 2, which answers as the given one, with status 0; or the line of a refusal
 abbrev pub IsMigrated : List ℕ → Answer → Type 0

@@ -103,7 +103,11 @@ pub fn checked<G: Gate, H: Threads + Wait + Sync>(
     ensures fault { IfErr result (λ e. e ≢ EngineFault.WriteFailed) }
 {
     match judge(rt, alloc, source, certs, options.workers, gate) {
-        Ok(judgement) => of_judgement(alloc, &judgement, source, options.json),
+        Ok(judgement) => {
+            let answer = of_judgement(alloc, &judgement, source, options.json);
+            drop(judgement);
+            answer
+        }
         Err(refusal) => of_refusal(alloc, &refusal, source),
     }
 }

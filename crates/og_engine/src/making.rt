@@ -1,10 +1,10 @@
 //! The answers of the commands that make certificates.
 
-ghost use Rattle.std.specs.Prelude.{◌≡◌, ◌≤◌, length, IfOk, IfErr};
+ghost use Rattle.std.specs.Prelude.{◌≡◌, ◌≤◌, ◌^◌, length, IfOk, IfErr};
 ghost use Rattle.og_engine.specs.Commands.{IsConditionsRefused};
 ghost use Rattle.og_cert_text.specs.Shown.{shown};
 ghost use Rattle.og_cert_text.specs.Text.{file_text};
-ghost use Rattle.og_engine.specs.Making.{TellsWhetherAll, IsFoundText, IsFound, IsMigrated};
+ghost use Rattle.og_engine.specs.Making.{TellsWhetherAll, IsFoundText, IsFoundOf, IsFound, IsMigrated};
 
 use crate::answer::{Answer, of_refusal};
 use crate::fault::EngineFault;
@@ -35,6 +35,23 @@ fn of_search(alloc: Global, outline: &Outline, budget: u64) -> Result<Answer, Re
     Ok(of_file(alloc, &file, conditions.len() as u32)?)
 }
 
+// The answer for the outline of the source.
+fn found_of(
+    alloc: Global,
+    outline: &Outline,
+    source: &[u8],
+    budget: u64,
+) -> Result<Answer, EngineFault>
+    requires { length source.now ≤ 2 ^ 20 }
+    ensures answer { IfOk result (IsFoundOf outline.now source.now) }
+    ensures fault { IfErr result (λ e. e ≡ EngineFault.Memory) }
+{
+    match of_search(alloc, outline, budget) {
+        Ok(answer) => Ok(answer),
+        Err(refusal) => of_refusal(alloc, &refusal, source),
+    }
+}
+
 /// The certificates that searches find for the conditions of the outline of a source, in version 1
 /// of their text, with status 0 where each condition has one and 1 where some has none; or the line
 /// of a refusal and status 2. Each search has the budget, as in `og_find::find`.
@@ -46,12 +63,12 @@ pub fn found(alloc: Global, source: &[u8], budget: u64) -> Result<Answer, Engine
     ensures answer { IfOk result (IsFound source.now) }
     ensures fault { IfErr result (λ e. e ≡ EngineFault.Memory) }
 {
-    let outline = match read_outline(alloc, source) {
-        Ok(outline) => outline,
-        Err(refusal) => return of_refusal(alloc, &refusal, source),
-    };
-    match of_search(alloc, &outline, budget) {
-        Ok(answer) => Ok(answer),
+    match read_outline(alloc, source) {
+        Ok(outline) => {
+            let answer = found_of(alloc, &outline, source, budget);
+            drop(outline);
+            answer
+        }
         Err(refusal) => of_refusal(alloc, &refusal, source),
     }
 }
