@@ -73,8 +73,11 @@ fn expect_and(rt: &impl Abort, assertion: &Assert, forms: &[(i128, i128)]) {
 
 fn expect_after(rt: &impl Abort, alloc: Global, action: &Action) -> Result<(), Fail> {
     let assertion = one_or_three(alloc)?;
-    let after = after(alloc, action, &assertion)?;
+    let after = after(alloc, action, &assertion);
+    drop(assertion);
+    let after = after?;
     expect_or(rt, &after, &[(1, 0), (1, -2)]);
+    drop(after);
     Ok(())
 }
 
@@ -143,6 +146,12 @@ fn four_steep_assignments(rt: HostRuntime) -> Result<(), Fail> {
     expect_map(&rt, rt.alloc(), &Action::Await(&four))
 }
 
+fn expect_no_after(rt: &impl Abort, alloc: Global, action: &Action) {
+    let answer = after(alloc, action, &Assert::True);
+    expect_too_large(rt, &answer);
+    drop(answer);
+}
+
 #[test]
 fn five_steep_assignments(rt: HostRuntime) -> Result<(), Fail> {
     let alloc = rt.alloc();
@@ -150,8 +159,8 @@ fn five_steep_assignments(rt: HostRuntime) -> Result<(), Fail> {
     let action = Action::Await(&five);
     expect_too_large(&rt, &action.map(alloc));
     expect_too_large(&rt, &action.prepare(alloc));
-    expect_too_large(&rt, &after(alloc, &action, &Assert::True));
     expect_too_large(&rt, &fits(alloc, &action));
+    expect_no_after(&rt, alloc, &action);
     Ok(())
 }
 
@@ -184,13 +193,30 @@ fn expect_actions(rt: &impl Abort, single: &Stmt, whole: &Stmt, same: &[Basic]) 
     }
 }
 
+// The actions of this assignment and of this await.
+fn expect_both(rt: &impl Abort, alloc: Global, single: &Stmt, whole: &Stmt) -> Result<(), Fail> {
+    let same = body(alloc, &[(1, 1)])?;
+    expect_actions(rt, single, whole, &same);
+    Ok(())
+}
+
+// The action of this assignment, and that of an await around the same one.
+fn expect_single(rt: &impl Abort, alloc: Global, single: &Stmt) -> Result<(), Fail> {
+    let whole = Stmt::Await(Assert::True, body(alloc, &[(1, 1)])?);
+    let told = expect_both(rt, alloc, single, &whole);
+    drop(whole);
+    told
+}
+
 #[test]
 fn actions_of_statements(rt: HostRuntime) -> Result<(), Fail> {
-    let alloc = rt.alloc();
+    let single = Stmt::Assign(X, form(rt.alloc(), 1, 1)?);
+    let told = expect_single(&rt, rt.alloc(), &single);
+    drop(single);
+    told
+}
+
+#[test]
+fn no_action_of_skip(rt: HostRuntime) {
     assert!(rt; Action::of(&Stmt::Skip).is_none());
-    let single = Stmt::Assign(X, form(alloc, 1, 1)?);
-    let whole = Stmt::Await(Assert::True, body(alloc, &[(1, 1)])?);
-    let same = body(alloc, &[(1, 1)])?;
-    expect_actions(&rt, &single, &whole, &same);
-    Ok(())
 }
