@@ -162,6 +162,11 @@ pub fn judge<G: Gate, R: Threads + Wait + Sync>(
     ensures refused { IfErr result (IsRefused source.now certs.now) }
 {
     let outline = read_outline(alloc, source)?;
-    let entries = judge_conditions(rt, alloc, &outline, certs, workers, gate)?;
-    Ok(concluded(outline, entries))
+    match judge_conditions(rt, alloc, &outline, certs, workers, gate) {
+        Ok(entries) => Ok(concluded(outline, entries)),
+        Err(refusal) => {
+            drop(outline);
+            Err(refusal)
+        }
+    }
 }
