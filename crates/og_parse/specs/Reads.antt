@@ -1,6 +1,7 @@
 -- Reading the parts of the grammar, each by its first token.
 use Rattle.std.specs.Prelude.{ℕ, zero, suc, Bool, true, false, ◌&&◌, List, [], ◌∷◌, Option, unwrap_or, Ok, if◌then◌else◌}
 use Rattle.og_text.specs.declared.token.TokenKind.TheVariants as kinds
+use Rattle.og_text.specs.declared.place.Span.{Span}
 use Rattle.og_grammar.specs.Language.{Placed}
 use Rattle.og_grammar.specs.Reading.{Reader, ◌>>=◌, is_a, or, starts, symbol_at, token_at, shut_at, many_at, separated_at, if_symbol_at, with_place_at}
 use Rattle.og_parse.specs.declared.raw.RawName.{RawName}
@@ -11,7 +12,7 @@ use Rattle.og_parse.specs.declared.raw.Sign.TheVariants.{Plus, Minus}
 use Rattle.og_parse.specs.declared.raw.RawFactor.{RawFactor}
 use Rattle.og_parse.specs.declared.raw.RawFactor.TheVariants.{Variable}
 use Rattle.og_parse.specs.declared.raw.RawTerm.{RawTerm}
-use Rattle.og_parse.specs.Trees.{Sum, Assertion, Truth, Falsity, Comparison, Negation, Implication, conjunction, disjunction, Note, Basic, Skip, Assign, Stmt, Simple, While, Await, choice, Step, sequence, Seq, Outline}
+use Rattle.og_parse.specs.Trees.{Sum, Assertion, Truth, Falsity, Comparison, Negation, Implication, conjunction, disjunction, Note, Basic, Skip, Assign, Stmt, Simple, While, Await, choice, Step, sequence, Seq, Outline, Front, Back, joined}
 use Rattle.og_parse.specs.Words.{name_of, value_of, sign_of, relation_of}
 use Rattle.og_parse.specs.Grammar.{product, term}
 
@@ -305,15 +306,46 @@ main_at n = if_symbol_at kinds.Begin (rest_of_block_by (seq_at n false n))
 unfoldable pub processes_at : ℕ → Reader (List Seq)
 processes_at n = separated_at kinds.Parallel (seq_at n true n)
 
-unfoldable pub outline_at : ℕ → Reader Outline
-outline_at n tokens = do
+-- what is declared
+unfoldable pub declarations_at : Reader (List RawName × List RawAux)
+declarations_at tokens = do
   vars ← if_symbol_at kinds.Var (listed_by names_at) tokens
   auxes ← if_symbol_at kinds.Aux (listed_by auxes_at) vars.1
-  pre ← note_at n auxes.1
+  Ok ((unwrap_or vars.0 [], unwrap_or auxes.0 []), auxes.1)
+
+unfoldable pub opening_at : ℕ → Reader (Note × Option Seq)
+opening_at n tokens = do
+  pre ← note_at n tokens
   prologue ← main_at n pre.1
-  cobegin ← symbol_at kinds.Cobegin prologue.1
+  Ok ((pre.0, prologue.0), prologue.1)
+
+unfoldable pub front_at : ℕ → Reader Front
+front_at n tokens = do
+  declared ← declarations_at tokens
+  opening ← opening_at n declared.1
+  Ok (record { vars = declared.0.0; auxes = declared.0.1; pre = opening.0.0; prologue = opening.0.1 }, opening.1)
+
+unfoldable pub cobegin_at : ℕ → Reader (Span × List Seq)
+cobegin_at n tokens = do
+  cobegin ← symbol_at kinds.Cobegin tokens
   processes ← processes_at n cobegin.1
   coend ← symbol_at kinds.Coend processes.1
-  epilogue ← main_at n coend.1
+  Ok ((cobegin.0, processes.0), coend.1)
+
+unfoldable pub closing_at : ℕ → Reader (Option Seq × Note)
+closing_at n tokens = do
+  epilogue ← main_at n tokens
   post ← note_at n epilogue.1
-  Ok (record { vars = unwrap_or vars.0 []; auxes = unwrap_or auxes.0 []; pre = pre.0; prologue = prologue.0; cobegin = cobegin.0; processes = processes.0; epilogue = epilogue.0; post = post.0 }, post.1)
+  Ok ((epilogue.0, post.0), post.1)
+
+unfoldable pub back_at : ℕ → Reader Back
+back_at n tokens = do
+  middle ← cobegin_at n tokens
+  closing ← closing_at n middle.1
+  Ok (record { cobegin = middle.0.0; processes = middle.0.1; epilogue = closing.0.0; post = closing.0.1 }, closing.1)
+
+unfoldable pub outline_at : ℕ → Reader Outline
+outline_at n tokens = do
+  front ← front_at n tokens
+  back ← back_at n front.1
+  Ok (joined front.0 back.0, back.1)
