@@ -1,3 +1,4 @@
+pub mod Same
 pub mod TermLaws
 pub mod AssertionLaws
 pub mod StatementLaws

@@ -1,18 +1,18 @@
 -- The laws of reading outlines.
-use Rattle.std.proofs.Common.{◌≡◌, ℕ, ◌≤◌, ◌<◌, Bool, true, false, List, [], ◌++◌, Result, Ok, Err, refl, sym, ◌∙◌, inl, inr, arith}
+use Rattle.std.proofs.Common.{◌≡◌, ℕ, ◌≤◌, ◌<◌, Bool, true, false, List, [], Ok, refl, arith}
 use Rattle.std.specs.Prelude.{unwrap_or}
 use Rattle.og_text.specs.declared.token.TokenKind.TheVariants as kinds
 use Rattle.og_grammar.specs.Language.{Language, One, Separated}
 use Rattle.og_text.specs.declared.token.Token.{Token}
-use Rattle.og_grammar.specs.Reading.{Stop, Reader, ◌>>=◌, nothing, is_a, or, symbol_at, if_symbol_at}
+use Rattle.og_grammar.specs.Reading.{Reader, ◌>>=◌, nothing, is_a, or, symbol_at, if_symbol_at}
 use Rattle.og_grammar.proofs.Laws.{Laws}
-use Rattle.og_grammar.proofs.Wider.{Widens}
 use Rattle.og_grammar.proofs.More.{then_avoids}
 use Rattle.og_grammar.proofs.Bundle.{Reads, is_a_fails, avoids_by, symbol_avoids, then_avoids_both, if_symbol_avoids, symbol_reads, then_reads, next_reads, map_reads, separated_reads, if_symbol_reads}
 use Rattle.og_parse.specs.Trees.{Outline}
 use Rattle.og_parse.specs.Words.{name_of}
 use Rattle.og_parse.specs.Grammar.{IsAux, IsListed, IsSeq, IsMain, IsOutline}
 use Rattle.og_parse.specs.Reads.{note_at, aux_at, names_at, auxes_at, listed_by, main_at, processes_at, declarations_at, opening_at, front_at, cobegin_at, closing_at, back_at, outline_at}
+use Rattle.og_parse.proofs.Same.{nested, same_reads}
 use Rattle.og_parse.proofs.TermLaws.{name_reads, int_reads}
 use Rattle.og_parse.proofs.AssertionLaws.{note_level, note_starts}
 use Rattle.og_parse.proofs.StatementLaws.{after_seq, rest_of_block_reads, seq_level}
@@ -39,10 +39,6 @@ listed_reads all = then_reads all (λ all. map_reads (λ at. all) (symbol_reads 
 
 -- ---- an outline, one part after the other
 
-nested : {A B C : Type 0} (r : Result A Stop) (f : A → Result B Stop) (g : B → Result C Stop) → ((r >>= f) >>= g) ≡ (r >>= λ x. f x >>= g)
-nested (Ok x) f g = refl
-nested (Err e) f g = refl
-
 unfoldable by_steps : ℕ → Reader Outline
 by_steps n tokens = do
   vars ← if_symbol_at kinds.Var (listed_by names_at) tokens
@@ -59,30 +55,6 @@ by_steps n tokens = do
 steps_same : (n : ℕ) (tokens : List Token) → by_steps n tokens ≡ outline_at n tokens
 unfolding by_steps outline_at front_at declarations_at opening_at back_at cobegin_at closing_at
 steps_same n tokens = simp nested
-
--- the laws hold of a reader that gives the same
-same_laws : {X : Type 0} {read read' : Reader X} {is : Language X} {longer : ℕ → Bool} → ((tokens : List Token) → read tokens ≡ read' tokens) → Laws read is longer → Laws read' is longer
-same_laws same laws = record {
-  takes = λ tokens x rest e.
-      let t = laws.takes tokens x rest (same tokens ∙ e) in
-      record { front = t.front; parts = t.parts; is_read = t.is_read; fixed = λ other h. sym (same (t.front ++ other)) ∙ t.fixed other h };
-  stops = λ tokens kind rest e.
-      let t = laws.stops tokens kind rest (same tokens ∙ e) in
-      record { front = t.front; parts = t.parts; begins = t.begins; fixed = λ other h. sym (same (t.front ++ other)) ∙ t.fixed other h };
-  again = λ x front rest h ends. sym (same (front ++ rest)) ∙ laws.again x front rest h ends;
-}
-
-same_widens : {More : Type 0} {X : Type 0} {read read' wide wide' : Reader X} {is : Language X} → ((tokens : List Token) → read tokens ≡ read' tokens) → ((tokens : List Token) → wide tokens ≡ wide' tokens) → Widens More read wide is → Widens More read' wide' is
-same_widens same same_wide w = record {
-  keeps = λ tokens y e. sym (same_wide tokens) ∙ w.keeps tokens y (same tokens ∙ e);
-  faults = λ tokens s e. elim (w.faults tokens s (same tokens ∙ e)) [
-    | inl p ↦ inl (p.0, sym (same_wide tokens) ∙ p.1)
-    | inr g ↦ inr g
-  ];
-}
-
-same_reads : {More : Type 0} {X : Type 0} {read read' wide wide' : Reader X} {is all : Language X} {longer : ℕ → Bool} → ((tokens : List Token) → read tokens ≡ read' tokens) → ((tokens : List Token) → wide tokens ≡ wide' tokens) → Reads More read wide is all longer → Reads More read' wide' is all longer
-same_reads same same_wide r = record { laws = same_laws same r.laws; wide_laws = same_laws same_wide r.wide_laws; widens = same_widens same same_wide r.widens; some = r.some }
 
 module _ {More : Type 0} (n m : ℕ) (le : n ≤ m) (more : More → n < m) where
   main_reads : Reads More (main_at n) (main_at m) (IsMain n) (IsMain m) (or (is_a kinds.Begin) nothing)
