@@ -1,11 +1,11 @@
 //! Reading outlines.
 
-ghost use Rattle.std.specs.Prelude.{◌≡◌, option_map, unwrap_or, []};
-ghost use Rattle.og_text.specs.declared.token.TokenKind.TheVariants.{Var, Aux};
+ghost use Rattle.std.specs.Prelude.{◌≡◌, true, map, option_map, unwrap_or, []};
+ghost use Rattle.og_text.specs.declared.token.TokenKind.TheVariants.{Var, Aux, Parallel};
 ghost use Rattle.og_grammar.specs.Gives.{IsRead};
-ghost use Rattle.og_grammar.specs.Reading.{if_symbol_at, whole_at};
+ghost use Rattle.og_grammar.specs.Reading.{is_a, many_at, after_at, if_symbol_at, whole_at};
 ghost use Rattle.og_parse.specs.Trees.{note_of, seq_of, seqs_of, front_of, back_of, joined, tree_of};
-ghost use Rattle.og_parse.specs.Reads.{aux_at, names_at, auxes_at, listed_by, main_at, processes_at, declarations_at, opening_at, front_at, cobegin_at, closing_at, back_at, outline_at};
+ghost use Rattle.og_parse.specs.Reads.{aux_at, names_at, auxes_at, listed_by, seq_at, main_at, processes_at, declarations_at, opening_at, front_at, cobegin_at, closing_at, back_at, outline_at};
 
 use crate::assertions::note;
 use crate::raw::{Raw, RawAux, RawName, RawNote, RawProcesses, RawSeq};
@@ -134,6 +134,36 @@ fn main_part(
     Ok((None, tokens))
 }
 
+// The process behind a `//`.
+fn next_process(
+    alloc: Global,
+    levels: u32,
+    tokens: &[Token],
+) -> Result<(RawSeq, &[Token]), Refusal<'_>>
+    ensures { IsRead (λ x. (seq_of x.0, x.1.now)) result (after_at Parallel (seq_at levels true levels) tokens.now) }
+{
+    let (_, rest) = symbol(tokens, &TokenKind::Parallel)?;
+    sequence(alloc, levels, true, levels, rest)
+}
+
+// The processes behind the first one.
+fn other_processes(
+    alloc: Global,
+    levels: u32,
+    tokens: &[Token],
+) -> Result<(Vec<RawSeq>, &[Token]), Refusal<'_>>
+    ensures { IsRead (λ x. (map seq_of x.0.items, x.1.now)) result (many_at (is_a Parallel) (after_at Parallel (seq_at levels true levels)) tokens.now) }
+{
+    let mut others = Vec::new(alloc);
+    let mut rest = tokens;
+    'more: while starts(rest, &TokenKind::Parallel) {
+        let (next, after) = next_process(alloc, levels, rest)?;
+        others.push(next)?;
+        rest = after;
+    }
+    Ok((others, rest))
+}
+
 #[tactic(auto, unfolding(crate::specs::Reads::processes_at))]
 fn processes(
     alloc: Global,
@@ -142,15 +172,14 @@ fn processes(
 ) -> Result<(RawProcesses, &[Token]), Refusal<'_>>
     ensures { IsRead (λ x. (seqs_of x.0, x.1.now)) result (processes_at levels tokens.now) }
 {
-    let (first, mut rest) = sequence(alloc, levels, true, levels, tokens)?;
-    let mut others = Vec::new(alloc);
-    'more: while starts(rest, &TokenKind::Parallel) {
-        let (_, after) = symbol(rest, &TokenKind::Parallel)?;
-        let (next, after) = sequence(alloc, levels, true, levels, after)?;
-        others.push(next)?;
-        rest = after;
+    let (first, rest) = sequence(alloc, levels, true, levels, tokens)?;
+    match other_processes(alloc, levels, rest) {
+        Ok((others, rest)) => Ok((RawProcesses { first, others }, rest)),
+        Err(refusal) => {
+            drop(first);
+            Err(refusal)
+        }
     }
-    Ok((RawProcesses { first, others }, rest))
 }
 
 // What is declared.
