@@ -5,7 +5,7 @@ use Rattle.og_input.specs.Joined.{IsSplit}
 use Rattle.og_typed.specs.Syntax.{Program}
 use Rattle.og_typed.specs.Erase.{erased}
 use Rattle.og_erase.specs.Collected.{raw_of}
-use Rattle.og_parse.specs.Print.{program_text}
+use Rattle.og_print.specs.Print.{program_text}
 use Rattle.og_judge.specs.declared.entry.Entry.{Entry}
 use Rattle.og_judge.specs.declared.refusal.Refusal.{Refusal}
 use Rattle.og_judge.specs.Report.{IsSource, IsReport, IsRefused}

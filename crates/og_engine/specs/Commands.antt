@@ -3,7 +3,7 @@ use Rattle.std.specs.Prelude.{◌≡◌, ◌<◌, ◌⊎◌, ℕ, List, length, 
 use Rattle.og_typed.specs.Syntax.{Program}
 use Rattle.og_typed.specs.Erase.{erased}
 use Rattle.og_erase.specs.Collected.{raw_of}
-use Rattle.og_parse.specs.Print.{program_text}
+use Rattle.og_print.specs.Print.{program_text}
 use Rattle.og_cond.specs.Conditions.{conditions}
 use Rattle.og_cond.specs.declared.limits.TheConstants.{CONDITION_LIMIT}
 use Rattle.og_listing.specs.Listing.{conditions_lines}

@@ -4,7 +4,7 @@ ghost use Rattle.std.specs.Prelude.{◌≡◌, ◌≤◌, ◌^◌, length, IfOk,
 ghost use Rattle.og_parse.specs.Trees.{tree_of};
 ghost use Rattle.og_typed.specs.Erase.{erased as erased_of};
 ghost use Rattle.og_erase.specs.Collected.{raw_of};
-ghost use Rattle.og_parse.specs.Print.{program_text};
+ghost use Rattle.og_print.specs.Print.{program_text};
 ghost use Rattle.og_cond.specs.Conditions.{conditions};
 ghost use Rattle.og_listing.specs.Listing.{conditions_lines};
 ghost use Rattle.og_engine.specs.Commands.{IsConditionsRefused, IsListedOf, IsListed, IsErased};
@@ -13,7 +13,8 @@ use crate::answer::{Answer, of_refusal};
 use crate::fault::EngineFault;
 use og_erase::{Program, erase};
 use og_judge::{Refusal, read_outline};
-use og_parse::{Raw, print_program};
+use og_parse::Raw;
+use og_print::print_program;
 use og_report::conditions_text;
 use og_typed::Outline;
 use std::alloc::{AllocError, Global};

@@ -1,16 +1,17 @@
 -- The laws of reading assertions, level by level.
-use Rattle.std.proofs.Common.{◌≡◌, ℕ, zero, suc, ◌≤◌, ◌<◌, Bool, true, false, [], ◌∷◌, refl, arith}
+use Rattle.std.proofs.Common.{◌≡◌, ℕ, zero, suc, ◌≤◌, ◌<◌, Bool, true, false, List, [], ◌∷◌, Ok, refl, arith}
 use Rattle.og_text.specs.Kinds.{number_of}
 use Rattle.og_text.specs.declared.token.TokenKind.TheVariants as kinds
 use Rattle.og_text.specs.declared.token.Token.{Token}
 use Rattle.og_grammar.specs.Language.{Begins}
-use Rattle.og_grammar.specs.Reading.{nothing, is_a, or}
+use Rattle.og_grammar.specs.Reading.{Reader, ◌>>=◌, nothing, is_a, or, symbol_at}
 use Rattle.og_grammar.proofs.Laws.{Laws, Starts, Avoids, symbol_some}
 use Rattle.og_grammar.proofs.More.{gives_avoids, symbol_starts, then_starts, either_avoids, map_some, then_some}
 use Rattle.og_grammar.proofs.Bundle.{Reads, Way, open_way, shut_way, no_way, way_reads, way_starts, optional_avoids, shut_closed, starts_also, or_left, or_right, either_starts, with_place_starts, avoids_by, symbol_avoids, gives_reads, symbol_reads, then_reads, next_reads, map_reads, either_reads, separated_reads, with_place_reads, symbol_goes, either_goes}
 use Rattle.og_parse.specs.Trees.{Assertion, Truth, Falsity, Negation, Implication, conjunction, disjunction}
 use Rattle.og_parse.specs.Grammar.{IsTruth, IsFalsity, IsComparison, IsNegation, IsInParens, IsImplied, IsUnitWith, IsConjunctionWith, IsDisjunctionWith, IsAssertionWith, openings, IsAssertion, IsBraced, IsNote}
-use Rattle.og_parse.specs.Reads.{a_prefix, truth_at, falsity_at, negation_by, in_parens_by, implied_by, unit_by, units_by, conjunction_by, conjunctions_by, disjunction_by, assertion_by, prefix_by, opens, assertion_at, braced_at, note_at}
+use Rattle.og_parse.specs.Reads.{a_prefix, truth_at, falsity_at, negation_by, in_parens_by, implied_by, unit_by, units_by, conjunction_by, conjunctions_by, disjunction_by, assertion_by, prefix_by, opens, assertion_at, test_at, braced_at, note_at}
+use Rattle.og_parse.proofs.Same.{nested, same_reads}
 use Rattle.og_parse.proofs.TermLaws.{a_sum_fails, after_sum, comparison_reads, comparison_starts}
 
 -- what goes on with a conjunction, a disjunction, an assertion
@@ -30,6 +31,17 @@ truth_reads = map_reads (λ word. Truth) (symbol_reads kinds.True after_sum)
 falsity_reads : {More : Type 0} → Reads More falsity_at falsity_at IsFalsity IsFalsity after_sum
 unfolding falsity_at
 falsity_reads = map_reads (λ word. Falsity) (symbol_reads kinds.False after_sum)
+
+-- an implication, one part after the other
+unfoldable implied_steps : Reader Assertion → Assertion → Reader Assertion
+implied_steps assertion left tokens = do
+  arrow ← symbol_at kinds.Arrow tokens
+  right ← assertion arrow.1
+  Ok (Implication left right.0, right.1)
+
+implied_same : (assertion : Reader Assertion) (left : Assertion) (tokens : List Token) → implied_steps assertion left tokens ≡ implied_by assertion left tokens
+unfolding implied_steps implied_by
+implied_same assertion left tokens = simp nested
 
 -- ---- a level, over the ways that open the next
 
@@ -82,9 +94,12 @@ module _ {More : Type 0} {n m : ℕ} (ways : Ways More n m) where
   unfolding prefix_by
   prefix_reads = either_reads (is_a kinds.Not) negation_reads (then_starts (symbol_starts kinds.Not)) in_parens_reads (symbol_avoids kinds.OpenParen (is_a kinds.Not) refl)
 
+  implied_step_reads : (left : Assertion) → Reads More (implied_steps (assertion_by (opens n)) left) (implied_steps (assertion_by (opens m)) left) (IsImplied (IsAssertionWith (openings n)) left) (IsImplied (IsAssertionWith (openings m)) left) after_assertion
+  unfolding implied_steps
+  implied_step_reads left = next_reads (symbol_reads kinds.Arrow nothing) (λ at. map_reads (λ right. Implication left right) assertion_reads)
+
   implied_reads : (left : Assertion) → Reads More (implied_by (assertion_by (opens n)) left) (implied_by (assertion_by (opens m)) left) (IsImplied (IsAssertionWith (openings n)) left) (IsImplied (IsAssertionWith (openings m)) left) after_assertion
-  unfolding implied_by
-  implied_reads left = next_reads (symbol_reads kinds.Arrow nothing) (λ at. map_reads (λ right. Implication left right) assertion_reads)
+  implied_reads left = same_reads (implied_same (assertion_by (opens n)) left) (implied_same (assertion_by (opens m)) left) (implied_step_reads left)
 
   prefix_goes : (token : Token) → a_prefix (number_of token.kind) ≡ true → Begins (openings (suc n)).prefix (token ∷ [])
   prefix_goes =
@@ -127,7 +142,7 @@ module _ {More : Type 0} (n m : ℕ) (le : n ≤ m) (more : More → n < m) wher
   assertion_level = assertion_reads (ways m More n le more)
 
   braced_level : Reads More (braced_at n) (braced_at m) (IsBraced n) (IsBraced m) nothing
-  unfolding braced_at
+  unfolding braced_at test_at
   braced_level =
       next_reads (symbol_reads kinds.OpenBrace nothing)
       (λ at. then_reads assertion_level (λ a. map_reads (λ at. a) (symbol_reads kinds.CloseBrace nothing)) (λ a. symbol_avoids kinds.CloseBrace after_assertion refl))

@@ -1,3 +1,4 @@
+pub mod Same
 pub mod TermLaws
 pub mod AssertionLaws
 pub mod StatementLaws
@@ -8,14 +9,3 @@ pub mod Parsing
 pub mod Only
 pub mod Counted
 pub mod CountedTree
-mod PrintSteps
-mod Reprint
-mod ReprintSums
-mod ReprintAssertions
-mod ReprintStatements
-mod ReprintOutline
-mod CutText
-mod CutParts
-mod CutTree
-mod PlainCounts
-mod ReadBack

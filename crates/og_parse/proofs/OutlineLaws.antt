@@ -1,15 +1,18 @@
 -- The laws of reading outlines.
-use Rattle.std.proofs.Common.{ℕ, ◌≤◌, ◌<◌, Bool, true, false, List, [], refl, arith}
+use Rattle.std.proofs.Common.{◌≡◌, ℕ, ◌≤◌, ◌<◌, Bool, true, false, List, [], Ok, refl, arith}
 use Rattle.std.specs.Prelude.{unwrap_or}
 use Rattle.og_text.specs.declared.token.TokenKind.TheVariants as kinds
 use Rattle.og_grammar.specs.Language.{Language, One, Separated}
-use Rattle.og_grammar.specs.Reading.{Reader, nothing, is_a, or}
+use Rattle.og_text.specs.declared.token.Token.{Token}
+use Rattle.og_grammar.specs.Reading.{Reader, ◌>>=◌, nothing, is_a, or, symbol_at, if_symbol_at}
 use Rattle.og_grammar.proofs.Laws.{Laws}
 use Rattle.og_grammar.proofs.More.{then_avoids}
 use Rattle.og_grammar.proofs.Bundle.{Reads, is_a_fails, avoids_by, symbol_avoids, then_avoids_both, if_symbol_avoids, symbol_reads, then_reads, next_reads, map_reads, separated_reads, if_symbol_reads}
+use Rattle.og_parse.specs.Trees.{Outline}
 use Rattle.og_parse.specs.Words.{name_of}
 use Rattle.og_parse.specs.Grammar.{IsAux, IsListed, IsSeq, IsMain, IsOutline}
-use Rattle.og_parse.specs.Reads.{aux_at, names_at, auxes_at, listed_by, main_at, processes_at, outline_at}
+use Rattle.og_parse.specs.Reads.{note_at, aux_at, names_at, auxes_at, listed_by, main_at, processes_at, declarations_at, opening_at, front_at, cobegin_at, closing_at, back_at, outline_at}
+use Rattle.og_parse.proofs.Same.{nested, same_reads}
 use Rattle.og_parse.proofs.TermLaws.{name_reads, int_reads}
 use Rattle.og_parse.proofs.AssertionLaws.{note_level, note_starts}
 use Rattle.og_parse.proofs.StatementLaws.{after_seq, rest_of_block_reads, seq_level}
@@ -34,6 +37,25 @@ listed_reads : {More : Type 0} {X : Type 0} {list : Reader (List X)} {each : Lan
 unfolding listed_by
 listed_reads all = then_reads all (λ all. map_reads (λ at. all) (symbol_reads kinds.Semicolon nothing)) (λ all. symbol_avoids kinds.Semicolon after_list refl)
 
+-- ---- an outline, one part after the other
+
+unfoldable by_steps : ℕ → Reader Outline
+by_steps n tokens = do
+  vars ← if_symbol_at kinds.Var (listed_by names_at) tokens
+  auxes ← if_symbol_at kinds.Aux (listed_by auxes_at) vars.1
+  pre ← note_at n auxes.1
+  prologue ← main_at n pre.1
+  cobegin ← symbol_at kinds.Cobegin prologue.1
+  processes ← processes_at n cobegin.1
+  coend ← symbol_at kinds.Coend processes.1
+  epilogue ← main_at n coend.1
+  post ← note_at n epilogue.1
+  Ok (record { vars = unwrap_or vars.0 []; auxes = unwrap_or auxes.0 []; pre = pre.0; prologue = prologue.0; cobegin = cobegin.0; processes = processes.0; epilogue = epilogue.0; post = post.0 }, post.1)
+
+steps_same : (n : ℕ) (tokens : List Token) → by_steps n tokens ≡ outline_at n tokens
+unfolding by_steps outline_at front_at declarations_at opening_at back_at cobegin_at closing_at
+steps_same n tokens = simp nested
+
 module _ {More : Type 0} (n m : ℕ) (le : n ≤ m) (more : More → n < m) where
   main_reads : Reads More (main_at n) (main_at m) (IsMain n) (IsMain m) (or (is_a kinds.Begin) nothing)
   unfolding main_at
@@ -43,9 +65,9 @@ module _ {More : Type 0} (n m : ℕ) (le : n ≤ m) (more : More → n < m) wher
   unfolding processes_at
   processes_reads = separated_reads kinds.Parallel (seq_level true n m le more) refl
 
-  pub outline_level : Reads More (outline_at n) (outline_at m) (IsOutline n) (IsOutline m) nothing
-  unfolding outline_at
-  outline_level =
+  steps_level : Reads More (by_steps n) (by_steps m) (IsOutline n) (IsOutline m) nothing
+  unfolding by_steps
+  steps_level =
       then_reads (if_symbol_reads kinds.Var (listed_reads names_reads))
       (λ vars. then_reads (if_symbol_reads kinds.Aux (listed_reads auxes_reads))
       (λ auxes. next_reads (note_level n m le more)
@@ -60,6 +82,9 @@ module _ {More : Type 0} (n m : ℕ) (le : n ≤ m) (more : More → n < m) wher
       (λ prologue. symbol_avoids kinds.Cobegin (or (is_a kinds.Begin) nothing) refl)))
       (λ auxes. then_avoids (avoids_by (is_a_fails kinds.OpenBrace (or (is_a kinds.Aux) nothing) refl) (note_starts m))))
       (λ vars. then_avoids_both (if_symbol_avoids kinds.Aux (IsListed IsAux) (or (is_a kinds.Var) nothing) refl) (λ auxes. then_avoids (avoids_by (is_a_fails kinds.OpenBrace (or (is_a kinds.Var) nothing) refl) (note_starts m))))
+
+  pub outline_level : Reads More (outline_at n) (outline_at m) (IsOutline n) (IsOutline m) nothing
+  outline_level = same_reads (steps_same n) (steps_same m) steps_level
 
 pub outline_reads : (n m : ℕ) → n < m → Reads (Unit {0}) (outline_at n) (outline_at m) (IsOutline n) (IsOutline m) nothing
 outline_reads n m lt = outline_level n m (omega arith) (λ p. lt)

@@ -1,17 +1,18 @@
 -- The laws of reading statements, level by level.
-use Rattle.std.proofs.Common.{◌≡◌, ℕ, zero, suc, ◌≤◌, ◌<◌, Bool, true, false, [], ◌∷◌, Ok, refl, arith}
+use Rattle.std.proofs.Common.{◌≡◌, ℕ, zero, suc, ◌≤◌, ◌<◌, Bool, true, false, List, [], ◌∷◌, Ok, refl, arith}
 use Rattle.og_text.specs.Kinds.{number_of}
 use Rattle.og_text.specs.declared.token.TokenKind.TheVariants as kinds
 use Rattle.og_text.specs.declared.token.Token.{Token}
 use Rattle.og_grammar.specs.Language.{Language, Begins, Either, Separated, IfSymbol}
-use Rattle.og_grammar.specs.Reading.{Reader, ◌>>=◌, nothing, is_a, or, if_symbol_at}
+use Rattle.og_grammar.specs.Reading.{Reader, ◌>>=◌, nothing, is_a, or, symbol_at, if_symbol_at}
 use Rattle.og_grammar.proofs.Laws.{Laws, Starts, symbol_some}
 use Rattle.og_grammar.proofs.More.{starts_nothing, starts_or, starts_neither, symbol_starts, then_starts, then_avoids, either_avoids, map_some, then_some}
 use Rattle.og_grammar.proofs.Bundle.{Reads, Way, open_way, shut_way, no_way, way_reads, way_starts, shut_closed, weaken, starts_also, or_left, or_right, or_fails, or_apart, is_a_fails, either_starts, allowed_starts, with_place_starts, avoids_by, symbol_avoids, symbol_reads, then_reads, next_reads, map_reads, either_reads, allowed_reads, many_reads, separated_reads, if_symbol_reads, with_place_reads, symbol_goes, either_goes}
 use Rattle.og_grammar.proofs.Loops.{Shortens, shortens_by}
 use Rattle.og_parse.specs.Trees.{Skip, Assign, Stmt, Simple, While, Await, choice, sequence, Seq}
 use Rattle.og_parse.specs.Grammar.{IsSkip, IsAssignment, IsBasic, IsElement, IsElements, IsBody, IsSimple, IsAwait, IsRestOfBlock, IsBlock, IsIf, IsWhile, IsStmtWith, IsStepWith, IsSeqWith, compounds, IsSeq}
-use Rattle.og_parse.specs.Reads.{a_name, a_compound, a_stmt, skip_at, assignment_at, basic_at, element_at, separated_elements_at, elements_at, body_at, await_at, rest_of_block_by, block_by, if_by, while_by, stmt_by, step_by, seq_by, compound_by, compound_at, seq_at}
+use Rattle.og_parse.specs.Reads.{a_name, a_compound, a_stmt, skip_at, assignment_at, basic_at, element_at, separated_elements_at, elements_at, body_at, assertion_at, test_at, await_at, rest_of_block_by, block_by, tested_by, if_by, while_by, stmt_by, step_by, seq_by, compound_by, compound_at, seq_at}
+use Rattle.og_parse.proofs.Same.{nested, same_reads}
 use Rattle.og_parse.proofs.TermLaws.{name_reads, name_starts, sum_reads, after_sum}
 use Rattle.og_parse.proofs.AssertionLaws.{after_assertion, assertion_level, note_level, note_starts, not_below}
 
@@ -74,15 +75,57 @@ finished longer r = weaken (λ rest ends. starts_nothing rest) r
 simple_reads : {More : Type 0} → Reads More (λ tokens. basic_at tokens >>= λ basic. Ok (Simple basic.0, basic.1)) (λ tokens. basic_at tokens >>= λ basic. Ok (Simple basic.0, basic.1)) IsSimple IsSimple after_stmt
 simple_reads = weaken (λ rest ends. (starts_or (is_a kinds.Else) after_sum rest ends).1) (map_reads Simple basic_reads)
 
+-- ---- statements with a test, one part after the other
+
+unfoldable await_steps : ℕ → Reader Stmt
+await_steps n tokens = do
+  word ← symbol_at kinds.Await tokens
+  guard ← assertion_at n word.1
+  then_at ← symbol_at kinds.Then guard.1
+  body ← body_at then_at.1
+  Ok (Await guard.0 body.0, body.1)
+
+await_same : (n : ℕ) (tokens : List Token) → await_steps n tokens ≡ await_at n tokens
+unfolding await_steps await_at test_at
+await_same n tokens = simp nested
+
+unfoldable if_steps : ℕ → Reader Seq → Reader Stmt
+if_steps n seq tokens = do
+  word ← symbol_at kinds.If tokens
+  test ← assertion_at n word.1
+  then_at ← symbol_at kinds.Then test.1
+  branch ← block_by seq then_at.1
+  other ← if_symbol_at kinds.Else (block_by seq) branch.1
+  Ok (choice test.0 branch.0 other.0, other.1)
+
+if_same : (n : ℕ) (seq : Reader Seq) (tokens : List Token) → if_steps n seq tokens ≡ if_by n seq tokens
+unfolding if_steps if_by tested_by test_at
+if_same n seq tokens = simp nested
+
+unfoldable while_steps : ℕ → Reader Seq → Reader Stmt
+while_steps n seq tokens = do
+  word ← symbol_at kinds.While tokens
+  test ← assertion_at n word.1
+  do_at ← symbol_at kinds.Do test.1
+  body ← block_by seq do_at.1
+  Ok (While test.0 body.0, body.1)
+
+while_same : (n : ℕ) (seq : Reader Seq) (tokens : List Token) → while_steps n seq tokens ≡ while_by n seq tokens
+unfolding while_steps while_by tested_by test_at
+while_same n seq tokens = simp nested
+
 -- ---- a level, over the statements inside it
 
 module _ {More : Type 0} (n m : ℕ) (le : n ≤ m) (more : More → n < m) where
-  await_reads : Reads More (await_at n) (await_at m) (IsAwait n) (IsAwait m) after_stmt
-  unfolding await_at
-  await_reads =
+  await_step_reads : Reads More (await_steps n) (await_steps m) (IsAwait n) (IsAwait m) after_stmt
+  unfolding await_steps
+  await_step_reads =
       weaken (λ rest ends. (starts_or (is_a kinds.Else) after_sum rest ends).1)
       (next_reads (symbol_reads kinds.Await nothing)
       (λ at. then_reads (assertion_level n m le more) (λ guard. next_reads (symbol_reads kinds.Then nothing) (λ at. map_reads (Await guard) body_reads)) (λ guard. symbol_avoids kinds.Then after_assertion refl)))
+
+  await_reads : Reads More (await_at n) (await_at m) (IsAwait n) (IsAwait m) after_stmt
+  await_reads = same_reads (await_same n) (await_same m) await_step_reads
 
   module _ {seq wide_seq : Reader Seq} {is all : Language Seq} (inner : Reads More seq wide_seq is all after_seq) where
     pub rest_of_block_reads : Reads More (rest_of_block_by seq) (rest_of_block_by wide_seq) (IsRestOfBlock is) (IsRestOfBlock all) nothing
@@ -96,21 +139,27 @@ module _ {More : Type 0} (n m : ℕ) (le : n ≤ m) (more : More → n < m) wher
     else_reads : Reads More (if_symbol_at kinds.Else (block_by seq)) (if_symbol_at kinds.Else (block_by wide_seq)) (IfSymbol kinds.Else (IsBlock is)) (IfSymbol kinds.Else (IsBlock all)) after_stmt
     else_reads = weaken (λ rest ends. starts_neither (is_a kinds.Else) nothing rest (starts_or (is_a kinds.Else) after_sum rest ends).0 (starts_nothing rest)) (if_symbol_reads kinds.Else block_reads)
 
-    if_reads : Reads More (if_by n seq) (if_by m wide_seq) (IsIf n is) (IsIf m all) after_stmt
-    unfolding if_by
-    if_reads =
+    if_step_reads : Reads More (if_steps n seq) (if_steps m wide_seq) (IsIf n is) (IsIf m all) after_stmt
+    unfolding if_steps
+    if_step_reads =
         next_reads (symbol_reads kinds.If nothing)
         (λ at. then_reads (assertion_level n m le more)
         (λ test. next_reads (symbol_reads kinds.Then nothing) (λ at. next_reads block_reads (λ branch. map_reads (choice test branch) else_reads)))
         (λ test. symbol_avoids kinds.Then after_assertion refl))
 
-    while_reads : Reads More (while_by n seq) (while_by m wide_seq) (IsWhile n is) (IsWhile m all) after_stmt
-    unfolding while_by
-    while_reads =
+    if_reads : Reads More (if_by n seq) (if_by m wide_seq) (IsIf n is) (IsIf m all) after_stmt
+    if_reads = same_reads (if_same n seq) (if_same m wide_seq) if_step_reads
+
+    while_step_reads : Reads More (while_steps n seq) (while_steps m wide_seq) (IsWhile n is) (IsWhile m all) after_stmt
+    unfolding while_steps
+    while_step_reads =
         next_reads (symbol_reads kinds.While nothing)
         (λ at. then_reads (assertion_level n m le more)
         (λ test. next_reads (symbol_reads kinds.Do nothing) (λ at. map_reads (While test) (finished after_stmt block_reads)))
         (λ test. symbol_avoids kinds.Do after_assertion refl))
+
+    while_reads : Reads More (while_by n seq) (while_by m wide_seq) (IsWhile n is) (IsWhile m all) after_stmt
+    while_reads = same_reads (while_same n seq) (while_same m wide_seq) while_step_reads
 
     compound_reads : Reads More (compound_by n seq) (compound_by m wide_seq) (Either (IsIf n is) (IsWhile n is)) (Either (IsIf m all) (IsWhile m all)) after_stmt
     unfolding compound_by

@@ -4,6 +4,3 @@ pub mod Grammar
 pub mod Reads
 pub mod Faults
 pub mod Answers
-pub mod Print
-pub mod Plain
-pub mod Again

@@ -1,8 +1,10 @@
 -- Reading the parts of the grammar, each by its first token.
 use Rattle.std.specs.Prelude.{ℕ, zero, suc, Bool, true, false, ◌&&◌, List, [], ◌∷◌, Option, unwrap_or, Ok, if◌then◌else◌}
+use Rattle.og_text.specs.declared.token.TokenKind.{TokenKind}
 use Rattle.og_text.specs.declared.token.TokenKind.TheVariants as kinds
+use Rattle.og_text.specs.declared.place.Span.{Span}
 use Rattle.og_grammar.specs.Language.{Placed}
-use Rattle.og_grammar.specs.Reading.{Reader, ◌>>=◌, is_a, or, starts, symbol_at, token_at, shut_at, many_at, separated_at, if_symbol_at, with_place_at}
+use Rattle.og_grammar.specs.Reading.{Reader, ◌>>=◌, is_a, or, starts, symbol_at, token_at, shut_at, many_at, after_at, separated_at, if_symbol_at, with_place_at}
 use Rattle.og_parse.specs.declared.raw.RawName.{RawName}
 use Rattle.og_parse.specs.declared.raw.RawAux.{RawAux}
 use Rattle.og_parse.specs.declared.raw.RawInt.{RawInt}
@@ -11,7 +13,7 @@ use Rattle.og_parse.specs.declared.raw.Sign.TheVariants.{Plus, Minus}
 use Rattle.og_parse.specs.declared.raw.RawFactor.{RawFactor}
 use Rattle.og_parse.specs.declared.raw.RawFactor.TheVariants.{Variable}
 use Rattle.og_parse.specs.declared.raw.RawTerm.{RawTerm}
-use Rattle.og_parse.specs.Trees.{Sum, Assertion, Truth, Falsity, Comparison, Negation, Implication, conjunction, disjunction, Note, Basic, Skip, Assign, Stmt, Simple, While, Await, choice, Step, sequence, Seq, Outline}
+use Rattle.og_parse.specs.Trees.{Sum, Assertion, Truth, Falsity, Comparison, Negation, Implication, conjunction, disjunction, Note, Basic, Skip, Assign, Stmt, Simple, While, Await, choice, Step, sequence, Seq, Outline, Front, Back, joined}
 use Rattle.og_parse.specs.Words.{name_of, value_of, sign_of, relation_of}
 use Rattle.og_parse.specs.Grammar.{product, term}
 
@@ -115,8 +117,7 @@ in_parens_by assertion tokens = do
 
 unfoldable pub implied_by : Reader Assertion → Assertion → Reader Assertion
 implied_by assertion left tokens = do
-  arrow ← symbol_at kinds.Arrow tokens
-  right ← assertion arrow.1
+  right ← after_at kinds.Arrow assertion tokens
   Ok (Implication left right.0, right.1)
 
 -- what opens a level
@@ -164,12 +165,15 @@ opens (suc n) = record { prefix = prefix_by (opens n); implied = implied_by (ass
 abbrev pub assertion_at : ℕ → Reader Assertion
 assertion_at n = assertion_by (opens n)
 
+-- an assertion, and the symbol behind it
+unfoldable pub test_at : TokenKind → ℕ → Reader Assertion
+test_at kind n tokens = do
+  a ← assertion_at n tokens
+  at ← symbol_at kind a.1
+  Ok (a.0, at.1)
+
 unfoldable pub braced_at : ℕ → Reader Assertion
-braced_at n tokens = do
-  open_at ← symbol_at kinds.OpenBrace tokens
-  a ← assertion_at n open_at.1
-  close_at ← symbol_at kinds.CloseBrace a.1
-  Ok (a.0, close_at.1)
+braced_at n = after_at kinds.OpenBrace (test_at kinds.CloseBrace n)
 
 unfoldable pub note_at : ℕ → Reader Note
 note_at n = with_place_at (braced_at n)
@@ -214,9 +218,8 @@ body_at tokens =
 unfoldable pub await_at : ℕ → Reader Stmt
 await_at n tokens = do
   word ← symbol_at kinds.Await tokens
-  guard ← assertion_at n word.1
-  then_at ← symbol_at kinds.Then guard.1
-  body ← body_at then_at.1
+  guard ← test_at kinds.Then n word.1
+  body ← body_at guard.1
   Ok (Await guard.0 body.0, body.1)
 
 unfoldable pub rest_of_block_by : Reader Seq → Reader Seq
@@ -230,22 +233,25 @@ block_by seq tokens = do
   begin_at ← symbol_at kinds.Begin tokens
   rest_of_block_by seq begin_at.1
 
+-- a test, the word behind it, and a block
+unfoldable pub tested_by : TokenKind → ℕ → Reader Seq → Reader (Assertion × Seq)
+tested_by kind n seq tokens = do
+  test ← test_at kind n tokens
+  block ← block_by seq test.1
+  Ok ((test.0, block.0), block.1)
+
 unfoldable pub if_by : ℕ → Reader Seq → Reader Stmt
 if_by n seq tokens = do
   word ← symbol_at kinds.If tokens
-  test ← assertion_at n word.1
-  then_at ← symbol_at kinds.Then test.1
-  branch ← block_by seq then_at.1
-  other ← if_symbol_at kinds.Else (block_by seq) branch.1
-  Ok (choice test.0 branch.0 other.0, other.1)
+  tested ← tested_by kinds.Then n seq word.1
+  other ← if_symbol_at kinds.Else (block_by seq) tested.1
+  Ok (choice tested.0.0 tested.0.1 other.0, other.1)
 
 unfoldable pub while_by : ℕ → Reader Seq → Reader Stmt
 while_by n seq tokens = do
   word ← symbol_at kinds.While tokens
-  test ← assertion_at n word.1
-  do_at ← symbol_at kinds.Do test.1
-  body ← block_by seq do_at.1
-  Ok (While test.0 body.0, body.1)
+  tested ← tested_by kinds.Do n seq word.1
+  Ok (While tested.0.0 tested.0.1, tested.1)
 
 unfoldable pub compound_by : ℕ → Reader Seq → Reader Stmt
 compound_by n seq tokens = if starts (is_a kinds.If) tokens then if_by n seq tokens else while_by n seq tokens
@@ -305,15 +311,46 @@ main_at n = if_symbol_at kinds.Begin (rest_of_block_by (seq_at n false n))
 unfoldable pub processes_at : ℕ → Reader (List Seq)
 processes_at n = separated_at kinds.Parallel (seq_at n true n)
 
-unfoldable pub outline_at : ℕ → Reader Outline
-outline_at n tokens = do
+-- what is declared
+unfoldable pub declarations_at : Reader (List RawName × List RawAux)
+declarations_at tokens = do
   vars ← if_symbol_at kinds.Var (listed_by names_at) tokens
   auxes ← if_symbol_at kinds.Aux (listed_by auxes_at) vars.1
-  pre ← note_at n auxes.1
+  Ok ((unwrap_or vars.0 [], unwrap_or auxes.0 []), auxes.1)
+
+unfoldable pub opening_at : ℕ → Reader (Note × Option Seq)
+opening_at n tokens = do
+  pre ← note_at n tokens
   prologue ← main_at n pre.1
-  cobegin ← symbol_at kinds.Cobegin prologue.1
+  Ok ((pre.0, prologue.0), prologue.1)
+
+unfoldable pub front_at : ℕ → Reader Front
+front_at n tokens = do
+  declared ← declarations_at tokens
+  opening ← opening_at n declared.1
+  Ok (record { vars = declared.0.0; auxes = declared.0.1; pre = opening.0.0; prologue = opening.0.1 }, opening.1)
+
+unfoldable pub cobegin_at : ℕ → Reader (Span × List Seq)
+cobegin_at n tokens = do
+  cobegin ← symbol_at kinds.Cobegin tokens
   processes ← processes_at n cobegin.1
   coend ← symbol_at kinds.Coend processes.1
-  epilogue ← main_at n coend.1
+  Ok ((cobegin.0, processes.0), coend.1)
+
+unfoldable pub closing_at : ℕ → Reader (Option Seq × Note)
+closing_at n tokens = do
+  epilogue ← main_at n tokens
   post ← note_at n epilogue.1
-  Ok (record { vars = unwrap_or vars.0 []; auxes = unwrap_or auxes.0 []; pre = pre.0; prologue = prologue.0; cobegin = cobegin.0; processes = processes.0; epilogue = epilogue.0; post = post.0 }, post.1)
+  Ok ((epilogue.0, post.0), post.1)
+
+unfoldable pub back_at : ℕ → Reader Back
+back_at n tokens = do
+  middle ← cobegin_at n tokens
+  closing ← closing_at n middle.1
+  Ok (record { cobegin = middle.0.0; processes = middle.0.1; epilogue = closing.0.0; post = closing.0.1 }, closing.1)
+
+unfoldable pub outline_at : ℕ → Reader Outline
+outline_at n tokens = do
+  front ← front_at n tokens
+  back ← back_at n front.1
+  Ok (joined front.0 back.0, back.1)

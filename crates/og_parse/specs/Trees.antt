@@ -18,6 +18,8 @@ use Rattle.og_parse.specs.declared.raw.RawStmt.{RawStmt}
 use Rattle.og_parse.specs.declared.raw.RawItem.{RawItem}
 use Rattle.og_parse.specs.declared.raw.RawSeq.{RawSeq}
 use Rattle.og_parse.specs.declared.raw.RawProcesses.{RawProcesses}
+use Rattle.og_parse.specs.declared.outline.RawFront.{RawFront}
+use Rattle.og_parse.specs.declared.outline.RawBack.{RawBack}
 use Rattle.og_parse.specs.declared.raw.RawStmt.TheOpen.{RawStmt-F, RawItem-F, RawSeq-F}
 use Rattle.og_parse.specs.declared.raw.RawStmt.TheFolds.{fold-RawStmt, fold-RawSeq, fold-RawItem}
 use Rattle.og_parse.specs.declared.raw.Raw.{Raw}
@@ -104,6 +106,32 @@ pub record Outline : Type 0 where
   pub epilogue : Option Seq
   pub post : Note
 
+-- what stands before 'cobegin'
+pub record Front : Type 0 where
+  pub vars : List RawName
+  pub auxes : List RawAux
+  pub pre : Note
+  pub prologue : Option Seq
+
+-- what stands from 'cobegin' on
+pub record Back : Type 0 where
+  pub cobegin : Span
+  pub processes : List Seq
+  pub epilogue : Option Seq
+  pub post : Note
+
+abbrev pub joined : Front → Back → Outline
+joined front back = record {
+  vars = front.vars;
+  auxes = front.auxes;
+  pre = front.pre;
+  prologue = front.prologue;
+  cobegin = back.cobegin;
+  processes = back.processes;
+  epilogue = back.epilogue;
+  post = back.post;
+}
+
 -- ---- the tree of what lies in memory
 
 abbrev pub sum_of : RawSum → Sum
@@ -177,6 +205,22 @@ tree_of raw = record {
   processes = seqs_of raw.processes;
   epilogue = option_map seq_of raw.epilogue;
   post = note_of raw.post;
+}
+
+abbrev pub front_of : RawFront → Front
+front_of front = record {
+  vars = front.vars.items;
+  auxes = front.auxes.items;
+  pre = note_of front.pre;
+  prologue = option_map seq_of front.prologue;
+}
+
+abbrev pub back_of : RawBack → Back
+back_of back = record {
+  cobegin = back.cobegin;
+  processes = seqs_of back.processes;
+  epilogue = option_map seq_of back.epilogue;
+  post = note_of back.post;
 }
 
 -- ---- how many statements, outside the bodies of awaits

@@ -1,15 +1,17 @@
 //! Reading assertions.
 
-ghost use Rattle.std.specs.Prelude.{◌≡◌, map};
+ghost use Rattle.std.specs.Prelude.{◌≡◌, map, IfOk};
+ghost use Rattle.og_text.specs.declared.token.TokenKind.TheVariants.{Arrow};
 ghost use Rattle.og_grammar.specs.Gives.{IsRead};
-ghost use Rattle.og_parse.specs.Trees.{Assertion, assertion_of, note_of, conjunction, disjunction};
-ghost use Rattle.og_parse.specs.Reads.{opens, unit_by, units_by, conjunction_by, conjunctions_by, disjunction_by, assertion_at, note_at};
+ghost use Rattle.og_grammar.specs.Reading.{after_at};
+ghost use Rattle.og_parse.specs.Trees.{Assertion, Implication, assertion_of, note_of, conjunction, disjunction};
+ghost use Rattle.og_parse.specs.Reads.{opens, negation_by, in_parens_by, unit_by, units_by, conjunction_by, conjunctions_by, disjunction_by, assertion_at, test_at, note_at};
 
 use crate::raw::{RawAssert, RawNote};
 use crate::sum::comparison;
 use og_grammar::{FaultKind, Refusal, first_span, starts, symbol};
 use og_text::{Token, TokenKind};
-use std::alloc::Global;
+use std::alloc::{AllocError, Global};
 
 // The conjunction of them all; one alone is itself.
 fn and_of(mut all: Vec<RawAssert>) -> RawAssert
@@ -33,7 +35,7 @@ fn or_of(mut all: Vec<RawAssert>) -> RawAssert
 
 // What `not` or `(` opens, where `depth` levels are left.
 #[cycle(assertions)]
-#[tactic(auto, unfolding(crate::specs::Reads::prefix_by, crate::specs::Reads::negation_by, crate::specs::Reads::in_parens_by))]
+#[tactic(auto, unfolding(crate::specs::Reads::prefix_by))]
 fn prefix(alloc: Global, depth: u32, tokens: &[Token]) -> Result<(RawAssert, &[Token]), Refusal<'_>>
     ensures { IsRead (λ x. (assertion_of x.0, x.1.now)) result ((opens depth).prefix tokens.now) }
 {
@@ -41,14 +43,63 @@ fn prefix(alloc: Global, depth: u32, tokens: &[Token]) -> Result<(RawAssert, &[T
         return Err(Refusal::Fault(FaultKind::TooDeep, tokens));
     }
     if starts(tokens, &TokenKind::Not) {
-        let (_, rest) = symbol(tokens, &TokenKind::Not)?;
-        let (a, rest) = unit(alloc, depth - 1, rest)?;
-        return Ok((RawAssert::Not(Box::new(alloc, a)?), rest));
+        return negation(alloc, depth - 1, tokens);
     }
+    in_parens(alloc, depth - 1, tokens)
+}
+
+#[cycle(assertions)]
+#[tactic(auto, unfolding(crate::specs::Reads::negation_by))]
+fn negation(
+    alloc: Global,
+    depth: u32,
+    tokens: &[Token],
+) -> Result<(RawAssert, &[Token]), Refusal<'_>>
+    ensures { IsRead (λ x. (assertion_of x.0, x.1.now)) result (negation_by (unit_by (opens depth)) tokens.now) }
+{
+    let (_, rest) = symbol(tokens, &TokenKind::Not)?;
+    let (a, rest) = unit(alloc, depth, rest)?;
+    Ok((RawAssert::Not(Box::new(alloc, a)?), rest))
+}
+
+#[cycle(assertions)]
+#[tactic(auto, unfolding(crate::specs::Reads::in_parens_by))]
+fn in_parens(
+    alloc: Global,
+    depth: u32,
+    tokens: &[Token],
+) -> Result<(RawAssert, &[Token]), Refusal<'_>>
+    ensures { IsRead (λ x. (assertion_of x.0, x.1.now)) result (in_parens_by (assertion_at depth) tokens.now) }
+{
     let (_, rest) = symbol(tokens, &TokenKind::OpenParen)?;
-    let (a, rest) = assertion(alloc, depth - 1, rest)?;
-    let (_, rest) = symbol(rest, &TokenKind::CloseParen)?;
-    Ok((a, rest))
+    let (a, rest) = assertion(alloc, depth, rest)?;
+    match symbol(rest, &TokenKind::CloseParen) {
+        Ok((_, rest)) => Ok((a, rest)),
+        Err(refusal) => {
+            drop(a);
+            Err(refusal)
+        }
+    }
+}
+
+fn implication(alloc: Global, left: RawAssert, right: RawAssert) -> Result<RawAssert, AllocError>
+    ensures { IfOk result (λ a. assertion_of a ≡ Implication (assertion_of left) (assertion_of right)) }
+{
+    let left = Box::new(alloc, left)?;
+    Ok(RawAssert::Implies(left, Box::new(alloc, right)?))
+}
+
+// The assertion behind a `->`.
+#[cycle(assertions)]
+fn consequence(
+    alloc: Global,
+    depth: u32,
+    tokens: &[Token],
+) -> Result<(RawAssert, &[Token]), Refusal<'_>>
+    ensures { IsRead (λ x. (assertion_of x.0, x.1.now)) result (after_at Arrow (assertion_at depth) tokens.now) }
+{
+    let (_, after) = symbol(tokens, &TokenKind::Arrow)?;
+    assertion(alloc, depth, after)
 }
 
 // What `->` opens behind `left`, where `depth` levels are left.
@@ -63,14 +114,16 @@ fn implied(
     ensures { IsRead (λ x. (assertion_of x.0, x.1.now)) result ((opens depth).implied (assertion_of left) tokens.now) }
 {
     if depth == 0 {
+        drop(left);
         return Err(Refusal::Fault(FaultKind::TooDeep, tokens));
     }
-    let (_, rest) = symbol(tokens, &TokenKind::Arrow)?;
-    let (right, rest) = assertion(alloc, depth - 1, rest)?;
-    Ok((
-        RawAssert::Implies(Box::new(alloc, left)?, Box::new(alloc, right)?),
-        rest,
-    ))
+    match consequence(alloc, depth - 1, tokens) {
+        Ok((right, rest)) => Ok((implication(alloc, left, right)?, rest)),
+        Err(refusal) => {
+            drop(left);
+            Err(refusal)
+        }
+    }
 }
 
 #[cycle(assertions)]
@@ -177,6 +230,26 @@ pub(crate) fn assertion(
     Ok((left, rest))
 }
 
+/// Reads an assertion and the symbol behind it.
+#[tactic(auto, unfolding(crate::specs::Reads::test_at))]
+pub(crate) fn test<'a>(
+    alloc: Global,
+    depth: u32,
+    behind: &TokenKind,
+    tokens: &'a [Token],
+) -> Result<(RawAssert, &'a [Token]), Refusal<'a>>
+    ensures { IsRead (λ x. (assertion_of x.0, x.1.now)) result (test_at behind.now depth tokens.now) }
+{
+    let (a, rest) = assertion(alloc, depth, tokens)?;
+    match symbol(rest, behind) {
+        Ok((_, rest)) => Ok((a, rest)),
+        Err(refusal) => {
+            drop(a);
+            Err(refusal)
+        }
+    }
+}
+
 /// Reads an assertion in braces.
 #[tactic(auto, unfolding(crate::specs::Reads::note_at, crate::specs::Reads::braced_at))]
 pub(crate) fn note(
@@ -188,7 +261,6 @@ pub(crate) fn note(
 {
     let span = first_span(tokens);
     let (_, rest) = symbol(tokens, &TokenKind::OpenBrace)?;
-    let (assertion, rest) = assertion(alloc, depth, rest)?;
-    let (_, rest) = symbol(rest, &TokenKind::CloseBrace)?;
+    let (assertion, rest) = test(alloc, depth, &TokenKind::CloseBrace, rest)?;
     Ok((RawNote { assertion, span }, rest))
 }

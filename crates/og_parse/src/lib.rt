@@ -4,16 +4,12 @@
 //! grammar itself is in specs/Grammar.antt, as relations between trees and lists of tokens, and the
 //! faults are in specs/Faults.antt; both are apart from the reading. [`one_tree`], [`one_answer`]
 //! and [`one_count`] are laws about them, with nothing to run.
-//!
-//! [`print_outline`] and [`print_program`] give the text of a tree, as specs/Print.antt has it. What
-//! is printed of a parsed tree has the same tree again, apart from its places.
 #![tactic(auto)]
 
 mod assertions;
 mod basic;
 mod fault;
 mod outline;
-mod print;
 mod raw;
 mod statements;
 mod sum;
@@ -21,7 +17,6 @@ mod whole;
 mod word;
 
 pub use fault::{ParseError, ParseFault};
-pub use print::{print_outline, print_program};
 pub use raw::{
     Raw, RawAssert, RawAux, RawBasic, RawElement, RawFactor, RawInt, RawItem, RawName, RawNote,
     RawProcesses, RawSeq, RawStmt, RawSum, RawTerm, Relation, Sign,

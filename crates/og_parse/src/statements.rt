@@ -1,14 +1,15 @@
 //! Reading statements.
 
-ghost use Rattle.std.specs.Prelude.{◌≡◌};
+ghost use Rattle.std.specs.Prelude.{◌≡◌, option_map};
+ghost use Rattle.og_text.specs.declared.token.TokenKind.TheVariants.{Else};
 ghost use Rattle.og_grammar.specs.Gives.{IsRead};
-ghost use Rattle.og_grammar.specs.Reading.{starts};
-ghost use Rattle.og_parse.specs.Trees.{stmt_of, seq_of, note_of, step_of};
-ghost use Rattle.og_parse.specs.Reads.{a_stmt, await_at, rest_of_block_by, block_by, if_by, while_by, stmt_by, step_by, compound_at, seq_at};
+ghost use Rattle.og_grammar.specs.Reading.{starts, if_symbol_at};
+ghost use Rattle.og_parse.specs.Trees.{assertion_of, stmt_of, seq_of, note_of, step_of};
+ghost use Rattle.og_parse.specs.Reads.{a_stmt, await_at, rest_of_block_by, block_by, tested_by, if_by, while_by, stmt_by, step_by, compound_at, seq_at};
 
-use crate::assertions::{assertion, note};
+use crate::assertions::{note, test};
 use crate::basic::{basic, body};
-use crate::raw::{RawItem, RawNote, RawSeq, RawStmt};
+use crate::raw::{RawAssert, RawItem, RawNote, RawSeq, RawStmt};
 use og_grammar::{FaultKind, Refusal, first_span, starts, symbol};
 use og_text::{Span, Token, TokenKind};
 use std::alloc::Global;
@@ -47,10 +48,56 @@ fn await_stmt(
     ensures { IsRead (λ x. (stmt_of x.0, x.1.now)) result (await_at levels tokens.now) }
 {
     let (_, rest) = symbol(tokens, &TokenKind::Await)?;
-    let (guard, rest) = assertion(alloc, levels, rest)?;
-    let (_, rest) = symbol(rest, &TokenKind::Then)?;
-    let (body, rest) = body(alloc, rest)?;
-    Ok((RawStmt::Await(guard, body), rest))
+    let (guard, rest) = test(alloc, levels, &TokenKind::Then, rest)?;
+    match body(alloc, rest) {
+        Ok((body, rest)) => Ok((RawStmt::Await(guard, body), rest)),
+        Err(refusal) => {
+            drop(guard);
+            Err(refusal)
+        }
+    }
+}
+
+// A test, the word behind it, and a block.
+#[cycle(statements)]
+#[tactic(auto, unfolding(crate::specs::Reads::tested_by))]
+fn tested<'a>(
+    alloc: Global,
+    levels: u32,
+    awaits: bool,
+    depth: u32,
+    behind: &TokenKind,
+    tokens: &'a [Token],
+) -> Result<((RawAssert, RawSeq), &'a [Token]), Refusal<'a>>
+    ensures { IsRead (λ x. ((assertion_of x.0.0, seq_of x.0.1), x.1.now)) result (tested_by behind.now levels (seq_at levels awaits depth) tokens.now) }
+{
+    let (test, rest) = test(alloc, levels, behind, tokens)?;
+    match block(alloc, levels, awaits, depth, rest) {
+        Ok((all, rest)) => Ok(((test, all), rest)),
+        Err(refusal) => {
+            drop(test);
+            Err(refusal)
+        }
+    }
+}
+
+// The block behind `else`, if there is one.
+#[cycle(statements)]
+fn else_part(
+    alloc: Global,
+    levels: u32,
+    awaits: bool,
+    depth: u32,
+    tokens: &[Token],
+) -> Result<(Option<RawSeq>, &[Token]), Refusal<'_>>
+    ensures { IsRead (λ x. (option_map seq_of x.0, x.1.now)) result (if_symbol_at Else (block_by (seq_at levels awaits depth)) tokens.now) }
+{
+    if starts(tokens, &TokenKind::Else) {
+        let (_, rest) = symbol(tokens, &TokenKind::Else)?;
+        let (other, rest) = block(alloc, levels, awaits, depth, rest)?;
+        return Ok((Some(other), rest));
+    }
+    Ok((None, tokens))
 }
 
 #[cycle(statements)]
@@ -65,15 +112,14 @@ fn if_stmt(
     ensures { IsRead (λ x. (stmt_of x.0, x.1.now)) result (if_by levels (seq_at levels awaits depth) tokens.now) }
 {
     let (_, rest) = symbol(tokens, &TokenKind::If)?;
-    let (test, rest) = assertion(alloc, levels, rest)?;
-    let (_, rest) = symbol(rest, &TokenKind::Then)?;
-    let (branch, rest) = block(alloc, levels, awaits, depth, rest)?;
-    if starts(rest, &TokenKind::Else) {
-        let (_, rest) = symbol(rest, &TokenKind::Else)?;
-        let (other, rest) = block(alloc, levels, awaits, depth, rest)?;
-        return Ok((RawStmt::If(test, branch, Some(other)), rest));
+    let (tested, rest) = tested(alloc, levels, awaits, depth, &TokenKind::Then, rest)?;
+    match else_part(alloc, levels, awaits, depth, rest) {
+        Ok((other, rest)) => Ok((RawStmt::If(tested.0, tested.1, other), rest)),
+        Err(refusal) => {
+            drop(tested);
+            Err(refusal)
+        }
     }
-    Ok((RawStmt::If(test, branch, None), rest))
 }
 
 #[cycle(statements)]
@@ -88,9 +134,7 @@ fn while_stmt(
     ensures { IsRead (λ x. (stmt_of x.0, x.1.now)) result (while_by levels (seq_at levels awaits depth) tokens.now) }
 {
     let (_, rest) = symbol(tokens, &TokenKind::While)?;
-    let (test, rest) = assertion(alloc, levels, rest)?;
-    let (_, rest) = symbol(rest, &TokenKind::Do)?;
-    let (body, rest) = block(alloc, levels, awaits, depth, rest)?;
+    let ((test, body), rest) = tested(alloc, levels, awaits, depth, &TokenKind::Do, rest)?;
     Ok((RawStmt::While(test, body), rest))
 }
 
@@ -149,8 +193,13 @@ fn step(
 {
     let span = first_span(tokens);
     let (stmt, rest) = statement(alloc, levels, awaits, depth, tokens)?;
-    let (after, rest) = note(alloc, levels, rest)?;
-    Ok((RawStep { stmt, span, after }, rest))
+    match note(alloc, levels, rest) {
+        Ok((after, rest)) => Ok((RawStep { stmt, span, after }, rest)),
+        Err(refusal) => {
+            drop(stmt);
+            Err(refusal)
+        }
+    }
 }
 
 /// Reads statements with their assertions, with at most `levels` levels of assertions and `depth`
@@ -207,8 +256,13 @@ pub(crate) fn rest_of_block(
     ensures { IsRead (λ x. (seq_of x.0, x.1.now)) result (rest_of_block_by (seq_at levels awaits depth) tokens.now) }
 {
     let (all, rest) = sequence(alloc, levels, awaits, depth, tokens)?;
-    let (_, rest) = symbol(rest, &TokenKind::End)?;
-    Ok((all, rest))
+    match symbol(rest, &TokenKind::End) {
+        Ok((_, rest)) => Ok((all, rest)),
+        Err(refusal) => {
+            drop(all);
+            Err(refusal)
+        }
+    }
 }
 
 #[cycle(statements)]

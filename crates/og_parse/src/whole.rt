@@ -111,8 +111,11 @@ fn parse_excess(alloc: Global, front: &[Token], span: Span) -> ParseError
     ensures { (tokens : List Token) → IsExcess statement_limit tokens front.now span → IsParsed level_limit statement_limit tokens (Err result) }
 {
     match whole(alloc, LEVELS, front) {
-        Ok(_) => return ParseError::Fault(ParseFault::TooManyStatements(span)),
-        Err(refusal) => return excess_error(refusal, span),
+        Ok((raw, _)) => {
+            drop(raw);
+            ParseError::Fault(ParseFault::TooManyStatements(span))
+        }
+        Err(refusal) => excess_error(refusal, span),
     }
 }
 

@@ -2,7 +2,7 @@
 
 use crate::outlines::outline_of;
 use og_erase::{Program, erase};
-use og_parse::{print_outline, print_program};
+use og_print::{print_outline, print_program};
 use og_typed::Outline;
 use std::alloc::Global;
 use std::process::Abort;

@@ -2,8 +2,9 @@
 
 use og_parse::{
     Raw, RawAssert, RawBasic, RawElement, RawFactor, RawItem, RawName, RawNote, RawProcesses,
-    RawSeq, RawStmt, RawSum, RawTerm, Relation, Sign, parse, print_outline, print_program,
+    RawSeq, RawStmt, RawSum, RawTerm, Relation, Sign, parse,
 };
+use og_print::{print_outline, print_program};
 use og_text::{Name, Span, lex};
 use std::alloc::{AllocError, Global};
 use std::process::Abort;

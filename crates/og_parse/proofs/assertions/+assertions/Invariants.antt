@@ -12,6 +12,15 @@ decreases-prefix l = 8 * l.depth
 abbrev pub decreases-implied : goal.decreases-implied
 decreases-implied l = 8 * l.depth
 
+abbrev pub decreases-negation : goal.decreases-negation
+decreases-negation l = 8 * l.depth + 7
+
+abbrev pub decreases-in_parens : goal.decreases-in_parens
+decreases-in_parens l = 8 * l.depth + 7
+
+abbrev pub decreases-consequence : goal.decreases-consequence
+decreases-consequence l = 8 * l.depth + 7
+
 abbrev pub decreases-unit : goal.decreases-unit
 decreases-unit l = 8 * l.depth + 1
 

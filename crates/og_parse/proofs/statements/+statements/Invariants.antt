@@ -23,11 +23,17 @@ decreases-rest_of_block l = 8 * l.depth + 4
 abbrev pub decreases-block : goal.decreases-block
 decreases-block l = 8 * l.depth + 5
 
+abbrev pub decreases-else_part : goal.decreases-else_part
+decreases-else_part l = 8 * l.depth + 6
+
+abbrev pub decreases-tested : goal.decreases-tested
+decreases-tested l = 8 * l.depth + 6
+
 abbrev pub decreases-if_stmt : goal.decreases-if_stmt
-decreases-if_stmt l = 8 * l.depth + 6
+decreases-if_stmt l = 8 * l.depth + 7
 
 abbrev pub decreases-while_stmt : goal.decreases-while_stmt
-decreases-while_stmt l = 8 * l.depth + 6
+decreases-while_stmt l = 8 * l.depth + 7
 
 abbrev pub invariant-sequence-more : goal.invariant-sequence-more
 invariant-sequence-more l = with_items (map item_of l.items.items) (note_of l.before) (many_at a_stmt (step_by l.levels l.awaits (compound_at l.levels l.awaits l.depth)) l.rest) ≡ seq_at l.levels l.awaits l.depth l.tokens

@@ -5,7 +5,7 @@ use Rattle.og_parse.proofs.whole.parse_excess.Goals as goal
 
 pub returns-in-Ok : goal.returns-in-Ok
 unfolding level_limit
-returns-in-Ok c = λ tokens x. excess_ok level_limit statement_limit tokens c.args.front.now c.args.span x (tree_of c.in-Ok.field-0.0) c.in-Ok.field-0.1.now c.in-Ok.ensures
+returns-in-Ok c = λ tokens x. excess_ok level_limit statement_limit tokens c.args.front.now c.args.span x (tree_of c.in-Ok.raw) c.in-Ok.field-0-1.now c.in-Ok.ensures
 
 pub returns-in-Err : goal.returns-in-Err
 unfolding level_limit

@@ -1,6 +1,0 @@
-use Rattle.std.proofs.Common.{◌≡◌, ◌++◌, drop}
-use Rattle.og_parse.specs.Print.{written, later_names_in}
-use Rattle.og_parse.proofs.print.outline.put_vars.Given as goal
-
-abbrev pub invariant-loop-name : goal.invariant-loop-name
-invariant-loop-name l = l.text.items ++ later_names_in written (drop l.name-index l.later) ≡ l.initial.text.items ++ later_names_in written l.later

@@ -1,8 +1,0 @@
-//! Printing a tree.
-
-mod assertions;
-mod outline;
-mod statements;
-mod terms;
-
-pub use outline::{print_outline, print_program};

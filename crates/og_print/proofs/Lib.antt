@@ -1,0 +1,11 @@
+mod PrintSteps
+mod Reprint
+mod ReprintSums
+mod ReprintAssertions
+mod ReprintStatements
+mod ReprintOutline
+mod CutText
+mod CutParts
+mod CutTree
+mod PlainCounts
+mod ReadBack

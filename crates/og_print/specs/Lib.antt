@@ -1,0 +1,3 @@
+pub mod Print
+pub mod Plain
+pub mod Again
