@@ -1,6 +1,6 @@
 //! Assertions over numbered variables.
 
-ghost use Rattle.std.specs.Prelude.{◌≡◌, IfOk, map};
+ghost use Rattle.std.specs.Prelude.{◌≡◌, IfOk};
 ghost use Rattle.og_typed.specs.Plain.{formula};
 ghost use Rattle.og_typed.specs.Truth.{occurs, each_form};
 ghost use Rattle.og_linear.specs.Linear.{is_small};
@@ -58,7 +58,6 @@ impl Assert {
 
 impl Assert {
     /// An equal assertion.
-    #[cycle(copy)]
     #[tactic(auto, using(crate::proofs::Lists::formula_and, crate::proofs::Lists::formula_or))]
     pub fn copy(&self, alloc: Global) -> Result<Assert, AllocError>
         ensures { IfOk result (λ a. formula a ≡ formula self.now) }
@@ -69,36 +68,27 @@ impl Assert {
             Assert::Le(f) => Ok(Assert::Le(f.copy()?)),
             Assert::Eq(f) => Ok(Assert::Eq(f.copy()?)),
             Assert::Ne(f) => Ok(Assert::Ne(f.copy()?)),
-            Assert::Not(a) => Ok(Assert::Not(Assert::boxed_copy(a, alloc)?)),
-            Assert::And(all) => Ok(Assert::And(Assert::copies(all, alloc)?)),
-            Assert::Or(all) => Ok(Assert::Or(Assert::copies(all, alloc)?)),
+            Assert::Not(a) => Ok(Assert::Not(Box::new(alloc, a.copy(alloc)?)?)),
+            Assert::And(all) => {
+                let mut copies = Vec::new(alloc);
+                for a in all {
+                    copies.push(a.copy(alloc)?)?;
+                }
+                Ok(Assert::And(copies))
+            }
+            Assert::Or(all) => {
+                let mut copies = Vec::new(alloc);
+                for a in all {
+                    copies.push(a.copy(alloc)?)?;
+                }
+                Ok(Assert::Or(copies))
+            }
             Assert::Imp(a, b) => {
-                let first = Assert::boxed_copy(a, alloc)?;
-                let second = Assert::boxed_copy(b, alloc)?;
+                let first = Box::new(alloc, a.copy(alloc)?)?;
+                let second = Box::new(alloc, b.copy(alloc)?)?;
                 Ok(Assert::Imp(first, second))
             }
         }
-    }
-
-    // An equal assertion, in a box.
-    #[cycle(copy)]
-    fn boxed_copy(a: &Assert, alloc: Global) -> Result<Box<Assert>, AllocError>
-        ensures { IfOk result (λ b. formula b.value ≡ formula a.now) }
-    {
-        let copy = a.copy(alloc)?;
-        Ok(Box::new(alloc, copy)?)
-    }
-
-    // Equal assertions.
-    #[cycle(copy)]
-    fn copies(all: &[Assert], alloc: Global) -> Result<Vec<Assert>, AllocError>
-        ensures { IfOk result (λ v. map formula v.items ≡ map formula all.now) }
-    {
-        let mut copies = Vec::new(alloc);
-        for a in all {
-            copies.push(a.copy(alloc)?)?;
-        }
-        Ok(copies)
     }
 }
 
