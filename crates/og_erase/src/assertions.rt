@@ -40,18 +40,25 @@ pub(crate) fn assertion(alloc: Global, names: &[Name], a: &Assert) -> Result<Raw
         Assert::Le(f) => comparison(alloc, names, f, Relation::LessEqual),
         Assert::Eq(f) => comparison(alloc, names, f, Relation::Equal),
         Assert::Ne(f) => comparison(alloc, names, f, Relation::NotEqual),
-        Assert::Not(a) => {
-            let a = assertion(alloc, names, a)?;
-            Ok(RawAssert::Not(Box::new(alloc, a)?))
-        }
+        Assert::Not(a) => Ok(RawAssert::Not(boxed(alloc, names, a)?)),
         Assert::And(all) => Ok(RawAssert::And(assertions(alloc, names, all)?)),
         Assert::Or(all) => Ok(RawAssert::Or(assertions(alloc, names, all)?)),
         Assert::Imp(a, b) => {
-            let a = assertion(alloc, names, a)?;
-            let b = assertion(alloc, names, b)?;
-            Ok(RawAssert::Implies(Box::new(alloc, a)?, Box::new(alloc, b)?))
+            let a = boxed(alloc, names, a)?;
+            let b = boxed(alloc, names, b)?;
+            Ok(RawAssert::Implies(a, b))
         }
     }
+}
+
+// An assertion, in a box.
+#[cycle(assertions)]
+fn boxed(alloc: Global, names: &[Name], a: &Assert) -> Result<Box<RawAssert>, AllocError>
+    requires { IsUsable (length names.now) (formula a.now) }
+    ensures { IfOk result (λ b. assertion_of b.value ≡ collected.assertion names.now (formula a.now)) }
+{
+    let a = assertion(alloc, names, a)?;
+    Ok(Box::new(alloc, a)?)
 }
 
 #[cycle(assertions)]

@@ -7,7 +7,7 @@ ghost use Rattle.og_typed.specs.Plain as plain;
 
 use crate::copies::{blank_note, copy_basic, copy_names, copy_note};
 use crate::program::Program;
-use og_typed::{Basic, Item, Outline, Parts, Seq, Stmt};
+use og_typed::{Assert, Basic, Item, Outline, Parts, Seq, Stmt};
 use std::alloc::{AllocError, Global};
 
 // The statements of an await that assign no auxiliary.
@@ -42,6 +42,30 @@ fn is_aux_assign(vars: u32, stmt: &Stmt) -> bool
     }
 }
 
+// The sequence without the assignments to auxiliaries, in a box.
+#[cycle(sequences)]
+fn block(alloc: Global, vars: u32, seq: &Seq) -> Result<Box<Seq>, AllocError>
+    ensures { IfOk result (λ b. plain.sequence b.value ≡ erase.erase_seq vars (plain.sequence seq.now)) }
+{
+    let seq = sequence(alloc, vars, seq)?;
+    Ok(Box::new(alloc, seq)?)
+}
+
+// The sequence without the assignments to auxiliaries, and a copy of the test before it.
+#[cycle(sequences)]
+fn guarded(
+    alloc: Global,
+    vars: u32,
+    seq: &Seq,
+    test: &Assert,
+) -> Result<(Box<Seq>, Assert), AllocError>
+    ensures seq { IfOk result (λ p. plain.sequence p.0.value ≡ erase.erase_seq vars (plain.sequence seq.now)) }
+    ensures test { IfOk result (λ p. plain.formula p.1 ≡ plain.formula test.now) }
+{
+    let block = block(alloc, vars, seq)?;
+    Ok((block, test.copy(alloc)?))
+}
+
 // The statement without the assignments to auxiliaries inside it.
 #[cycle(sequences)]
 fn statement(alloc: Global, vars: u32, stmt: &Stmt) -> Result<Stmt, AllocError>
@@ -51,17 +75,17 @@ fn statement(alloc: Global, vars: u32, stmt: &Stmt) -> Result<Stmt, AllocError>
         Stmt::Skip => Ok(Stmt::Skip),
         Stmt::Assign(var, form) => Ok(Stmt::Assign(*var, form.copy()?)),
         Stmt::If(test, then, None) => {
-            let then = Box::new(alloc, sequence(alloc, vars, then)?)?;
-            Ok(Stmt::If(test.copy(alloc)?, then, None))
+            let (then, test) = guarded(alloc, vars, then, test)?;
+            Ok(Stmt::If(test, then, None))
         }
         Stmt::If(test, then, Some(other)) => {
-            let then = Box::new(alloc, sequence(alloc, vars, then)?)?;
-            let other = Box::new(alloc, sequence(alloc, vars, other)?)?;
-            Ok(Stmt::If(test.copy(alloc)?, then, Some(other)))
+            let other = block(alloc, vars, other)?;
+            let (then, test) = guarded(alloc, vars, then, test)?;
+            Ok(Stmt::If(test, then, Some(other)))
         }
         Stmt::While(test, inner) => {
-            let inner = Box::new(alloc, sequence(alloc, vars, inner)?)?;
-            Ok(Stmt::While(test.copy(alloc)?, inner))
+            let (inner, test) = guarded(alloc, vars, inner, test)?;
+            Ok(Stmt::While(test, inner))
         }
         Stmt::Await(guard, elements) => {
             let kept = body(alloc, vars, elements)?;

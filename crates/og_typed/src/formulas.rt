@@ -34,17 +34,31 @@ pub(crate) fn assertion(
             comparison(alloc, scope, usage, left, *relation, right)
         }
         RawAssert::Not(a) => {
-            let a = assertion(alloc, scope, usage, a)?;
-            Ok(Assert::Not(Box::new(alloc, a)?))
+            let a = boxed(alloc, scope, usage, a)?;
+            Ok(Assert::Not(a))
         }
         RawAssert::And(all) => Ok(Assert::And(assertions(alloc, scope, usage, all)?)),
         RawAssert::Or(all) => Ok(Assert::Or(assertions(alloc, scope, usage, all)?)),
         RawAssert::Implies(a, b) => {
-            let a = assertion(alloc, scope, usage, a)?;
-            let b = assertion(alloc, scope, usage, b)?;
-            Ok(Assert::Imp(Box::new(alloc, a)?, Box::new(alloc, b)?))
+            let a = boxed(alloc, scope, usage, a)?;
+            let b = boxed(alloc, scope, usage, b)?;
+            Ok(Assert::Imp(a, b))
         }
     }
+}
+
+// The assertion that a tree stands for, in a box.
+#[cycle(assertions)]
+fn boxed(
+    alloc: Global,
+    scope: &Scope<'_>,
+    usage: Use,
+    raw: &RawAssert,
+) -> Result<Box<Assert>, TypeError>
+    ensures { IsResolved (λ b. formula b.value) result (meaning.assertion (scope_of scope.now) (use_of usage) (assertion_of raw.now)) }
+{
+    let a = assertion(alloc, scope, usage, raw)?;
+    Ok(Box::new(alloc, a)?)
 }
 
 // The assertions of a list.

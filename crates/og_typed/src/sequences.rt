@@ -1,7 +1,7 @@
 //! Resolving statements.
 
 ghost use Rattle.std.specs.Prelude.{◌≡◌, map};
-ghost use Rattle.og_parse.specs.Trees.{basic_of, element_of, stmt_of, seq_of};
+ghost use Rattle.og_parse.specs.Trees.{If, While, Await, assertion_of, basic_of, element_of, stmt_of, seq_of};
 ghost use Rattle.og_typed.specs.Answer.{IsResolved};
 ghost use Rattle.og_typed.specs.Plain as plain;
 ghost use Rattle.og_typed.specs.Resolved as meaning;
@@ -12,7 +12,7 @@ use crate::formulas::{assertion, note};
 use crate::scope::{Scope, Use};
 use crate::statement::{Basic, Item, Seq, Stmt};
 use crate::sums::right_side;
-use og_parse::{RawBasic, RawElement, RawSeq, RawStmt};
+use og_parse::{RawAssert, RawBasic, RawElement, RawSeq, RawStmt};
 use std::alloc::Global;
 
 /// The greatest number of elements in the body of an await.
@@ -55,6 +55,62 @@ fn statement_of(basic: Basic) -> Stmt
     }
 }
 
+// The sequence that a tree stands for, in a box.
+#[cycle(sequences)]
+fn block(alloc: Global, scope: &Scope<'_>, raw: &RawSeq) -> Result<Box<Seq>, TypeError>
+    ensures { IsResolved (λ b. plain.sequence b.value) result (meaning.sequence (scope_of scope.now) (seq_of raw.now)) }
+{
+    let seq = sequence(alloc, scope, raw)?;
+    Ok(Box::new(alloc, seq)?)
+}
+
+// A conditional without an `else`.
+#[cycle(sequences)]
+fn if_then(
+    alloc: Global,
+    scope: &Scope<'_>,
+    then: &RawSeq,
+    test: &RawAssert,
+) -> Result<Stmt, TypeError>
+    ensures { IsResolved plain.statement result (meaning.statement (scope_of scope.now)
+        (If (assertion_of test.now) (seq_of then.now))) }
+{
+    let test = assertion(alloc, scope, Use::Visible, test)?;
+    let then = block(alloc, scope, then)?;
+    Ok(Stmt::If(test, then, None))
+}
+
+// A loop.
+#[cycle(sequences)]
+fn while_do(
+    alloc: Global,
+    scope: &Scope<'_>,
+    body: &RawSeq,
+    test: &RawAssert,
+) -> Result<Stmt, TypeError>
+    ensures { IsResolved plain.statement result (meaning.statement (scope_of scope.now)
+        (While (assertion_of test.now) (seq_of body.now))) }
+{
+    let test = assertion(alloc, scope, Use::Visible, test)?;
+    let body = block(alloc, scope, body)?;
+    Ok(Stmt::While(test, body))
+}
+
+// An await.
+fn await_then(
+    alloc: Global,
+    scope: &Scope<'_>,
+    guard: &RawAssert,
+    body: &[RawElement],
+) -> Result<Stmt, TypeError>
+    ensures { IsResolved plain.statement result (meaning.statement (scope_of scope.now)
+        (Await (assertion_of guard.now) (map element_of body.now))) }
+{
+    let guard = assertion(alloc, scope, Use::Visible, guard)?;
+    let body = elements(alloc, scope, body)?;
+    Ok(Stmt::Await(guard, body))
+}
+
 // The statement that a tree stands for.
 #[cycle(sequences)]
 fn statement(alloc: Global, scope: &Scope<'_>, raw: &RawStmt) -> Result<Stmt, TypeError>
@@ -62,26 +118,15 @@ fn statement(alloc: Global, scope: &Scope<'_>, raw: &RawStmt) -> Result<Stmt, Ty
 {
     match raw {
         RawStmt::Basic(basic) => Ok(statement_of(simple(alloc, scope, basic)?)),
-        RawStmt::If(test, then, None) => {
-            let test = assertion(alloc, scope, Use::Visible, test)?;
-            let then = sequence(alloc, scope, then)?;
-            Ok(Stmt::If(test, Box::new(alloc, then)?, None))
-        }
+        RawStmt::If(test, then, None) => if_then(alloc, scope, then, test),
         RawStmt::If(test, then, Some(other)) => {
             let test = assertion(alloc, scope, Use::Visible, test)?;
-            let then = sequence(alloc, scope, then)?;
-            let other = sequence(alloc, scope, other)?;
-            Ok(Stmt::If(test, Box::new(alloc, then)?, Some(Box::new(alloc, other)?)))
+            let then = block(alloc, scope, then)?;
+            let other = block(alloc, scope, other)?;
+            Ok(Stmt::If(test, then, Some(other)))
         }
-        RawStmt::While(test, body) => {
-            let test = assertion(alloc, scope, Use::Visible, test)?;
-            let body = sequence(alloc, scope, body)?;
-            Ok(Stmt::While(test, Box::new(alloc, body)?))
-        }
-        RawStmt::Await(guard, body) => {
-            let guard = assertion(alloc, scope, Use::Visible, guard)?;
-            Ok(Stmt::Await(guard, elements(alloc, scope, body)?))
-        }
+        RawStmt::While(test, body) => while_do(alloc, scope, body, test),
+        RawStmt::Await(guard, body) => await_then(alloc, scope, guard, body),
     }
 }
 
