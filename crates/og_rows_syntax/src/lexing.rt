@@ -66,7 +66,7 @@ fn listing(alloc: Global, text: &[u8]) -> Result<String, Fail> {
 
 fn expect_listing(rt: &impl Abort, alloc: Global, text: &[u8], expected: &str) -> Result<(), Fail> {
     let found = listing(alloc, text)?;
-    assert_eq!(rt; found.as_str(), expected);
+    assert!(rt; found.as_str() == expected, "{found}");
     Ok(())
 }
 
@@ -161,14 +161,19 @@ fn keeps_the_limit_of_a_text(rt: HostRuntime) -> Result<(), Fail> {
     expect_listing(&rt, rt.alloc(), long.as_slice(), "4 SourceTooLong")
 }
 
+// One brace, and so many parentheses.
+fn deep(alloc: Global, count: usize) -> Result<Vec<u8>, Fail> {
+    let mut text = repeated(alloc, b'(', count)?;
+    text.insert(0, b'{')?;
+    Ok(text)
+}
+
 #[test]
 fn lexes_deep_parentheses(rt: HostRuntime) -> Result<(), Fail> {
-    let mut text = repeated(rt.alloc(), b'(', 102)?;
-    if let Some(first) = text.first_mut() {
-        *first = b'{';
-    }
-    let tokens = lex(rt.alloc(), text.as_slice())?;
-    assert_eq!(rt; tokens.len(), 102);
+    let text = deep(rt.alloc(), 101)?;
+    let tokens = lex(rt.alloc(), text.as_slice());
+    drop(text);
+    assert!(rt; tokens?.len() == 102);
     Ok(())
 }
 
@@ -196,9 +201,9 @@ fn expect_place(
     place: (u32, u32),
 ) -> Result<(), Fail> {
     assert!(rt; at as usize <= text.len() && text.len() <= SOURCE_LIMIT);
-    assert_eq!(rt; line_col(text, at), place);
+    assert!(rt; line_col(text, at) == place, "at {at}");
     let index = LineIndex::new(alloc, text)?;
-    assert_eq!(rt; index.line_col(at), place);
+    assert!(rt; index.line_col(at) == place, "at {at} by the index");
     Ok(())
 }
 
@@ -211,15 +216,27 @@ fn places_offsets(rt: HostRuntime) -> Result<(), Fail> {
     expect_place(&rt, rt.alloc(), b"\n", 1, (2, 1))
 }
 
+fn name(alloc: Global, byte: u8) -> Result<TokenKind, Fail> {
+    Ok(TokenKind::Name(Name::new([byte].to_vec(alloc)?)))
+}
+
 #[test]
-fn tells_kinds_apart(rt: HostRuntime) -> Result<(), Fail> {
-    let a = TokenKind::Name(Name::new([b'a'].to_vec(rt.alloc())?));
-    let b = TokenKind::Name(Name::new([b'b'].to_vec(rt.alloc())?));
+fn tells_names_apart(rt: HostRuntime) -> Result<(), Fail> {
+    let a = name(rt.alloc(), b'a')?;
+    assert!(rt; !a.is_like(&TokenKind::Var));
+    let b = name(rt.alloc(), b'b')?;
     assert!(rt; a.is_like(&b));
+    Ok(())
+}
+
+#[test]
+fn tells_kinds_apart(rt: HostRuntime) {
     assert!(rt; TokenKind::Number(1).is_like(&TokenKind::Number(2)));
     assert!(rt; !TokenKind::Var.is_like(&TokenKind::Aux));
-    assert!(rt; !a.is_like(&TokenKind::Var));
+}
+
+#[test]
+fn laws() {
     one_cut();
     places_within();
-    Ok(())
 }

@@ -54,7 +54,7 @@ fn answer_of(alloc: Global, source: &str) -> Result<String, Fail> {
 
 fn expect_answer(rt: &impl Abort, alloc: Global, source: &str, expected: &str) -> Result<(), Fail> {
     let got = answer_of(alloc, source)?;
-    assert_eq!(rt; got.as_str(), expected, "at {source}");
+    assert!(rt; got.as_str() == expected, "{got} at {source}");
     Ok(())
 }
 
@@ -152,8 +152,18 @@ fn keeps_the_limits_on_levels(rt: HostRuntime) -> Result<(), Fail> {
         let source = text(rt.alloc(), head, part, *times, tail)?;
         expect_answer(&rt, rt.alloc(), source.as_str(), expected)?;
     }
-    let inside = text(rt.alloc(), "{", "(", 100, "true")?;
-    let source = text(rt.alloc(), inside.as_str(), ")", 100, BODY)?;
+    Ok(())
+}
+
+// An outline whose first assertion is within so many parentheses.
+fn within_parentheses(alloc: Global, times: u32) -> Result<String, AllocError> {
+    let inside = text(alloc, "{", "(", times, "true")?;
+    text(alloc, inside.as_str(), ")", times, BODY)
+}
+
+#[test]
+fn reads_the_most_parentheses(rt: HostRuntime) -> Result<(), Fail> {
+    let source = within_parentheses(rt.alloc(), 100)?;
     expect_answer(&rt, rt.alloc(), source.as_str(), "True")
 }
 
@@ -214,36 +224,63 @@ const STATEMENTS: &[(&str, u32, &str, u32, &str)] = &[
     ),
 ];
 
+// `skip` as often as `skips` says between `head` and what is repeated.
+fn after_skips(
+    alloc: Global,
+    head: &str,
+    skips: u32,
+    part: &str,
+    times: u32,
+) -> Result<String, AllocError> {
+    let before = text(alloc, head, "skip {true} ", skips, "")?;
+    text(alloc, before.as_str(), part, times, "")
+}
+
 #[test]
 fn tells_too_many_statements_in_order(rt: HostRuntime) -> Result<(), Fail> {
     for (head, skips, part, times, expected) in STATEMENTS {
-        let before = text(rt.alloc(), head, "skip {true} ", *skips, "")?;
-        let source = text(rt.alloc(), before.as_str(), part, *times, "")?;
+        let source = after_skips(rt.alloc(), head, *skips, part, *times)?;
         expect_answer(&rt, rt.alloc(), source.as_str(), expected)?;
     }
     Ok(())
 }
 
 // With these tokens alone, more is expected at the byte.
-fn expect_end(rt: &impl Abort, alloc: Global, tokens: &[Token], end: u32) -> Result<(), Fail> {
+fn expect_end(
+    rt: &impl Abort,
+    alloc: Global,
+    tokens: &[Token],
+    end: u32,
+) -> Result<(), AllocError> {
     let got = answer(alloc, tokens)?;
     let expected = format!(in alloc; "7 Expected {end}..{end}")?;
-    assert_eq!(rt; got.as_str(), expected.as_str());
+    assert!(rt; got == expected, "{got} at {end}");
     Ok(())
 }
 
-#[test]
-fn asks_for_more_at_each_prefix(rt: HostRuntime) -> Result<(), Fail> {
-    let source =
-        "var x; {x = 0} cobegin {x = 0 or x = 2} await true then x := x + 1 {x = 1 or x = 3} // {x = 0 or x = 1} await true then x := x + 2 {x = 2 or x = 3} coend {x = 3}\n";
-    let tokens = lex(rt.alloc(), source.as_bytes())?;
-    assert_eq!(rt; tokens.len(), 68);
+// More is expected behind each token.
+fn expect_ends(rt: &impl Abort, alloc: Global, tokens: &[Token]) -> Result<(), AllocError> {
     let mut end = 0;
     for (i, token) in tokens.iter().enumerate() {
-        expect_end(&rt, rt.alloc(), &tokens[..i], end)?;
+        expect_end(rt, alloc, &tokens[..i], end)?;
         end = token.span.end;
     }
-    let got = answer(rt.alloc(), tokens.as_slice())?;
+    Ok(())
+}
+
+const ADDITIONS: &str =
+    "var x; {x = 0} cobegin {x = 0 or x = 2} await true then x := x + 1 {x = 1 or x = 3} // {x = 0 or x = 1} await true then x := x + 2 {x = 2 or x = 3} coend {x = 3}\n";
+
+#[test]
+fn asks_for_more_at_each_prefix(rt: HostRuntime) -> Result<(), Fail> {
+    let tokens = lex(rt.alloc(), ADDITIONS.as_bytes())?;
+    assert!(rt; tokens.len() == 68);
+    Ok(expect_ends(&rt, rt.alloc(), tokens.as_slice())?)
+}
+
+#[test]
+fn reads_the_whole(rt: HostRuntime) -> Result<(), Fail> {
+    let got = answer_of(rt.alloc(), ADDITIONS)?;
     assert!(rt; got.as_str().starts_with("Compare("));
     Ok(())
 }
@@ -294,30 +331,41 @@ fn listing(alloc: Global, source: &str) -> Result<String, Fail> {
     tree_of(alloc, tokens.as_slice())
 }
 
-// The same in parts.
+const SIGNS: &str =
+    "aux a = -0; {true} begin {true} skip {true} end cobegin {false} await 007 >= -a then begin a := 2*a + 1 end {true} // {true} if true then begin {true} skip {true} end else begin {true} skip {true} end {true} coend {true}";
+
+// The listing of its tree, in parts: its auxiliaries, precondition, prologue, `cobegin`, processes
+// and postcondition.
+const SIGNS_LISTING: &[&str] = &[
+    "Raw { vars: [], auxes: ",
+    "[RawAux { name: RawName { name: Name { bytes: [97] }, span: Span { start: 4, end: 5 } }, value: RawInt { sign: Minus, number: 0, span: Span { start: 8, end: 9 } } }]",
+    ", pre: ",
+    "RawNote { assertion: True, span: Span { start: 12, end: 13 } }",
+    ", prologue: ",
+    "Some(RawSeq { items: [RawItem { before: RawNote { assertion: True, span: Span { start: 25, end: 26 } }, stmt: Basic(Skip), span: Span { start: 32, end: 36 } }], last: RawNote { assertion: True, span: Span { start: 37, end: 38 } } })",
+    ", cobegin: ",
+    "Span { start: 48, end: 55 }",
+    ", processes: RawProcesses { first: ",
+    "RawSeq { items: [RawItem { before: RawNote { assertion: False, span: Span { start: 56, end: 57 } }, stmt: Await(Compare(RawSum { terms: [RawTerm { sign: Plus, factor: Number(7) }], span: Span { start: 70, end: 73 } }, GreaterEqual, RawSum { terms: [RawTerm { sign: Minus, factor: Variable(RawName { name: Name { bytes: [97] }, span: Span { start: 78, end: 79 } }) }], span: Span { start: 77, end: 78 } }), [RawElement { basic: Assign(RawName { name: Name { bytes: [97] }, span: Span { start: 91, end: 92 } }, RawSum { terms: [RawTerm { sign: Plus, factor: Product(2, RawName { name: Name { bytes: [97] }, span: Span { start: 98, end: 99 } }) }, RawTerm { sign: Plus, factor: Number(1) }], span: Span { start: 96, end: 97 } }), span: Span { start: 91, end: 92 } }]), span: Span { start: 64, end: 69 } }], last: RawNote { assertion: True, span: Span { start: 108, end: 109 } } }",
+    ", others: [",
+    "RawSeq { items: [RawItem { before: RawNote { assertion: True, span: Span { start: 118, end: 119 } }, stmt: If(True, RawSeq { items: [RawItem { before: RawNote { assertion: True, span: Span { start: 144, end: 145 } }, stmt: Basic(Skip), span: Span { start: 151, end: 155 } }], last: RawNote { assertion: True, span: Span { start: 156, end: 157 } } }, Some(RawSeq { items: [RawItem { before: RawNote { assertion: True, span: Span { start: 178, end: 179 } }, stmt: Basic(Skip), span: Span { start: 185, end: 189 } }], last: RawNote { assertion: True, span: Span { start: 190, end: 191 } } })), span: Span { start: 125, end: 127 } }], last: RawNote { assertion: True, span: Span { start: 201, end: 202 } } }",
+    "] }, epilogue: None, post: ",
+    "RawNote { assertion: True, span: Span { start: 214, end: 215 } }",
+    " }",
+];
+
+fn joined(alloc: Global, parts: &[&str]) -> Result<String, AllocError> {
+    let mut out = String::new(alloc);
+    for part in parts {
+        out.push_str(part)?;
+    }
+    Ok(out)
+}
+
 #[test]
 fn keeps_signs_and_places(rt: HostRuntime) -> Result<(), Fail> {
-    let source =
-        "aux a = -0; {true} begin {true} skip {true} end cobegin {false} await 007 >= -a then begin a := 2*a + 1 end {true} // {true} if true then begin {true} skip {true} end else begin {true} skip {true} end {true} coend {true}";
-    let got = listing(rt.alloc(), source)?;
-    let auxes =
-        "[RawAux { name: RawName { name: Name { bytes: [97] }, span: Span { start: 4, end: 5 } }, value: RawInt { sign: Minus, number: 0, span: Span { start: 8, end: 9 } } }]";
-    let pre = "RawNote { assertion: True, span: Span { start: 12, end: 13 } }";
-    let prologue =
-        "Some(RawSeq { items: [RawItem { before: RawNote { assertion: True, span: Span { start: 25, end: 26 } }, stmt: Basic(Skip), span: Span { start: 32, end: 36 } }], last: RawNote { assertion: True, span: Span { start: 37, end: 38 } } })";
-    let cobegin = "Span { start: 48, end: 55 }";
-    let first =
-        "RawSeq { items: [RawItem { before: RawNote { assertion: False, span: Span { start: 56, end: 57 } }, stmt: Await(Compare(RawSum { terms: [RawTerm { sign: Plus, factor: Number(7) }], span: Span { start: 70, end: 73 } }, GreaterEqual, RawSum { terms: [RawTerm { sign: Minus, factor: Variable(RawName { name: Name { bytes: [97] }, span: Span { start: 78, end: 79 } }) }], span: Span { start: 77, end: 78 } }), [RawElement { basic: Assign(RawName { name: Name { bytes: [97] }, span: Span { start: 91, end: 92 } }, RawSum { terms: [RawTerm { sign: Plus, factor: Product(2, RawName { name: Name { bytes: [97] }, span: Span { start: 98, end: 99 } }) }, RawTerm { sign: Plus, factor: Number(1) }], span: Span { start: 96, end: 97 } }), span: Span { start: 91, end: 92 } }]), span: Span { start: 64, end: 69 } }], last: RawNote { assertion: True, span: Span { start: 108, end: 109 } } }";
-    let second =
-        "RawSeq { items: [RawItem { before: RawNote { assertion: True, span: Span { start: 118, end: 119 } }, stmt: If(True, RawSeq { items: [RawItem { before: RawNote { assertion: True, span: Span { start: 144, end: 145 } }, stmt: Basic(Skip), span: Span { start: 151, end: 155 } }], last: RawNote { assertion: True, span: Span { start: 156, end: 157 } } }, Some(RawSeq { items: [RawItem { before: RawNote { assertion: True, span: Span { start: 178, end: 179 } }, stmt: Basic(Skip), span: Span { start: 185, end: 189 } }], last: RawNote { assertion: True, span: Span { start: 190, end: 191 } } })), span: Span { start: 125, end: 127 } }], last: RawNote { assertion: True, span: Span { start: 201, end: 202 } } }";
-    let post = "RawNote { assertion: True, span: Span { start: 214, end: 215 } }";
-    let before = format!(in rt.alloc();
-        "Raw {{ vars: [], auxes: {auxes}, pre: {pre}, prologue: {prologue}, cobegin: {cobegin}, "
-    )?;
-    let after = format!(in rt.alloc();
-        "processes: RawProcesses {{ first: {first}, others: [{second}] }}, epilogue: None, post: {post} }}"
-    )?;
-    let expected = text(rt.alloc(), before.as_str(), "", 0, after.as_str())?;
-    assert_eq!(rt; got.as_str(), expected.as_str());
+    let got = listing(rt.alloc(), SIGNS)?;
+    let expected = joined(rt.alloc(), SIGNS_LISTING)?;
+    assert!(rt; got == expected, "{got}");
     Ok(())
 }

@@ -29,16 +29,24 @@ fn program_text(alloc: Global, source: &str) -> Result<Vec<u8>, Fail> {
     Ok(text?)
 }
 
+fn expect_text(
+    rt: &impl Abort,
+    found: Result<Vec<u8>, AllocError>,
+    lines: &str,
+) -> Result<(), AllocError> {
+    let text = found?;
+    assert!(rt; text.as_slice() == lines.as_bytes(), "{lines}");
+    Ok(())
+}
+
 fn expect_outline(rt: &impl Abort, alloc: Global, source: &str, lines: &str) -> Result<(), Fail> {
     let text = outline_text(alloc, source)?;
-    assert_eq!(rt; text.as_slice(), lines.as_bytes());
-    Ok(())
+    Ok(expect_text(rt, Ok(text), lines)?)
 }
 
 fn expect_program(rt: &impl Abort, alloc: Global, source: &str, lines: &str) -> Result<(), Fail> {
     let text = program_text(alloc, source)?;
-    assert_eq!(rt; text.as_slice(), lines.as_bytes());
-    Ok(())
+    Ok(expect_text(rt, Ok(text), lines)?)
 }
 
 const OUTLINES: &[(&str, &str)] = &[
@@ -251,12 +259,9 @@ fn main_text(alloc: Global) -> Result<Vec<u8>, AllocError> {
 
 #[test]
 fn prints_the_parts_of_main(rt: HostRuntime) -> Result<(), Fail> {
-    let text = main_text(rt.alloc())?;
-    assert_eq!(rt;
-        text.as_slice(),
-        "var x;\nbegin\n  x := 0\nend\ncobegin\n  await true then x := x + 1\ncoend\nbegin\n  x := x + 1\nend\n".as_bytes()
-    );
-    Ok(())
+    let lines =
+        "var x;\nbegin\n  x := 0\nend\ncobegin\n  await true then x := x + 1\ncoend\nbegin\n  x := x + 1\nend\n";
+    Ok(expect_text(&rt, main_text(rt.alloc()), lines)?)
 }
 
 // The program that waits for x = 0.
@@ -269,12 +274,8 @@ fn await_text(alloc: Global) -> Result<Vec<u8>, AllocError> {
 
 #[test]
 fn prints_an_await_without_a_body(rt: HostRuntime) -> Result<(), Fail> {
-    let text = await_text(rt.alloc())?;
-    assert_eq!(rt;
-        text.as_slice(),
-        "var x;\ncobegin\n  await x = 0 then begin end\ncoend\n".as_bytes()
-    );
-    Ok(())
+    let lines = "var x;\ncobegin\n  await x = 0 then begin end\ncoend\n";
+    Ok(expect_text(&rt, await_text(rt.alloc()), lines)?)
 }
 
 // The program of two processes without statements.
@@ -290,13 +291,13 @@ fn loop_text(alloc: Global) -> Result<Vec<u8>, AllocError> {
 }
 
 #[test]
-fn prints_empty_sequences(rt: HostRuntime) -> Result<(), Fail> {
-    let text = empty_text(rt.alloc())?;
-    assert_eq!(rt; text.as_slice(), "cobegin\n//\ncoend\n".as_bytes());
-    let text = loop_text(rt.alloc())?;
-    assert_eq!(rt;
-        text.as_slice(),
-        "cobegin\n  while true do begin\n  end\ncoend\n".as_bytes()
-    );
-    Ok(())
+fn prints_empty_processes(rt: HostRuntime) -> Result<(), Fail> {
+    let found = empty_text(rt.alloc());
+    Ok(expect_text(&rt, found, "cobegin\n//\ncoend\n")?)
+}
+
+#[test]
+fn prints_empty_loops(rt: HostRuntime) -> Result<(), Fail> {
+    let lines = "cobegin\n  while true do begin\n  end\ncoend\n";
+    Ok(expect_text(&rt, loop_text(rt.alloc()), lines)?)
 }

@@ -1,8 +1,8 @@
 //! Inputs, read and cut.
 
 use og_input::{ReadFault, read_up_to, split};
+use std::alloc::Global;
 use std::io::{Error, ErrorKind, Read};
-use std::test::Fail;
 
 // Gives one byte at each read, and fails at the read of this number, counted from 1.
 #[derive(Drop)]
@@ -27,55 +27,66 @@ impl<'a> Read for OneByOne<'a> {
     }
 }
 
-#[test]
-fn failing_reads(rt: HostRuntime) -> Result<(), Fail> {
-    let text = b"var x;";
-    for fails_at in 1..text.len() + 2 {
-        let mut reader = OneByOne {
-            bytes: text,
-            fails_at,
-            reads: 0,
-        };
-        let got = read_up_to(rt.alloc(), &mut reader, 100);
-        assert!(rt; matches!(&got, Err(ReadFault::Failed)), "at {fails_at}");
+fn one_by_one(fails_at: usize) -> OneByOne<'static> {
+    OneByOne {
+        bytes: b"var x;",
+        fails_at,
+        reads: 0,
     }
-    Ok(())
+}
+
+fn fails_to_read(alloc: Global, fails_at: usize) -> bool {
+    let got = read_up_to(alloc, &mut one_by_one(fails_at), 100);
+    matches!(&got, Err(ReadFault::Failed))
 }
 
 #[test]
-fn limits(rt: HostRuntime) -> Result<(), Fail> {
-    for (most, expected) in [(0, ""), (1, "v"), (6, "var x;"), (7, "var x;")] {
-        let mut reader = OneByOne {
-            bytes: b"var x;",
-            fails_at: 0,
-            reads: 0,
-        };
-        let Ok(got) = read_up_to(rt.alloc(), &mut reader, most) else {
-            panic!(rt; "no text");
-        };
-        assert_eq!(rt; got.as_slice(), expected.as_bytes());
+fn failing_reads(rt: HostRuntime) {
+    for fails_at in 1..8 {
+        assert!(rt; fails_to_read(rt.alloc(), fails_at), "at {fails_at}");
     }
-    Ok(())
+}
+
+fn reads_up_to(alloc: Global, most: usize, expected: &str) -> bool {
+    match read_up_to(alloc, &mut one_by_one(0), most) {
+        Ok(got) => got.as_slice() == expected.as_bytes(),
+        Err(_) => false,
+    }
+}
+
+// The most bytes to read, and what is read.
+const LIMITS: &[(usize, &str)] = &[(0, ""), (1, "v"), (6, "var x;"), (7, "var x;")];
+
+#[test]
+fn limits(rt: HostRuntime) {
+    for (most, expected) in LIMITS {
+        assert!(rt; reads_up_to(rt.alloc(), *most, expected), "at {most}");
+    }
+}
+
+// Inputs, and the two parts of each.
+const JOINED: &[(&str, &str, &str)] = &[
+    ("", "", ""),
+    ("a\nb", "a\nb", ""),
+    ("a\nog-cert 1\nb\n", "a\n", "og-cert 1\nb\n"),
+    ("og-cert 2\nog-cert 1\n", "", "og-cert 2\nog-cert 1\n"),
+    ("a\nog-cert 1", "a\n", "og-cert 1"),
+    (
+        "a og-cert 1\nog-cert 3\nog-cert 1 \n",
+        "a og-cert 1\nog-cert 3\nog-cert 1 \n",
+        "",
+    ),
+    ("og-cert 10\n\nog-cert 2", "og-cert 10\n\n", "og-cert 2"),
+];
+
+fn splits(input: &str, source: &str, certs: &str) -> bool {
+    let (first, second) = split(input.as_bytes());
+    first == source.as_bytes() && second == certs.as_bytes()
 }
 
 #[test]
 fn joined_inputs(rt: HostRuntime) {
-    let rows = [
-        ("", "", ""),
-        ("a\nb", "a\nb", ""),
-        ("a\nog-cert 1\nb\n", "a\n", "og-cert 1\nb\n"),
-        ("og-cert 2\nog-cert 1\n", "", "og-cert 2\nog-cert 1\n"),
-        ("a\nog-cert 1", "a\n", "og-cert 1"),
-        (
-            "a og-cert 1\nog-cert 3\nog-cert 1 \n",
-            "a og-cert 1\nog-cert 3\nog-cert 1 \n",
-            "",
-        ),
-        ("og-cert 10\n\nog-cert 2", "og-cert 10\n\n", "og-cert 2"),
-    ];
-    for (input, source, certs) in rows {
-        let (first, second) = split(input.as_bytes());
-        assert_eq!(rt; first, source.as_bytes());
-        assert_eq!(rt; second, certs.as_bytes());
+    for (input, source, certs) in JOINED {
+        assert!(rt; splits(input, source, certs), "{input}");
     }
 }

@@ -1,8 +1,55 @@
 //! Words as jobs.
 
-use og_words::{Job, Usage, read_words};
+use og_words::{Usage, read_words};
 use std::alloc::{AllocError, Global};
+use std::process::Abort;
 use std::test::Fail;
+
+// Lines, and the jobs that they ask for.
+const JOBS: &[(&str, &str)] = &[
+    ("", "Joined"),
+    (
+        "check a b",
+        "Check { source: \"a\", certs: \"b\", workers: 1, json: false }",
+    ),
+    (
+        "check - b --workers 64 --json",
+        "Check { source: \"-\", certs: \"b\", workers: 64, json: true }",
+    ),
+    ("conditions a", "Conditions { source: \"a\" }"),
+    ("find a", "Find { source: \"a\", budget: 100000 }"),
+    (
+        "find a --budget 1000000000",
+        "Find { source: \"a\", budget: 1000000000 }",
+    ),
+    ("erase a", "Erase { source: \"a\" }"),
+    (
+        "run a x=1 y=-2 --limit 0",
+        "Run { source: \"a\", limit: 0, erased: false, certs: None, values: [\"x=1\", \"y=-2\"] }",
+    ),
+    (
+        "run a --certs f",
+        "Run { source: \"a\", limit: 1000, erased: false, certs: Some(\"f\"), values: [] }",
+    ),
+    ("migrate c", "Migrate { certs: \"c\" }"),
+];
+
+// Lines that ask for no job, and the kind of the refusal.
+const NO_JOBS: &[(&str, &str)] = &[
+    ("check", "wrong"),
+    ("check a", "wrong"),
+    ("check a b c", "wrong"),
+    ("check a b --workers 0", "wrong"),
+    ("check a b --workers 65", "wrong"),
+    ("find a --budget 0", "wrong"),
+    ("find a --budget 1000000001", "wrong"),
+    ("run a --limit 1000001", "wrong"),
+    ("run a --erased --certs f", "wrong"),
+    ("migrate", "wrong"),
+    ("prove a", "wrong"),
+    ("--help", "asked"),
+    ("check --help", "asked"),
+];
 
 // The words of a line, cut at single blanks.
 fn words_of(alloc: Global, line: &str) -> Result<Vec<String>, AllocError> {
@@ -15,74 +62,42 @@ fn words_of(alloc: Global, line: &str) -> Result<Vec<String>, AllocError> {
     Ok(words)
 }
 
-// How a job is told, or `asked`, or `wrong`.
-fn told(alloc: Global, line: &str) -> Result<String, Fail> {
-    let words = words_of(alloc, line)?;
-    match read_words(alloc, &words) {
-        Ok(job) => Ok(format!(in alloc; "{job:?}")?),
-        Err(Usage::Asked(_)) => Ok(String::from_str(alloc, "asked")?),
-        Err(Usage::Wrong(_)) => Ok(String::from_str(alloc, "wrong")?),
-        Err(Usage::Memory) => Ok(String::from_str(alloc, "memory")?),
+// The kind of a refusal.
+fn kind_of(usage: &Usage) -> &'static str {
+    match usage {
+        Usage::Asked(_) => "asked",
+        Usage::Wrong(_) => "wrong",
+        Usage::Memory => "memory",
     }
+}
+
+// How the job that words ask for is written, or why there is none.
+fn answer(alloc: Global, words: &[String]) -> Result<String, AllocError> {
+    match read_words(alloc, words) {
+        Ok(job) => format!(in alloc; "{job:?}"),
+        Err(usage) => String::from_str(alloc, kind_of(&usage)),
+    }
+}
+
+fn told(alloc: Global, line: &str) -> Result<String, AllocError> {
+    answer(alloc, &words_of(alloc, line)?)
+}
+
+// Each line is told as its row says.
+fn expect_told(rt: &impl Abort, alloc: Global, rows: &[(&str, &str)]) -> Result<(), AllocError> {
+    for (line, expected) in rows {
+        let got = told(alloc, line)?;
+        assert!(rt; got.as_str() == *expected, "{got}: {line}");
+    }
+    Ok(())
 }
 
 #[test]
 fn jobs(rt: HostRuntime) -> Result<(), Fail> {
-    let rows = [
-        ("", "Joined"),
-        (
-            "check a b",
-            "Check { source: \"a\", certs: \"b\", workers: 1, json: false }",
-        ),
-        (
-            "check - b --workers 64 --json",
-            "Check { source: \"-\", certs: \"b\", workers: 64, json: true }",
-        ),
-        ("conditions a", "Conditions { source: \"a\" }"),
-        ("find a", "Find { source: \"a\", budget: 100000 }"),
-        (
-            "find a --budget 1000000000",
-            "Find { source: \"a\", budget: 1000000000 }",
-        ),
-        ("erase a", "Erase { source: \"a\" }"),
-        (
-            "run a x=1 y=-2 --limit 0",
-            "Run { source: \"a\", limit: 0, erased: false, certs: None, values: [\"x=1\", \"y=-2\"] }",
-        ),
-        (
-            "run a --certs f",
-            "Run { source: \"a\", limit: 1000, erased: false, certs: Some(\"f\"), values: [] }",
-        ),
-        ("migrate c", "Migrate { certs: \"c\" }"),
-    ];
-    for (line, job) in rows {
-        let got = told(rt.alloc(), line)?;
-        assert_eq!(rt; got.as_str(), job, "of {line}");
-    }
-    Ok(())
+    Ok(expect_told(&rt, rt.alloc(), JOBS)?)
 }
 
 #[test]
 fn no_jobs(rt: HostRuntime) -> Result<(), Fail> {
-    for line in [
-        "check",
-        "check a",
-        "check a b c",
-        "check a b --workers 0",
-        "check a b --workers 65",
-        "find a --budget 0",
-        "find a --budget 1000000001",
-        "run a --limit 1000001",
-        "run a --erased --certs f",
-        "migrate",
-        "prove a",
-    ] {
-        let got = told(rt.alloc(), line)?;
-        assert_eq!(rt; got.as_str(), "wrong", "of {line}");
-    }
-    for line in ["--help", "check --help"] {
-        let got = told(rt.alloc(), line)?;
-        assert_eq!(rt; got.as_str(), "asked", "of {line}");
-    }
-    Ok(())
+    Ok(expect_told(&rt, rt.alloc(), NO_JOBS)?)
 }

@@ -25,7 +25,6 @@ use Rattle.og_engine.specs.declared.fault.EngineFault.{EngineFault}
 use Rattle.og_running.specs.Words.{Give}
 use Rattle.og_running.specs.Texts.{outcome_text, finish_status}
 use Rattle.og_running.specs.Running.{given, IsText, IsFaultTold, StartsNot, EndsAs, Tells, TellsProved, TellsJudged, IsRefusedOrJudged, Goes}
-use Rattle.og_running.specs.declared.reply.Reply.{Reply}
 use Rattle.og_running.specs.declared.reply.Reply.TheVariants as replies
 
 -- ---- what came of a run
@@ -97,10 +96,3 @@ refused_told limit source certs o values why (Ok a) refused told = inl (why, ref
 pub goes : (P : Program → List ℤ → Answer → Type 0) (source : List ℕ) (words : List (List ℕ)) (o : Program) (values : List ℤ) (a : Answer) → IsSource source o → Give o words values
     → P o values a → Goes P source words (replies.Answer a)
 goes P source words o values a read gives told = record { outline = o; values = values; answer = a; read = read; given = gives; is = refl; told = told }
-
--- the same, of what was read first
-pub goes_on : (P : Program → List ℤ → Answer → Type 0) (source : List ℕ) (words : List (List ℕ)) (start : Program × List ℤ) (r : Result (Program × List ℤ) Reply) (a : Answer)
-    → r ≡ Ok start → IfOk r (λ s. IsSource source s.0 × Give s.0 words s.1) → P start.0 start.1 a → Goes P source words (replies.Answer a)
-goes_on P source words start r a is read told =
-    let s = subst (λ (x : Result (Program × List ℤ) Reply). IfOk x (λ s. IsSource source s.0 × Give s.0 words s.1)) is read in
-    goes P source words start.0 start.1 a s.0 s.1 told

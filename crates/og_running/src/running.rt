@@ -1,14 +1,13 @@
 //! The answers of `run`.
 
-ghost use Rattle.std.specs.Prelude.{◌≡◌, ◌≢◌, ◌≤◌, ◌^◌, length, map, if◌then◌else◌, IfOk, IfErr, IsSome};
+ghost use Rattle.std.specs.Prelude.{◌≡◌, ◌≢◌, ◌≤◌, ◌^◌, ℕ, List, length, map, if◌then◌else◌, IfOk, IfErr, IsSome};
 ghost use Rattle.og_judge.specs.Names.{place_of_refusal};
 ghost use Rattle.og_typed.specs.Erase.{erased as erased_of};
 ghost use Rattle.og_engine.specs.Answers.{IsTold};
 ghost use Rattle.og_judge.specs.Report.{IsSource};
 ghost use Rattle.og_judge.specs.Shown.{outline_of, entries_of};
-ghost use Rattle.og_running.specs.Words.{Give};
 ghost use Rattle.og_running.specs.Texts.{outcome_text, finish_status};
-ghost use Rattle.og_running.specs.Running.{given, fault_line, IsText, IsFaultTold, Tells, TellsProved, TellsJudged, IsRefusedOrJudged, IsEarly, IsRan, IsRanProved};
+ghost use Rattle.og_running.specs.Running.{given, fault_line, IsText, IsFaultTold, Tells, TellsProved, TellsJudged, IsRefusedOrJudged, IsRan, IsRanProved};
 
 use crate::outcome::{finish_status, outcome_text};
 use crate::reply::Reply;
@@ -26,9 +25,9 @@ use std::sync::Wait;
 use std::thread::Threads;
 
 // The line of a refusal, and status 2.
-fn of_refusal(alloc: Global, refusal: &Refusal, source: &[u8]) -> Result<Answer, EngineFault>
-    requires { IsSome (place_of_refusal refusal.now) → length source.now ≤ 2 ^ 20 }
-    ensures refused { IfOk result (λ a. IsTold source.now refusal.now a) }
+fn of_refusal(alloc: Global, refusal: Refusal, source: &[u8]) -> Result<Answer, EngineFault>
+    requires { IsSome (place_of_refusal refusal) → length source.now ≤ 2 ^ 20 }
+    ensures refused { IfOk result (λ a. IsTold source.now refusal a) }
     ensures unread { IfErr result (λ e. e ≢ EngineFault.ReadFailed) }
     ensures fault { IfErr result (λ e. e ≢ EngineFault.WriteFailed) }
 {
@@ -36,7 +35,7 @@ fn of_refusal(alloc: Global, refusal: &Refusal, source: &[u8]) -> Result<Answer,
         Refusal::Memory => Err(EngineFault::Memory),
         Refusal::Spawn => Err(EngineFault::Spawn),
         _ => Ok(Answer {
-            text: refusal_text(alloc, refusal, source)?,
+            text: refusal_text(alloc, &refusal, source)?,
             status: 2,
         }),
     }
@@ -182,29 +181,59 @@ fn of_certs<G: Gate, H: Threads + Wait + Sync>(
 {
     match judge(rt, alloc, source, certs, 1, &OpenGate) {
         Ok(judgement) => of_judgement(rt, alloc, &judgement, values, limit, gate),
-        Err(refusal) => of_refusal(alloc, &refusal, source),
+        Err(refusal) => of_refusal(alloc, refusal, source),
     }
 }
 
-// The outline of a source, and the values that the words give to its variables; or what is answered
-// in their place.
-fn read_start<'a>(
+// Runs an outline, or its program without auxiliaries, by the values that the words give.
+fn ran_outline<'a, G: Gate, H: Threads + Wait + Sync>(
+    rt: &H,
     alloc: Global,
-    source: &[u8],
+    outline: &Outline,
     words: &[&'a str],
-) -> Result<Result<(Outline, State), Reply<'a>>, EngineFault>
-    ensures start { IfOk result (λ r. IfOk r (λ s. IsSource source.now s.0 × Give s.0 (map (λ w. w.now) words.now) s.1)) }
-    ensures early { IfOk result (λ r. IfErr r (IsEarly source.now (map (λ w. w.now) words.now))) }
+    limit: u32,
+    erased: bool,
+    gate: &G,
+) -> Result<Reply<'a>, EngineFault>
+    requires { limit ≤ 1000000 }
+    ensures reply { (source : List ℕ) → IsSource source outline.now → IfOk result (IsRan erased limit source (map (λ w. w.now) words.now)) }
     ensures unread { IfErr result (λ e. e ≢ EngineFault.ReadFailed) }
     ensures fault { IfErr result (λ e. e ≢ EngineFault.WriteFailed) }
 {
-    let outline = match read_outline(alloc, source) {
-        Ok(outline) => outline,
-        Err(refusal) => return Ok(Err(Reply::Answer(of_refusal(alloc, &refusal, source)?))),
-    };
-    match values(alloc, &outline, words) {
-        Ok(values) => Ok(Ok((outline, values))),
-        Err(WordsError::Bad(word)) => Ok(Err(Reply::BadValue(word))),
+    match values(alloc, outline, words) {
+        Ok(values) => {
+            let answer = of_program(rt, alloc, outline, erased, values, limit, gate)?;
+            Ok(Reply::Answer(answer))
+        }
+        Err(WordsError::Bad(word)) => Ok(Reply::BadValue(word)),
+        Err(WordsError::Memory) => Err(EngineFault::Memory),
+    }
+}
+
+// Runs the outline of this source by the values that the words give, where the certificates prove
+// it safe.
+fn ran_judged<'a, G: Gate, H: Threads + Wait + Sync>(
+    rt: &H,
+    alloc: Global,
+    source: &[u8],
+    certs: &[u8],
+    outline: &Outline,
+    words: &[&'a str],
+    limit: u32,
+    gate: &G,
+) -> Result<Reply<'a>, EngineFault>
+    requires source { IsSource source.now outline.now }
+    requires limit { limit ≤ 1000000 }
+    ensures reply { IfOk result (IsRanProved limit source.now certs.now (map (λ w. w.now) words.now)) }
+    ensures unread { IfErr result (λ e. e ≢ EngineFault.ReadFailed) }
+    ensures fault { IfErr result (λ e. e ≢ EngineFault.WriteFailed) }
+{
+    match values(alloc, outline, words) {
+        Ok(values) => {
+            let answer = of_certs(rt, alloc, source, certs, outline, values, limit, gate)?;
+            Ok(Reply::Answer(answer))
+        }
+        Err(WordsError::Bad(word)) => Ok(Reply::BadValue(word)),
         Err(WordsError::Memory) => Err(EngineFault::Memory),
     }
 }
@@ -238,12 +267,10 @@ pub fn ran<'a, G: Gate, H: Threads + Wait + Sync>(
     ensures unread { IfErr result (λ e. e ≢ EngineFault.ReadFailed) }
     ensures fault { IfErr result (λ e. e ≢ EngineFault.WriteFailed) }
 {
-    let (outline, values) = match read_start(alloc, source, words)? {
-        Ok(start) => start,
-        Err(early) => return Ok(early),
-    };
-    let answer = of_program(rt, alloc, &outline, erased, values, limit, gate)?;
-    Ok(Reply::Answer(answer))
+    match read_outline(alloc, source) {
+        Ok(outline) => ran_outline(rt, alloc, &outline, words, limit, erased, gate),
+        Err(refusal) => Ok(Reply::Answer(of_refusal(alloc, refusal, source)?)),
+    }
 }
 
 /// Runs the program of a source as `ran`, where the certificates prove it safe: then all that is
@@ -268,10 +295,8 @@ pub fn ran_proved<'a, G: Gate, H: Threads + Wait + Sync>(
     ensures unread { IfErr result (λ e. e ≢ EngineFault.ReadFailed) }
     ensures fault { IfErr result (λ e. e ≢ EngineFault.WriteFailed) }
 {
-    let (outline, values) = match read_start(alloc, source, words)? {
-        Ok(start) => start,
-        Err(early) => return Ok(early),
-    };
-    let answer = of_certs(rt, alloc, source, certs, &outline, values, limit, gate)?;
-    Ok(Reply::Answer(answer))
+    match read_outline(alloc, source) {
+        Ok(outline) => ran_judged(rt, alloc, source, certs, &outline, words, limit, gate),
+        Err(refusal) => Ok(Reply::Answer(of_refusal(alloc, refusal, source)?)),
+    }
 }

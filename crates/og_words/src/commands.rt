@@ -84,11 +84,12 @@ fn erased_arg<'a>(alloc: Global) -> Arg<'a> {
         .help("Run the erased program")
 }
 
-fn run_certs_arg<'a>(alloc: Global) -> Arg<'a> {
+fn run_certs_arg<'a>(alloc: Global) -> Result<Arg<'a>, AllocError> {
     Arg::new(alloc, "certs")
         .long("certs")
         .value_name("FILE")
         .help("Run only what these certificates prove safe")
+        .conflicts_with("erased")
 }
 
 fn values_arg<'a>(alloc: Global) -> Arg<'a> {
@@ -98,14 +99,24 @@ fn values_arg<'a>(alloc: Global) -> Arg<'a> {
         .help("A variable's value at the start")
 }
 
+fn with_arg<'a>(
+    command: Command<'a>,
+    arg: Result<Arg<'a>, AllocError>,
+) -> Result<Command<'a>, AllocError> {
+    command.arg(arg?)
+}
+
+// Adds what stands behind `--`.
+fn with_run_options<'a>(alloc: Global, command: Command<'a>) -> Result<Command<'a>, AllocError> {
+    let command = command.arg(limit_arg(alloc))?.arg(erased_arg(alloc))?;
+    with_arg(command, run_certs_arg(alloc))
+}
+
 fn run_command<'a>(alloc: Global) -> Result<Command<'a>, AllocError> {
     let command = Command::new(alloc, "run")
         .about("Run the processes in threads")
-        .arg(source_arg(alloc))?
-        .arg(limit_arg(alloc))?
-        .arg(erased_arg(alloc))?;
-    let certs = run_certs_arg(alloc).conflicts_with("erased")?;
-    command.arg(certs)?.arg(values_arg(alloc))
+        .arg(source_arg(alloc))?;
+    with_run_options(alloc, command)?.arg(values_arg(alloc))
 }
 
 fn migrate_command<'a>(alloc: Global) -> Result<Command<'a>, AllocError> {
@@ -114,18 +125,26 @@ fn migrate_command<'a>(alloc: Global) -> Result<Command<'a>, AllocError> {
         .arg(certs_arg(alloc))
 }
 
+// Adds a word that the program knows.
+fn with_word<'a>(
+    program: Command<'a>,
+    word: Result<Command<'a>, AllocError>,
+) -> Result<Command<'a>, AllocError> {
+    program.subcommand(word?)
+}
+
 // Adds the words that look at outlines and certificates.
 fn with_outlines<'a>(alloc: Global, program: Command<'a>) -> Result<Command<'a>, AllocError> {
-    let program = program.subcommand(check_command(alloc)?)?;
-    let program = program.subcommand(conditions_command(alloc)?)?;
-    program.subcommand(find_command(alloc)?)
+    let program = with_word(program, check_command(alloc))?;
+    let program = with_word(program, conditions_command(alloc))?;
+    with_word(program, find_command(alloc))
 }
 
 // Adds the words that look at programs, and at certificates alone.
 fn with_programs<'a>(alloc: Global, program: Command<'a>) -> Result<Command<'a>, AllocError> {
-    let program = program.subcommand(erase_command(alloc)?)?;
-    let program = program.subcommand(run_command(alloc)?)?;
-    program.subcommand(migrate_command(alloc)?)
+    let program = with_word(program, erase_command(alloc))?;
+    let program = with_word(program, run_command(alloc))?;
+    with_word(program, migrate_command(alloc))
 }
 
 /// The program's command line.

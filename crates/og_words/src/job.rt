@@ -3,7 +3,7 @@
 use std::alloc::{AllocError, AllocFailed};
 
 /// The words that name commands.
-#[derive(Clone, Copy, Debug, PartialEq, Eq)]
+#[derive(Clone, Copy)]
 pub(crate) enum Verb {
     Check,
     Conditions,
@@ -60,7 +60,7 @@ pub enum Job<'a> {
 }
 
 /// Why there is no job.
-#[derive(Debug, Drop)]
+#[derive(Drop)]
 pub enum Usage {
     /// The help text that was asked for.
     Asked(String),

@@ -6,26 +6,20 @@ ghost use Rattle.og_words.specs.Jobs.{verb_name, command_of, IsWithinRanges};
 use crate::commands::program;
 use crate::job::{Job, Usage, Verb};
 use clap::ArgMatches;
-use clap::error::ErrorKind;
+use clap::error::{Error, ErrorKind};
 use std::alloc::{AllocError, Global};
 
 fn verb_of(word: &str) -> Option<Verb>
     ensures { IfSome result (λ v. verb_name v ≡ word.now) }
 {
-    if word == "check" {
-        Some(Verb::Check)
-    } else if word == "conditions" {
-        Some(Verb::Conditions)
-    } else if word == "find" {
-        Some(Verb::Find)
-    } else if word == "erase" {
-        Some(Verb::Erase)
-    } else if word == "run" {
-        Some(Verb::Run)
-    } else if word == "migrate" {
-        Some(Verb::Migrate)
-    } else {
-        None
+    match word {
+        "check" => Some(Verb::Check),
+        "conditions" => Some(Verb::Conditions),
+        "find" => Some(Verb::Find),
+        "erase" => Some(Verb::Erase),
+        "run" => Some(Verb::Run),
+        "migrate" => Some(Verb::Migrate),
+        _ => None,
     }
 }
 
@@ -116,21 +110,49 @@ fn job_of<'a>(alloc: Global, verb: Verb, m: &ArgMatches<'a>) -> Result<Option<Jo
     }
 }
 
+// The job of a command's name.
+fn named_job<'a>(
+    alloc: Global,
+    name: &str,
+    matches: &ArgMatches<'a>,
+) -> Result<Option<Job<'a>>, AllocError>
+    ensures command { IfOk result (λ r. IfSome r (λ job. command_of job ≡ Some name.now)) }
+    ensures ranges { IfOk result (λ r. IfSome r IsWithinRanges) }
+{
+    let Some(verb) = verb_of(name) else {
+        return Ok(None);
+    };
+    match matches.subcommand() {
+        Some((_, m)) => job_of(alloc, verb, m),
+        None => Ok(None),
+    }
+}
+
+// What is wrong with the words, or the help text.
+fn usage_of(alloc: Global, error: &Error) -> Result<Usage, AllocError> {
+    if error.kind() == ErrorKind::OutOfMemory {
+        return Ok(Usage::Memory);
+    }
+    let text = format!(in alloc; "{error}")?;
+    Ok(if error.use_stderr() {
+        Usage::Wrong(text)
+    } else {
+        Usage::Asked(text)
+    })
+}
+
 // What the words say by the command line.
 fn matches_of<'a>(alloc: Global, words: &'a [String]) -> Result<ArgMatches<'a>, Usage> {
     match program(alloc)?.try_get_matches_from(words) {
         Ok(matches) => Ok(matches),
-        Err(error) => {
-            if error.kind() == ErrorKind::OutOfMemory {
-                return Err(Usage::Memory);
-            }
-            let text = format!(in alloc; "{error}")?;
-            Err(if error.use_stderr() {
-                Usage::Wrong(text)
-            } else {
-                Usage::Asked(text)
-            })
-        }
+        Err(error) => Err(usage_of(alloc, &error)?),
+    }
+}
+
+fn bad_words(alloc: Global) -> Usage {
+    match String::from_str(alloc, "og: bad words\n") {
+        Ok(text) => Usage::Wrong(text),
+        Err(_) => Usage::Memory,
     }
 }
 
@@ -148,12 +170,10 @@ pub fn read_words<'a>(alloc: Global, words: &'a [String]) -> Result<Job<'a>, Usa
         return Ok(Job::Joined);
     };
     let matches = matches_of(alloc, words)?;
-    if let Some(verb) = verb_of(first.as_str()) {
-        if let Some((_, m)) = matches.subcommand() {
-            if let Some(job) = job_of(alloc, verb, m)? {
-                return Ok(job);
-            }
-        }
+    let job = named_job(alloc, first.as_str(), &matches);
+    drop(matches);
+    match job? {
+        Some(job) => Ok(job),
+        None => Err(bad_words(alloc)),
     }
-    Err(Usage::Wrong(String::from_str(alloc, "og: bad words\n")?))
 }
