@@ -137,6 +137,29 @@ fn processes(alloc: Global, vars: u32, all: &[Seq]) -> Result<Vec<Seq>, AllocErr
     Ok(processes)
 }
 
+// What stands before the processes, the processes, and what stands behind them.
+#[derive(Drop)]
+struct Main {
+    prologue: Option<Seq>,
+    processes: Vec<Seq>,
+    epilogue: Option<Seq>,
+}
+
+fn main_part(alloc: Global, vars: u32, outline: &Outline) -> Result<Main, AllocError>
+    ensures prologue { IfOk result (λ m. option_map plain.sequence m.prologue ≡ option_map (erase.erase_seq vars) outline.now.prologue) }
+    ensures processes { IfOk result (λ m. map plain.sequence m.processes.items ≡ map (erase.erase_seq vars) outline.now.processes) }
+    ensures epilogue { IfOk result (λ m. option_map plain.sequence m.epilogue ≡ option_map (erase.erase_seq vars) outline.now.epilogue) }
+{
+    let prologue = part(alloc, vars, outline.prologue())?;
+    let processes = processes(alloc, vars, outline.processes())?;
+    let epilogue = part(alloc, vars, outline.epilogue())?;
+    Ok(Main {
+        prologue,
+        processes,
+        epilogue,
+    })
+}
+
 /// The program of an outline: without the auxiliary variables, and without the assignments to them
 /// at every depth, also in the body of an await. What becomes empty stays: a sequence, a branch, a
 /// body, a part before `cobegin` or after `coend`. The precondition and the postcondition stay, and
@@ -150,15 +173,19 @@ pub fn erase(alloc: Global, outline: &Outline) -> Result<Program, AllocError>
 {
     outline.follows_rule();
     let vars = outline.vars();
+    let names = copy_names(alloc, &outline.names()[..vars as usize])?;
+    let pre = copy_note(alloc, outline.pre())?;
+    let post = copy_note(alloc, outline.post())?;
+    let main = main_part(alloc, vars, outline)?;
     let parts = Parts {
-        names: copy_names(alloc, &outline.names()[..vars as usize])?,
+        names,
         vars,
         aux_values: Vec::new(alloc),
-        pre: copy_note(alloc, outline.pre())?,
-        prologue: part(alloc, vars, outline.prologue())?,
-        processes: processes(alloc, vars, outline.processes())?,
-        epilogue: part(alloc, vars, outline.epilogue())?,
-        post: copy_note(alloc, outline.post())?,
+        pre,
+        prologue: main.prologue,
+        processes: main.processes,
+        epilogue: main.epilogue,
+        post,
         cobegin_at: outline.cobegin_at(),
     };
     let outline = Outline::new(parts);

@@ -83,6 +83,34 @@ fn processes(alloc: Global, names: &[Name], all: &[Seq]) -> Result<RawProcesses,
     }
 }
 
+// What stands before the processes, the processes, and what stands behind them.
+#[derive(Drop)]
+struct Main {
+    prologue: Option<RawSeq>,
+    processes: RawProcesses,
+    epilogue: Option<RawSeq>,
+}
+
+fn main_part(alloc: Global, outline: &Outline) -> Result<Main, AllocError>
+    ensures prologue { IfOk result (λ m. option_map seq_of m.prologue
+        ≡ option_map (collected.sequence outline.now.names) outline.now.prologue) }
+    ensures processes { IfOk result (λ m. seqs_of m.processes
+        ≡ map (collected.sequence outline.now.names) outline.now.processes) }
+    ensures epilogue { IfOk result (λ m. option_map seq_of m.epilogue
+        ≡ option_map (collected.sequence outline.now.names) outline.now.epilogue) }
+{
+    outline.follows_rule();
+    let names = outline.names();
+    let prologue = part(alloc, names, outline.prologue())?;
+    let processes = processes(alloc, names, outline.processes())?;
+    let epilogue = part(alloc, names, outline.epilogue())?;
+    Ok(Main {
+        prologue,
+        processes,
+        epilogue,
+    })
+}
+
 impl Program {
     /// The program as an outline: its precondition and postcondition are those of the outline that
     /// it was made of, and every other assertion is `true`. Takes no memory.
@@ -105,15 +133,19 @@ impl Program {
         let outline = &self.outline;
         outline.follows_rule();
         let names = outline.names();
+        let vars = declared(alloc, names)?;
+        let pre = note(alloc, names, outline.pre())?;
+        let post = note(alloc, names, outline.post())?;
+        let main = main_part(alloc, outline)?;
         Ok(Raw {
-            vars: declared(alloc, names)?,
+            vars,
             auxes: Vec::new(alloc),
-            pre: note(alloc, names, outline.pre())?,
-            prologue: part(alloc, names, outline.prologue())?,
+            pre,
+            prologue: main.prologue,
             cobegin: NOWHERE,
-            processes: processes(alloc, names, outline.processes())?,
-            epilogue: part(alloc, names, outline.epilogue())?,
-            post: note(alloc, names, outline.post())?,
+            processes: main.processes,
+            epilogue: main.epilogue,
+            post,
         })
     }
 }

@@ -3,16 +3,27 @@
 ghost use Rattle.std.specs.Prelude.{◌≡◌, IfOk, length, map};
 ghost use Rattle.std.specs.List.{AllByRecursion};
 ghost use Rattle.og_erase.specs.Collected as collected;
-ghost use Rattle.og_parse.specs.Trees.{basic_of, element_of, stmt_of, seq_of};
+ghost use Rattle.og_parse.specs.Trees.{assertion_of, basic_of, element_of, stmt_of, seq_of};
 ghost use Rattle.og_typed.specs.Plain as plain;
-ghost use Rattle.og_typed.specs.Rule.{IsUsableSimple, IsUsableStatement, IsUsableSequence};
+ghost use Rattle.og_typed.specs.Syntax.{Set};
+ghost use Rattle.og_typed.specs.Rule.{IsUsable, IsUsableSimple, IsUsableStatement, IsUsableSequence};
 
 use crate::assertions::{assertion, note};
 use crate::forms::{NOWHERE, sum, variable};
-use og_parse::{RawBasic, RawElement, RawItem, RawSeq, RawStmt};
+use og_linear::Form;
+use og_parse::{RawAssert, RawBasic, RawElement, RawItem, RawSeq, RawStmt};
 use og_text::Name;
-use og_typed::{Basic, Seq, Stmt};
+use og_typed::{Assert, Basic, Seq, Stmt};
 use std::alloc::{AllocError, Global};
+
+// An assignment.
+fn assignment(alloc: Global, names: &[Name], var: u32, form: &Form) -> Result<RawBasic, AllocError>
+    requires { IsUsableSimple (length names.now) (Set var form.now) }
+    ensures { IfOk result (λ b. basic_of b ≡ collected.basic names.now (Set var form.now)) }
+{
+    let name = variable(alloc, names, var)?;
+    Ok(RawBasic::Assign(name, sum(alloc, names, form)?))
+}
 
 // A statement in the body of an await.
 fn element(alloc: Global, names: &[Name], basic: &Basic) -> Result<RawBasic, AllocError>
@@ -21,10 +32,7 @@ fn element(alloc: Global, names: &[Name], basic: &Basic) -> Result<RawBasic, All
 {
     match basic {
         Basic::Skip => Ok(RawBasic::Skip),
-        Basic::Assign(var, form) => {
-            let name = variable(alloc, names, *var)?;
-            Ok(RawBasic::Assign(name, sum(alloc, names, form)?))
-        }
+        Basic::Assign(var, form) => { assignment(alloc, names, *var, form) }
     }
 }
 
@@ -45,6 +53,23 @@ fn elements(alloc: Global, names: &[Name], body: &[Basic]) -> Result<Vec<RawElem
     Ok(elements)
 }
 
+// A sequence, and the test before it.
+#[cycle(statements)]
+fn guarded(
+    alloc: Global,
+    names: &[Name],
+    seq: &Seq,
+    test: &Assert,
+) -> Result<(RawSeq, RawAssert), AllocError>
+    requires seq { IsUsableSequence (length names.now) (plain.sequence seq.now) }
+    requires test { IsUsable (length names.now) (plain.formula test.now) }
+    ensures seq { IfOk result (λ p. seq_of p.0 ≡ collected.sequence names.now (plain.sequence seq.now)) }
+    ensures test { IfOk result (λ p. assertion_of p.1 ≡ collected.assertion names.now (plain.formula test.now)) }
+{
+    let seq = sequence(alloc, names, seq)?;
+    Ok((seq, assertion(alloc, names, test)?))
+}
+
 #[cycle(statements)]
 fn statement(alloc: Global, names: &[Name], stmt: &Stmt) -> Result<RawStmt, AllocError>
     requires { IsUsableStatement (length names.now) (plain.statement stmt.now) }
@@ -52,23 +77,19 @@ fn statement(alloc: Global, names: &[Name], stmt: &Stmt) -> Result<RawStmt, Allo
 {
     match stmt {
         Stmt::Skip => Ok(RawStmt::Basic(RawBasic::Skip)),
-        Stmt::Assign(var, form) => {
-            let name = variable(alloc, names, *var)?;
-            Ok(RawStmt::Basic(RawBasic::Assign(name, sum(alloc, names, form)?)))
-        }
+        Stmt::Assign(var, form) => { Ok(RawStmt::Basic(assignment(alloc, names, *var, form)?)) }
         Stmt::If(test, then, None) => {
-            let test = assertion(alloc, names, test)?;
-            Ok(RawStmt::If(test, sequence(alloc, names, then)?, None))
+            let (then, test) = guarded(alloc, names, then, test)?;
+            Ok(RawStmt::If(test, then, None))
         }
         Stmt::If(test, then, Some(other)) => {
-            let test = assertion(alloc, names, test)?;
-            let then = sequence(alloc, names, then)?;
             let other = sequence(alloc, names, other)?;
+            let (then, test) = guarded(alloc, names, then, test)?;
             Ok(RawStmt::If(test, then, Some(other)))
         }
         Stmt::While(test, body) => {
-            let test = assertion(alloc, names, test)?;
-            Ok(RawStmt::While(test, sequence(alloc, names, body)?))
+            let (body, test) = guarded(alloc, names, body, test)?;
+            Ok(RawStmt::While(test, body))
         }
         Stmt::Await(guard, body) => {
             let guard = assertion(alloc, names, guard)?;

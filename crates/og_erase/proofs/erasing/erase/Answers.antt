@@ -10,14 +10,14 @@ pub new-outline-requires : goal.new-outline-requires
 new-outline-requires c =
     let outline = c.args.outline.now in
     let made : Program = record {
-      names = c.in_ok-copy_names.field-0.items;
+      names = c.in_ok-names.names.items;
       vars = c.vars-vars.result;
       aux_values = c.new.result.items;
-      pre = noted c.in_ok-copy_note.field-0;
-      prologue = option_map sequence c.in_ok-part.field-0;
-      processes = map sequence c.in_ok-processes.field-0.items;
-      epilogue = option_map sequence c.in_ok-part-2.field-0;
-      post = noted c.in_ok-copy_note-2.field-0;
+      pre = noted c.in_ok-pre.pre;
+      prologue = option_map sequence c.in_ok-main.main.prologue;
+      processes = map sequence c.in_ok-main.main.processes.items;
+      epilogue = option_map sequence c.in_ok-main.main.epilogue;
+      post = noted c.in_ok-post.post;
       cobegin_at = c.cobegin_at.result;
     } in
     let same : made ≡ erased outline = search rules in
