@@ -21,7 +21,7 @@ use std::thread::Threads;
 // The status of wrong words.
 const WRONG: u8 = 3;
 
-// The status where a device, memory or a thread is wanting.
+// The status where a file cannot be read or written, memory runs out, or a thread cannot be started.
 const FAULT: u8 = 4;
 
 // Ends with a text on standard error; where that cannot be written, the status alone tells.

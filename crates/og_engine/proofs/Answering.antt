@@ -1,5 +1,5 @@
 -- From the parts of an answer to the whole.
-use Rattle.std.proofs.Common.{◌≡◌, inl, inr, sym, subst, ℕ, Bool, List, Result, Ok, Err, Option, IfOk, IfSome}
+use Rattle.std.proofs.Common.{◌≡◌, ◌⊎◌, inl, inr, sym, subst, ℕ, Bool, List, Result, Ok, Err, Option, IfOk, IfSome}
 use Rattle.std.specs.Io.KnownBytes.{Appends}
 use Rattle.og_input.specs.Joined.{IsSplit}
 use Rattle.og_typed.specs.Syntax.{Program}
@@ -12,8 +12,7 @@ use Rattle.og_judge.specs.Report.{IsSource, IsReport, IsRefused}
 use Rattle.og_engine.specs.declared.answer.Answer.{Answer}
 use Rattle.og_engine.specs.declared.fault.EngineFault.{EngineFault}
 use Rattle.og_engine.specs.Answers.{report_in, status_of, IsOutput, IsChecked, IsTold, Writes, WritesJoined}
-use Rattle.og_engine.specs.Commands.{IsConditionsRefused, IsListedOf, IsListed, IsErased}
-use Rattle.og_engine.specs.Making.{IsFoundOf, IsFound}
+use Rattle.og_engine.specs.Commands.{IsUnread, IsConditionsRefused, IsErased}
 use Rattle.og_engine.specs.Inputs.{source_of, certs_of, joined_of}
 use Rattle.og_engine.proofs.Fronts.{of_fronts, of_front}
 
@@ -27,15 +26,17 @@ pub turned_down : (json : Bool) (source certs : List ℕ) (why : Refusal) (r : R
 turned_down json source certs why (Err e) h told = tt
 turned_down json source certs why (Ok a) h told = inr (record { why = why; refused = h; has_line = (told.0, told.1); printed = told.2; told = told.3 })
 
-pub not_listed : (source : List ℕ) (o : Program) (why : Refusal) (r : Result Answer EngineFault) → IsConditionsRefused o why
-    → IfOk r (IsTold source why) → IfOk r (IsListedOf o source)
-not_listed source o why (Err e) h told = tt
-not_listed source o why (Ok a) h told = inr (why, h, told)
+-- an answer such as P says of it, or the line that says why an outline's conditions are not listed
+pub not_listed : (P : Answer → Type 0) (source : List ℕ) (o : Program) (why : Refusal) (r : Result Answer EngineFault) → IsConditionsRefused o why
+    → IfOk r (IsTold source why) → IfOk r (λ a. P a ⊎ ((why : Refusal) × IsConditionsRefused o why × IsTold source why a))
+not_listed P source o why (Err e) h told = tt
+not_listed P source o why (Ok a) h told = inr (why, h, told)
 
-pub listed_source : (source : List ℕ) (o : Program) (r : Result Answer EngineFault) → IsSource source o
-    → IfOk r (IsListedOf o source) → IfOk r (IsListed source)
-listed_source source o (Err e) s told = tt
-listed_source source o (Ok a) s told = inr (o, s, told)
+-- such an answer is that of the outline's source
+pub of_source : (P : Program → Answer → Type 0) (source : List ℕ) (o : Program) (r : Result Answer EngineFault) → IsSource source o
+    → IfOk r (P o) → IfOk r (λ a. IsUnread source a ⊎ ((o : Program) × IsSource source o × P o a))
+of_source P source o (Err e) s told = tt
+of_source P source o (Ok a) s told = inr (o, s, told)
 
 pub erased_source : (source : List ℕ) (o : Program) (r : Result Answer EngineFault) → IsSource source o
     → IfOk r (λ a. a.text.items ≡ program_text (raw_of (erased o))) → IfOk r (λ a. a.status ≡ 0) → IfOk r (IsErased source)
@@ -63,13 +64,3 @@ pub joined_engine_written : (json : Bool) (a before after : Option (List ℕ)) (
     → Appends before after answer.text.items → IfSome a (λ input. WritesJoined json (joined_of input) before after status)
 joined_engine_written json a before after i s c answer status p cut h same appended =
     of_front (λ x. WritesJoined json x before after status) a i p (joined_written json i s c answer status before after cut h same appended)
-
-pub not_found : (source : List ℕ) (o : Program) (why : Refusal) (r : Result Answer EngineFault) → IsConditionsRefused o why
-    → IfOk r (IsTold source why) → IfOk r (IsFoundOf o source)
-not_found source o why (Err e) h told = tt
-not_found source o why (Ok a) h told = inr (why, h, told)
-
-pub found_source : (source : List ℕ) (o : Program) (r : Result Answer EngineFault) → IsSource source o
-    → IfOk r (IsFoundOf o source) → IfOk r (IsFound source)
-found_source source o (Err e) s told = tt
-found_source source o (Ok a) s told = inr (o, s, told)

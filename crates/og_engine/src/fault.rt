@@ -26,7 +26,7 @@ pub enum EngineFault {
 }
 
 impl EngineFault {
-    /// The number of the fault; want of memory has none.
+    /// The number of the fault; `Memory` has none.
     pub fn number(&self) -> Option<u8>
         ensures { result ≡ number_of_fault self.now }
     {

@@ -45,7 +45,7 @@ pub enum Refusal {
 }
 
 impl Refusal {
-    /// The number of the refusal; want of memory has none.
+    /// The number of the refusal; `Memory` has none.
     pub fn number(&self) -> Option<u8>
         ensures { result ≡ number_of_refusal self.now }
     {

@@ -19,7 +19,7 @@ pub enum PoolFault {
 }
 
 impl PoolFault {
-    /// The number of the fault: 40 for `Spawn`; want of memory has none.
+    /// The number of the fault: 40 for `Spawn`; `Memory` has none.
     pub fn number(&self) -> Option<u8>
         ensures { result ≡ number_of_fault self.now }
     {
