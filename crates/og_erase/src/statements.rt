@@ -32,7 +32,7 @@ fn element(alloc: Global, names: &[Name], basic: &Basic) -> Result<RawBasic, All
 {
     match basic {
         Basic::Skip => Ok(RawBasic::Skip),
-        Basic::Assign(var, form) => { assignment(alloc, names, *var, form) }
+        Basic::Assign(var, form) => assignment(alloc, names, *var, form),
     }
 }
 
@@ -77,7 +77,7 @@ fn statement(alloc: Global, names: &[Name], stmt: &Stmt) -> Result<RawStmt, Allo
 {
     match stmt {
         Stmt::Skip => Ok(RawStmt::Basic(RawBasic::Skip)),
-        Stmt::Assign(var, form) => { Ok(RawStmt::Basic(assignment(alloc, names, *var, form)?)) }
+        Stmt::Assign(var, form) => Ok(RawStmt::Basic(assignment(alloc, names, *var, form)?)),
         Stmt::If(test, then, None) => {
             let (then, test) = guarded(alloc, names, then, test)?;
             Ok(RawStmt::If(test, then, None))
