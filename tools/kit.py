@@ -23,6 +23,21 @@ def load():
 rtlib = load()
 
 
+def cached_by_folder(stamp):
+    """Returns the sum of a crate's files and of the libraries below it, each made once: `rt` makes it anew for each crate above."""
+    made = {}
+
+    def cached(crate):
+        if crate.folder not in made:
+            made[crate.folder] = stamp(crate)
+        return made[crate.folder]
+
+    return cached
+
+
+rtlib.Crate.stamp = cached_by_folder(rtlib.Crate.stamp)
+
+
 def crates_of(top):
     """Returns the crates of a repository, each after those that it stands on."""
     before = os.getcwd()
