@@ -1,6 +1,6 @@
 //! Bounds of the variables.
 
-use crate::linear::{Linear, ceil_div, floor_div};
+use crate::linear::{At, Linear, Term, ceil_div, floor_div};
 use std::alloc::{AllocError, Global};
 
 /// The least value of a variable.
@@ -9,6 +9,52 @@ pub(crate) const LOWEST: i128 = -9_223_372_036_854_775_808;
 /// The greatest value of a variable.
 pub(crate) const HIGHEST: i128 = 9_223_372_036_854_775_807;
 
+/// A side on which a variable is bounded.
+#[derive(Clone, Copy)]
+pub(crate) enum Side {
+    Lower,
+    Upper,
+}
+
+impl Side {
+    /// The side on which a term with this coefficient is least.
+    pub(crate) fn of_least(coefficient: i128) -> Side {
+        if coefficient > 0 {
+            Side::Lower
+        } else {
+            Side::Upper
+        }
+    }
+
+    /// The side on which a term with this coefficient is greatest.
+    pub(crate) fn of_greatest(coefficient: i128) -> Side {
+        if coefficient > 0 {
+            Side::Upper
+        } else {
+            Side::Lower
+        }
+    }
+}
+
+/// What an inequality says of one of its variables: it is no less, or no greater, than a value.
+#[derive(Clone, Copy)]
+pub(crate) struct Limit {
+    pub(crate) side: Side,
+    pub(crate) value: i128,
+}
+
+impl Limit {
+    /// What `coefficient * x + rest <= 0` says of x; none where a number leaves `i128`.
+    pub(crate) fn of(coefficient: i128, rest: i128) -> Option<Limit> {
+        let side = Side::of_greatest(coefficient);
+        let value = match side {
+            Side::Lower => ceil_div(rest, coefficient.checked_neg()?)?,
+            Side::Upper => floor_div(rest.checked_neg()?, coefficient)?,
+        };
+        Some(Limit { side, value })
+    }
+}
+
 /// A bound of a variable, and the row that says so; none where it is the range of `i64`.
 #[derive(Clone, Copy)]
 pub(crate) struct Bound {
@@ -16,137 +62,111 @@ pub(crate) struct Bound {
     pub(crate) row: Option<usize>,
 }
 
-const NO_LOWER: Bound = Bound {
-    value: LOWEST,
-    row: None,
-};
+// The bounds of one variable.
+#[derive(Clone, Copy)]
+struct Interval {
+    lower: Bound,
+    upper: Bound,
+}
 
-const NO_UPPER: Bound = Bound {
-    value: HIGHEST,
-    row: None,
-};
+impl Interval {
+    // The range of `i64`.
+    const WHOLE: Interval = Interval {
+        lower: Bound {
+            value: LOWEST,
+            row: None,
+        },
+        upper: Bound {
+            value: HIGHEST,
+            row: None,
+        },
+    };
+}
 
 /// The bounds of all variables.
 #[derive(Drop)]
 pub(crate) struct Bounds {
-    low: Vec<Bound>,
-    high: Vec<Bound>,
+    intervals: Vec<Interval>,
 }
 
 impl Bounds {
     /// No bounds but the range of `i64`.
     pub(crate) fn new(alloc: Global, variables: usize) -> Result<Bounds, AllocError> {
         Ok(Bounds {
-            low: vec![in alloc; NO_LOWER; variables]?,
-            high: vec![in alloc; NO_UPPER; variables]?,
+            intervals: vec![in alloc; Interval::WHOLE; variables]?,
         })
     }
 
     pub(crate) fn copy(&self) -> Result<Bounds, AllocError> {
         Ok(Bounds {
-            low: self.low.clone()?,
-            high: self.high.clone()?,
+            intervals: self.intervals.clone()?,
         })
     }
 
-    pub(crate) fn lower(&self, var: u32) -> Bound {
-        self.low.get(var as usize).copied().unwrap_or(NO_LOWER)
-    }
-
-    pub(crate) fn upper(&self, var: u32) -> Bound {
-        self.high.get(var as usize).copied().unwrap_or(NO_UPPER)
-    }
-
-    /// The bound at which a term with this coefficient is least.
-    pub(crate) fn least_at(&self, var: u32, coefficient: i128) -> Bound {
-        if coefficient > 0 {
-            self.lower(var)
-        } else {
-            self.upper(var)
+    pub(crate) fn get(&self, var: u32, side: Side) -> Bound {
+        let interval = self.intervals.get(var as usize).copied();
+        let interval = interval.unwrap_or(Interval::WHOLE);
+        match side {
+            Side::Lower => interval.lower,
+            Side::Upper => interval.upper,
         }
     }
 
-    pub(crate) fn set_lower(&mut self, var: u32, bound: Bound) {
-        if let Some(place) = self.low.get_mut(var as usize) {
-            *place = bound;
+    fn set(&mut self, var: u32, side: Side, bound: Bound) {
+        if let Some(interval) = self.intervals.get_mut(var as usize) {
+            match side {
+                Side::Lower => interval.lower = bound,
+                Side::Upper => interval.upper = bound,
+            }
         }
     }
 
-    pub(crate) fn set_upper(&mut self, var: u32, bound: Bound) {
-        if let Some(place) = self.high.get_mut(var as usize) {
-            *place = bound;
+    /// Whether the limit leaves the variable fewer values than its bound on that side.
+    pub(crate) fn is_improved_by(&self, var: u32, limit: Limit) -> bool {
+        let bound = self.get(var, limit.side);
+        match limit.side {
+            Side::Lower => limit.value > bound.value,
+            Side::Upper => limit.value < bound.value,
         }
     }
 
     /// Whether no value of the variable is left.
     pub(crate) fn is_empty_at(&self, var: u32) -> bool {
-        self.lower(var).value > self.upper(var).value
+        self.get(var, Side::Lower).value > self.get(var, Side::Upper).value
     }
 
-    /// The least value within the bounds.
-    pub(crate) fn least(&self, form: &Linear) -> Option<i128> {
-        let mut sum = form.constant;
-        for t in &form.terms {
-            let bound = self.least_at(t.0, t.1);
-            sum = sum.checked_add(t.1.checked_mul(bound.value)?)?;
-        }
-        Some(sum)
+    /// The bound of its variable at which the term is least.
+    pub(crate) fn least_at(&self, term: Term) -> Bound {
+        self.get(term.var, Side::of_least(term.coefficient))
     }
 
-    /// The greatest value within the bounds.
-    pub(crate) fn greatest(&self, form: &Linear) -> Option<i128> {
-        let mut sum = form.constant;
-        for t in &form.terms {
-            let bound = if t.1 > 0 {
-                self.upper(t.0)
-            } else {
-                self.lower(t.0)
-            };
-            sum = sum.checked_add(t.1.checked_mul(bound.value)?)?;
-        }
-        Some(sum)
+    /// The bound of its variable at which the term is greatest.
+    pub(crate) fn greatest_at(&self, term: Term) -> Bound {
+        self.get(term.var, Side::of_greatest(term.coefficient))
     }
 
     /// Whether the inequality is false at all values within the bounds.
     pub(crate) fn exclude(&self, form: &Linear) -> bool {
-        match self.least(form) {
-            Some(least) => least > 0,
-            None => false,
-        }
+        matches!(form.value(At::Least(self), None), Some(least) if least > 0)
     }
 
     /// Whether the inequality is true at all values within the bounds.
     pub(crate) fn imply(&self, form: &Linear) -> bool {
-        match self.greatest(form) {
-            Some(greatest) => greatest <= 0,
-            None => false,
-        }
+        matches!(form.value(At::Greatest(self), None), Some(greatest) if greatest <= 0)
     }
 
-    /// Takes note of an inequality of one variable without a row for it. Tells whether a bound got
-    /// better.
-    pub(crate) fn cut_by(&mut self, form: &Linear) -> bool {
-        let (var, c) = match form.terms.as_slice() {
-            [only] => *only,
-            _ => return false,
+    /// Takes the bound that an inequality of one variable sets, said by this row if there is one.
+    /// Tells the variable if that got a better bound.
+    pub(crate) fn take(&mut self, form: &Linear, row: Option<usize>) -> Option<u32> {
+        let [only] = form.terms.as_slice() else {
+            return None;
         };
-        let row = None;
-        if c > 0 {
-            match form.constant.checked_neg().and_then(|x| floor_div(x, c)) {
-                Some(value) if value < self.upper(var).value => {
-                    self.set_upper(var, Bound { value, row });
-                    true
-                }
-                _ => false,
-            }
-        } else {
-            match c.checked_neg().and_then(|d| ceil_div(form.constant, d)) {
-                Some(value) if value > self.lower(var).value => {
-                    self.set_lower(var, Bound { value, row });
-                    true
-                }
-                _ => false,
-            }
+        let limit = Limit::of(only.coefficient, form.constant)?;
+        if !self.is_improved_by(only.var, limit) {
+            return None;
         }
+        let value = limit.value;
+        self.set(only.var, limit.side, Bound { value, row });
+        Some(only.var)
     }
 }

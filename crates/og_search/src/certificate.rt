@@ -1,6 +1,7 @@
 //! The certificate of a refutation: its facts get their numbers.
 
-use crate::levels::TOP;
+use crate::bounds::Side;
+use crate::levels::{Place, TOP};
 use crate::linear::Linear;
 use crate::proof::{Case, Line, Multiple, Name, Tree};
 use crate::stop::Stop;
@@ -22,25 +23,28 @@ impl Starts {
         }
     }
 
-    fn number(&self, level: u32, index: usize) -> Option<u32> {
-        let start = self.starts.get(level as usize).copied()?;
-        number_behind(start, index)
+    // The number of the fact at this place.
+    fn number(&self, place: Place) -> Option<u32> {
+        let start = self.starts.get(place.level as usize).copied()?;
+        number_after(start, place.index)
     }
 }
 
-// The number of a fact with this place behind others.
-fn number_behind(start: usize, index: usize) -> Option<u32> {
-    let number = start.checked_add(index)?.checked_add(1)?;
+// The number of the fact at this place, from 0, after so many others.
+fn number_after(count: usize, index: usize) -> Option<u32> {
+    let number = count.checked_add(index)?.checked_add(1)?;
     u32::try_from(number).ok()
 }
 
-// What the name stands for, where the leaf's lines stand behind so many facts.
+// What the name stands for, where the leaf's lines come after so many facts.
 fn source_of(starts: &Starts, count: usize, name: Name) -> Option<Source> {
     match name {
-        Name::Given(level, index) => Some(Source::Known(starts.number(level, index)?)),
-        Name::Low(var) => Some(Source::Low(var)),
-        Name::High(var) => Some(Source::High(var)),
-        Name::Line(place) => Some(Source::Known(number_behind(count, place)?)),
+        Name::Given(place) => Some(Source::Known(starts.number(place)?)),
+        Name::Range { var, side } => match side {
+            Side::Lower => Some(Source::Low(var)),
+            Side::Upper => Some(Source::High(var)),
+        },
+        Name::Line(index) => Some(Source::Known(number_after(count, index)?)),
     }
 }
 
@@ -69,7 +73,7 @@ fn cut_of(starts: &Starts, count: usize, name: Name, divisor: u64) -> Option<Cer
 fn step_of(starts: &Starts, count: usize, line: &Line) -> Result<CertStep, Stop> {
     match line {
         Line::Sum(sum) => Ok(CertStep::Sum(terms_of(starts, count, sum)?)),
-        Line::Cut(name, divisor) => cut_of(starts, count, *name, *divisor).ok_or(Stop::Stuck),
+        Line::Cut { name, divisor } => cut_of(starts, count, *name, *divisor).ok_or(Stop::Stuck),
     }
 }
 
@@ -86,8 +90,8 @@ fn leaf_of(starts: &Starts, count: usize, lines: &[Line], end: &[Multiple]) -> R
 
 fn form_of(alloc: Global, row: &Linear) -> Result<Form, FormError> {
     let mut form = Form::constant(alloc, row.constant);
-    for t in &row.terms {
-        form.add_scaled(t.1, &Form::variable(alloc, t.0)?)?;
+    for term in &row.terms {
+        form.add_scaled(term.coefficient, &Form::variable(alloc, term.var)?)?;
     }
     Ok(form)
 }
@@ -101,23 +105,23 @@ fn branch_form(alloc: Global, row: &Linear) -> Result<Form, Stop> {
     }
 }
 
-// The certificate of a refutation that stands behind so many facts.
+// The certificate of a refutation that comes after so many facts.
 #[cycle(numbering)]
 fn cert_of(tree: &Tree, count: usize, starts: &mut Starts) -> Result<Cert, Stop> {
     let alloc = starts.alloc;
     let finish = match tree {
-        Tree::Leaf(lines, end) => return leaf_of(starts, count, lines, end),
-        Tree::Split(level, index, cases) => {
-            let number = starts.number(*level, *index).ok_or(Stop::Stuck)?;
+        Tree::Leaf { lines, end } => return leaf_of(starts, count, lines, end),
+        Tree::Split { choice, cases } => {
+            let number = starts.number(*choice).ok_or(Stop::Stuck)?;
             Finish::Split(number, certs_of(cases, count, starts)?)
         }
         Tree::Branch(sides) => {
             let form = branch_form(alloc, &sides.form)?;
-            let behind = count.checked_add(1).ok_or(Stop::Stuck)?;
+            let after = count.checked_add(1).ok_or(Stop::Stuck)?;
             starts.set(sides.level, count);
-            let low = cert_of(&sides.first, behind, starts)?;
+            let low = cert_of(&sides.first, after, starts)?;
             starts.set(sides.level, count);
-            let high = cert_of(&sides.second, behind, starts)?;
+            let high = cert_of(&sides.second, after, starts)?;
             Finish::Branch(form, Box::new(alloc, low)?, Box::new(alloc, high)?)
         }
     };
@@ -131,9 +135,9 @@ fn cert_of(tree: &Tree, count: usize, starts: &mut Starts) -> Result<Cert, Stop>
 fn certs_of(cases: &[Case], count: usize, starts: &mut Starts) -> Result<Vec<Cert>, Stop> {
     let mut certs = Vec::with_capacity(starts.alloc, cases.len())?;
     for case in cases {
-        let behind = count.checked_add(case.count).ok_or(Stop::Stuck)?;
+        let after = count.checked_add(case.count).ok_or(Stop::Stuck)?;
         starts.set(case.level, count);
-        certs.push(cert_of(&case.tree, behind, starts)?)?;
+        certs.push(cert_of(&case.tree, after, starts)?)?;
     }
     Ok(certs)
 }

@@ -21,8 +21,8 @@ pub enum Claim {
 
 /// Searches among facts over so many variables, within the budget.
 ///
-/// One step of the budget is one fact added, or one level begun; looking through very many facts
-/// costs steps too. The claim is the same each time.
+/// A step of the budget is a row that is made of others, a fact of a part of a choice, or a level;
+/// looking through very many facts or rows costs steps too. The claim is the same each time.
 ///
 /// # Errors
 ///

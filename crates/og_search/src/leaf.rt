@@ -1,26 +1,34 @@
 //! The leaves of a refutation: one line for each row that its last row rests on.
 
 use crate::proof::{Line, Multiple, Name, Proof, Tree};
-use crate::rows::{Origin, Row, Rows};
+use crate::rows::{Origin, Rows, Summand};
 use crate::stop::Stop;
 use std::alloc::AllocError;
 
-fn mark(wanted: &mut [bool], r: usize) {
-    if let Some(place) = wanted.get_mut(r) {
+// The lines of a leaf, and the place of each row's line among them.
+#[derive(Drop)]
+struct Lines<'a> {
+    rows: &'a Rows,
+    lines: Vec<Line>,
+    places: Vec<usize>,
+}
+
+fn mark(wanted: &mut [bool], row: usize) {
+    if let Some(place) = wanted.get_mut(row) {
         *place = true;
     }
 }
 
-// Marks what a row was made of.
-fn mark_behind(wanted: &mut [bool], row: &Row) {
-    match &row.origin {
+// Marks the rows of which a row was made.
+fn mark_parts(wanted: &mut [bool], origin: &Origin) {
+    match origin {
         Origin::Sum(sum) => {
-            for t in sum {
-                mark(wanted, t.1);
+            for part in sum {
+                mark(wanted, part.row);
             }
         }
-        Origin::Cut(r, _) => mark(wanted, *r),
-        _ => {}
+        Origin::Cut { row, .. } => mark(wanted, *row),
+        Origin::Given(_) | Origin::Range { .. } => {}
     }
 }
 
@@ -28,96 +36,98 @@ fn mark_behind(wanted: &mut [bool], row: &Row) {
 fn rows_behind(rows: &Rows, last: usize) -> Result<Vec<bool>, AllocError> {
     let mut wanted = vec![in rows.alloc(); false; rows.len()]?;
     mark(&mut wanted, last);
-    for r in (0..rows.len()).rev() {
-        if wanted.get(r).copied().unwrap_or(false) {
-            if let Some(row) = rows.row(r) {
-                mark_behind(&mut wanted, row);
+    for row in (0..rows.len()).rev() {
+        if wanted.get(row) == Some(&true) {
+            if let Some(origin) = rows.origin(row) {
+                mark_parts(&mut wanted, origin);
             }
         }
     }
     Ok(wanted)
 }
 
-// The name of a row: of what it is, or of its line.
-fn name_of(rows: &Rows, places: &[usize], r: usize) -> Name {
-    match rows.row(r).map(|row| &row.origin) {
-        Some(Origin::Given(level, index)) => Name::Given(*level, *index),
-        Some(Origin::Low(var)) => Name::Low(*var),
-        Some(Origin::High(var)) => Name::High(*var),
-        _ => Name::Line(places.get(r).copied().unwrap_or(0)),
+impl<'a> Lines<'a> {
+    fn new(rows: &'a Rows) -> Result<Lines<'a>, AllocError> {
+        Ok(Lines {
+            rows,
+            lines: Vec::new(rows.alloc()),
+            places: vec![in rows.alloc(); 0; rows.len()]?,
+        })
     }
-}
 
-fn multiple(rows: &Rows, places: &[usize], t: (i128, usize)) -> Option<Multiple> {
-    let times = u64::try_from(t.0).ok()?;
-    let name = name_of(rows, places, t.1);
-    Some(Multiple { times, name })
-}
-
-fn multiples(rows: &Rows, places: &[usize], sum: &[(i128, usize)]) -> Result<Vec<Multiple>, Stop> {
-    let mut out = Vec::with_capacity(rows.alloc(), sum.len())?;
-    for t in sum {
-        out.push(multiple(rows, places, *t).ok_or(Stop::Stuck)?)?;
-    }
-    Ok(out)
-}
-
-fn cut(rows: &Rows, places: &[usize], from: usize, divisor: i128) -> Option<Line> {
-    let divisor = u64::try_from(divisor).ok()?;
-    Some(Line::Cut(name_of(rows, places, from), divisor))
-}
-
-// The line of a row, if it is no fact and no bound.
-fn line_of(rows: &Rows, places: &[usize], r: usize) -> Result<Option<Line>, Stop> {
-    match rows.row(r).map(|row| &row.origin) {
-        Some(Origin::Sum(sum)) => Ok(Some(Line::Sum(multiples(rows, places, sum)?))),
-        Some(Origin::Cut(from, divisor)) => {
-            let line = cut(rows, places, *from, *divisor).ok_or(Stop::Stuck)?;
-            Ok(Some(line))
-        }
-        _ => Ok(None),
-    }
-}
-
-// Adds the lines of the rows below the last that are wanted, and notes where each stands.
-fn add_lines(
-    rows: &Rows,
-    wanted: &[bool],
-    last: usize,
-    places: &mut [usize],
-    lines: &mut Vec<Line>,
-) -> Result<(), Stop> {
-    for (r, is_wanted) in wanted.iter().enumerate() {
-        if !*is_wanted || r >= last {
-            continue;
-        }
-        if let Some(line) = line_of(rows, places, r)? {
-            if let Some(place) = places.get_mut(r) {
-                *place = lines.len();
+    // The name of a row: of what it is, or of its line.
+    fn name(&self, row: usize) -> Name {
+        match self.rows.origin(row) {
+            Some(Origin::Given(place)) => Name::Given(*place),
+            Some(Origin::Range { var, side }) => {
+                let (var, side) = (*var, *side);
+                Name::Range { var, side }
             }
-            lines.push(line)?;
+            _ => Name::Line(self.places.get(row).copied().unwrap_or(0)),
         }
     }
-    Ok(())
-}
 
-// The sum that closes with the last row.
-fn closing(rows: &Rows, places: &[usize], last: usize) -> Result<Vec<Multiple>, Stop> {
-    match rows.row(last).map(|row| &row.origin) {
-        Some(Origin::Sum(sum)) => multiples(rows, places, sum),
-        _ => multiples(rows, places, &[(1, last)]),
+    fn multiples(&self, sum: &[Summand]) -> Result<Vec<Multiple>, Stop> {
+        let mut multiples = Vec::with_capacity(self.rows.alloc(), sum.len())?;
+        for part in sum {
+            let times = u64::try_from(part.times).ok().ok_or(Stop::Stuck)?;
+            let name = self.name(part.row);
+            multiples.push(Multiple { times, name })?;
+        }
+        Ok(multiples)
+    }
+
+    // The line of a row, if it is no fact and no bound.
+    fn line(&self, row: usize) -> Result<Option<Line>, Stop> {
+        match self.rows.origin(row) {
+            Some(Origin::Sum(sum)) => Ok(Some(Line::Sum(self.multiples(sum)?))),
+            Some(Origin::Cut { row, divisor }) => {
+                let divisor = u64::try_from(*divisor).ok().ok_or(Stop::Stuck)?;
+                let name = self.name(*row);
+                Ok(Some(Line::Cut { name, divisor }))
+            }
+            _ => Ok(None),
+        }
+    }
+
+    // Adds the line of a row, if it has one, and notes where that stands.
+    fn add(&mut self, row: usize) -> Result<(), Stop> {
+        if let Some(line) = self.line(row)? {
+            if let Some(place) = self.places.get_mut(row) {
+                *place = self.lines.len();
+            }
+            self.lines.push(line)?;
+        }
+        Ok(())
+    }
+
+    // The sum that closes with the last row.
+    fn closing(&self, last: usize) -> Result<Vec<Multiple>, Stop> {
+        match self.rows.origin(last) {
+            Some(Origin::Sum(sum)) => self.multiples(sum),
+            _ => self.multiples(&[Summand {
+                times: 1,
+                row: last,
+            }]),
+        }
     }
 }
 
 /// The leaf that ends with this row, a constant above 0.
 pub(crate) fn leaf(rows: &Rows, last: usize) -> Result<Proof, Stop> {
     let wanted = rows_behind(rows, last)?;
-    let mut places = vec![in rows.alloc(); 0; rows.len()]?;
-    let mut lines = Vec::new(rows.alloc());
-    add_lines(rows, &wanted, last, &mut places, &mut lines)?;
-    let end = closing(rows, &places, last)?;
+    let mut lines = Lines::new(rows)?;
+    for (row, is_wanted) in wanted.iter().take(last).enumerate() {
+        if *is_wanted {
+            lines.add(row)?;
+        }
+    }
+    let end = lines.closing(last)?;
     Ok(Proof {
         used: rows.used(last),
-        tree: Tree::Leaf(lines, end),
+        tree: Tree::Leaf {
+            lines: lines.lines,
+            end,
+        },
     })
 }

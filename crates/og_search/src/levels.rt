@@ -1,9 +1,16 @@
-//! Sets of levels: how deep the facts were met that a row rests on.
+//! Levels, which tell how deep a fact was met, and sets of them.
 
 /// The level of the condition's own facts. Each level below has one less, down to 0.
 pub(crate) const TOP: u32 = 200;
 
-/// A set of levels from 0 to 255.
+/// Where a fact stands: its level, and its place among the facts of that level, from 0.
+#[derive(Clone, Copy)]
+pub(crate) struct Place {
+    pub(crate) level: u32,
+    pub(crate) index: usize,
+}
+
+/// A set of levels from 0 to 255: those of the facts that a row rests on.
 #[derive(Clone, Copy)]
 pub(crate) struct Levels {
     low: u128,

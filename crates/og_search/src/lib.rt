@@ -7,6 +7,7 @@
 mod bounds;
 mod certificate;
 mod claim;
+mod counts;
 mod eliminate;
 mod leaf;
 mod levels;
@@ -16,11 +17,13 @@ mod model;
 mod narrow;
 mod open;
 mod part;
+mod plan;
 mod proof;
 mod rows;
 mod search;
 mod stop;
 mod values;
+mod working;
 
 pub use claim::{Claim, search_among};
 pub use model::Model;

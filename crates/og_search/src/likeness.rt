@@ -5,9 +5,9 @@ use crate::part::{Atom, Choice, Part};
 
 fn mark_form(mark: u128, form: &Linear) -> u128 {
     let mut next = next_mark(mark, form.constant.unsigned_abs());
-    for t in &form.terms {
-        next = next_mark(next, u128::from(t.0));
-        next = next_mark(next, t.1.unsigned_abs());
+    for term in &form.terms {
+        next = next_mark(next, u128::from(term.var));
+        next = next_mark(next, term.coefficient.unsigned_abs());
     }
     next
 }
@@ -38,19 +38,12 @@ fn mark_parts(mark: u128, parts: &[Part]) -> u128 {
     next
 }
 
+fn is_same_atom(a: &Atom, b: &Atom) -> bool {
+    a.index == b.index && a.form.constant == b.form.constant && a.form.is_parallel(&b.form)
+}
+
 fn are_same_atoms(a: &[Atom], b: &[Atom]) -> bool {
-    if a.len() != b.len() {
-        return false;
-    }
-    for (x, y) in a.iter().zip(b) {
-        let is_same = x.index == y.index
-            && x.form.constant == y.form.constant
-            && x.form.is_parallel(&y.form);
-        if !is_same {
-            return false;
-        }
-    }
-    true
+    a.len() == b.len() && a.iter().zip(b).all(|(x, y)| is_same_atom(x, y))
 }
 
 #[cycle(likeness)]

@@ -1,5 +1,6 @@
 //! Linear inequalities: a sum of multiples of variables, and a constant, that is at most 0.
 
+use crate::bounds::Bounds;
 use crate::model::Model;
 use og_linear::Form;
 use std::alloc::{AllocError, Global};
@@ -10,11 +11,55 @@ const COEFFICIENT_LIMIT: u128 = 1 << 62;
 /// The greatest constant, in magnitude, of a row that the search uses.
 const CONSTANT_LIMIT: u128 = 1 << 120;
 
-/// The variables of an inequality, rising, each with its nonzero coefficient, and its constant.
+/// A multiple of a variable.
+#[derive(Clone, Copy, PartialEq)]
+pub(crate) struct Term {
+    pub(crate) var: u32,
+    pub(crate) coefficient: i128,
+}
+
+/// The terms of an inequality, by rising variables and with no coefficient 0, and its constant.
 #[derive(Drop)]
 pub(crate) struct Linear {
-    pub(crate) terms: Vec<(u32, i128)>,
+    pub(crate) terms: Vec<Term>,
     pub(crate) constant: i128,
+}
+
+/// Where the sum of an inequality is taken.
+#[derive(Clone, Copy)]
+pub(crate) enum At<'a> {
+    /// At the values of a model.
+    Model(&'a Model),
+    /// Where each term is least within the bounds.
+    Least(&'a Bounds),
+    /// Where each term is greatest within the bounds.
+    Greatest(&'a Bounds),
+}
+
+/// A multiple of an inequality.
+#[derive(Clone, Copy)]
+pub(crate) struct Scaled<'a> {
+    pub(crate) times: i128,
+    pub(crate) form: &'a Linear,
+}
+
+impl At<'_> {
+    // The value of the term's variable.
+    fn value(self, term: Term) -> i128 {
+        match self {
+            At::Model(model) => model.value(term.var),
+            At::Least(bounds) => bounds.least_at(term).value,
+            At::Greatest(bounds) => bounds.greatest_at(term).value,
+        }
+    }
+}
+
+// A variable with its coefficients in two inequalities.
+#[derive(Clone, Copy)]
+struct Met {
+    var: u32,
+    first: i128,
+    second: i128,
 }
 
 // The greatest common divisor.
@@ -50,72 +95,58 @@ fn mixed(m: i128, a: i128, k: i128, b: i128) -> Option<i128> {
     m.checked_mul(a)?.checked_add(k.checked_mul(b)?)
 }
 
-// The next term of a merge: its variable, and its coefficient on either side.
-fn next_term(a: Option<(u32, i128)>, b: Option<(u32, i128)>) -> Option<(u32, i128, i128)> {
-    match (a, b) {
-        (None, None) => None,
-        (Some((x, c)), None) => Some((x, c, 0)),
-        (None, Some((y, d))) => Some((y, 0, d)),
-        (Some((x, c)), Some((y, d))) => {
-            if x < y {
-                Some((x, c, 0))
-            } else if y < x {
-                Some((y, 0, d))
-            } else {
-                Some((x, c, d))
-            }
-        }
+// The lesser of the variables of the two terms, with its coefficients.
+fn next_met(first: Option<Term>, second: Option<Term>) -> Option<Met> {
+    let var = match (first, second) {
+        (None, None) => return None,
+        (Some(a), None) => a.var,
+        (None, Some(b)) => b.var,
+        (Some(a), Some(b)) => a.var.min(b.var),
+    };
+    Some(Met {
+        var,
+        first: coefficient_at(first, var),
+        second: coefficient_at(second, var),
+    })
+}
+
+// The coefficient of the term, 0 where it is of another variable.
+fn coefficient_at(term: Option<Term>, var: u32) -> i128 {
+    match term {
+        Some(term) if term.var == var => term.coefficient,
+        _ => 0,
     }
 }
 
-// m times the one list of terms and k times the other.
-fn mixed_terms(
+// The terms of the sum of two multiples.
+fn summed_terms(
     alloc: Global,
-    m: i128,
-    a: &[(u32, i128)],
-    k: i128,
-    b: &[(u32, i128)],
-) -> Result<Option<Vec<(u32, i128)>>, AllocError> {
+    first: Scaled,
+    second: Scaled,
+) -> Result<Option<Vec<Term>>, AllocError> {
+    let (a, b) = (&first.form.terms, &second.form.terms);
     let most = a.len().saturating_add(b.len());
-    let mut out = Vec::with_capacity(alloc, most)?;
+    let mut terms = Vec::with_capacity(alloc, most)?;
     let mut i = 0usize;
     let mut j = 0usize;
     for _ in 0..most {
-        let (var, c, d) = match next_term(a.get(i).copied(), b.get(j).copied()) {
-            Some(next) => next,
-            None => break,
+        let Some(met) = next_met(a.get(i).copied(), b.get(j).copied()) else {
+            break;
         };
-        if c != 0 {
+        if met.first != 0 {
             i = i.saturating_add(1);
         }
-        if d != 0 {
+        if met.second != 0 {
             j = j.saturating_add(1);
         }
-        match mixed(m, c, k, d) {
+        let var = met.var;
+        match mixed(first.times, met.first, second.times, met.second) {
             Some(0) => {}
-            Some(sum) => out.push((var, sum))?,
+            Some(coefficient) => terms.push(Term { var, coefficient })?,
             None => return Ok(None),
         }
     }
-    Ok(Some(out))
-}
-
-/// m times the one inequality and k times the other; none where a number leaves `i128`.
-pub(crate) fn combined(
-    alloc: Global,
-    m: i128,
-    a: &Linear,
-    k: i128,
-    b: &Linear,
-) -> Result<Option<Linear>, AllocError> {
-    let constant = match mixed(m, a.constant, k, b.constant) {
-        Some(constant) => constant,
-        None => return Ok(None),
-    };
-    match mixed_terms(alloc, m, &a.terms, k, &b.terms)? {
-        Some(terms) => Ok(Some(Linear { terms, constant })),
-        None => Ok(None),
-    }
+    Ok(Some(terms))
 }
 
 impl Linear {
@@ -128,30 +159,42 @@ impl Linear {
     }
 
     /// The inequality of one variable.
-    pub(crate) fn single(
-        alloc: Global,
-        var: u32,
-        coefficient: i128,
-        constant: i128,
-    ) -> Result<Linear, AllocError> {
-        let mut terms = Vec::new(alloc);
-        terms.push((var, coefficient))?;
-        Ok(Linear { terms, constant })
+    pub(crate) fn single(alloc: Global, term: Term, constant: i128) -> Result<Linear, AllocError> {
+        Ok(Linear {
+            terms: vec![in alloc; term]?,
+            constant,
+        })
     }
 
     /// The inequality that says that the form is at most 0.
     pub(crate) fn of_form(alloc: Global, form: &Form) -> Result<Linear, AllocError> {
         let mut terms = Vec::new(alloc);
         for i in 0..usize::MAX {
-            match form.term(i) {
-                Some(term) => terms.push(term)?,
-                None => break,
-            }
+            let Some((var, coefficient)) = form.term(i) else {
+                break;
+            };
+            terms.push(Term { var, coefficient })?;
         }
         Ok(Linear {
             terms,
             constant: form.offset(),
         })
+    }
+
+    /// The sum of two multiples; none where a number leaves `i128`.
+    pub(crate) fn sum(
+        alloc: Global,
+        first: Scaled,
+        second: Scaled,
+    ) -> Result<Option<Linear>, AllocError> {
+        let (a, b) = (first.form.constant, second.form.constant);
+        let Some(constant) = mixed(first.times, a, second.times, b) else {
+            return Ok(None);
+        };
+        match summed_terms(alloc, first, second)? {
+            Some(terms) => Ok(Some(Linear { terms, constant })),
+            None => Ok(None),
+        }
     }
 
     pub(crate) fn copy(&self) -> Result<Linear, AllocError> {
@@ -161,11 +204,16 @@ impl Linear {
         })
     }
 
+    /// So many times the inequality.
+    pub(crate) fn times(&self, times: i128) -> Scaled<'_> {
+        Scaled { times, form: self }
+    }
+
     /// The coefficient of the variable, 0 where it does not occur.
     pub(crate) fn coefficient(&self, var: u32) -> i128 {
-        for t in &self.terms {
-            if var == t.0 {
-                return t.1;
+        for term in &self.terms {
+            if term.var == var {
+                return term.coefficient;
             }
         }
         0
@@ -173,19 +221,18 @@ impl Linear {
 
     /// Whether a number is beyond those that the search reckons with.
     pub(crate) fn is_large(&self) -> bool {
-        for t in &self.terms {
-            if t.1.unsigned_abs() > COEFFICIENT_LIMIT {
-                return true;
-            }
-        }
         self.constant.unsigned_abs() > CONSTANT_LIMIT
+            || self
+                .terms
+                .iter()
+                .any(|term| term.coefficient.unsigned_abs() > COEFFICIENT_LIMIT)
     }
 
     /// The greatest common divisor of the coefficients, 0 where there is none.
     pub(crate) fn divisor(&self) -> i128 {
         let mut divisor = 0;
-        for t in &self.terms {
-            divisor = common(divisor, t.1);
+        for term in &self.terms {
+            divisor = common(divisor, term.coefficient);
             if divisor == 1 {
                 break;
             }
@@ -193,43 +240,49 @@ impl Linear {
         divisor
     }
 
-    /// Each coefficient divided, and the constant divided and rounded up.
+    /// Each coefficient divided, and the constant divided and rounded up; none where a number
+    /// leaves `i128`.
     pub(crate) fn divided(
         &self,
         alloc: Global,
         divisor: i128,
     ) -> Result<Option<Linear>, AllocError> {
-        let constant = match ceil_div(self.constant, divisor) {
-            Some(constant) => constant,
-            None => return Ok(None),
+        let Some(constant) = ceil_div(self.constant, divisor) else {
+            return Ok(None);
         };
         let mut terms = Vec::with_capacity(alloc, self.terms.len())?;
-        for t in &self.terms {
-            match t.1.checked_div(divisor) {
-                Some(c) => terms.push((t.0, c))?,
-                None => return Ok(None),
-            }
+        for term in &self.terms {
+            let Some(coefficient) = term.coefficient.checked_div(divisor) else {
+                return Ok(None);
+            };
+            let var = term.var;
+            terms.push(Term { var, coefficient })?;
         }
         Ok(Some(Linear { terms, constant }))
     }
 
-    /// The inequality that holds exactly where this one does not.
+    /// The inequality that holds exactly where this one does not; none where a number leaves
+    /// `i128`.
     pub(crate) fn otherwise(&self, alloc: Global) -> Result<Option<Linear>, AllocError> {
         let one = Linear::number(alloc, 1);
-        combined(alloc, -1, self, 1, &one)
+        Linear::sum(alloc, self.times(-1), one.times(1))
+    }
+
+    /// The sum, without the term of one variable; none where a number leaves `i128`.
+    pub(crate) fn value(&self, at: At, but: Option<u32>) -> Option<i128> {
+        let mut sum = self.constant;
+        for term in &self.terms {
+            if but != Some(term.var) {
+                let part = term.coefficient.checked_mul(at.value(*term))?;
+                sum = sum.checked_add(part)?;
+            }
+        }
+        Some(sum)
     }
 
     /// Whether the inequality holds of these values. One whose value leaves `i128` does not.
     pub(crate) fn holds(&self, model: &Model) -> bool {
-        let mut sum = self.constant;
-        for t in &self.terms {
-            let weighed = t.1.checked_mul(model.value(t.0));
-            match weighed.and_then(|x| sum.checked_add(x)) {
-                Some(next) => sum = next,
-                None => return false,
-            }
-        }
-        sum <= 0
+        matches!(self.value(At::Model(model), None), Some(value) if value <= 0)
     }
 
     /// Whether the two have the same terms.
@@ -239,31 +292,21 @@ impl Linear {
 
     /// Whether the terms of the one are those of the other with the sign changed.
     pub(crate) fn is_opposite(&self, other: &Linear) -> bool {
-        if self.terms.len() != other.terms.len() {
-            return false;
-        }
-        for (t, u) in self.terms.iter().zip(&other.terms) {
-            if t.0 != u.0 || t.1.checked_neg() != Some(u.1) {
-                return false;
-            }
-        }
-        true
+        self.terms.len() == other.terms.len()
+            && self.terms.iter().zip(&other.terms).all(|(a, b)| {
+                a.var == b.var && a.coefficient.checked_neg() == Some(b.coefficient)
+            })
     }
 
     /// A number that is the same for equal terms, and for those with the sign changed.
     pub(crate) fn direction(&self) -> u128 {
         let mut mark = 14_695_981_039_346_656_037;
-        let mut is_turned = false;
-        let mut is_first = true;
-        for t in &self.terms {
-            if is_first {
-                is_turned = t.1 < 0;
-                is_first = false;
-            }
-            let size = t.1.unsigned_abs();
-            let seen = if (t.1 < 0) == is_turned { size } else { !size };
-            mark = next_mark(mark, u128::from(t.0));
-            mark = next_mark(mark, seen);
+        let is_turned = matches!(self.terms.first(), Some(first) if first.coefficient < 0);
+        for term in &self.terms {
+            let size = term.coefficient.unsigned_abs();
+            let is_alike = (term.coefficient < 0) == is_turned;
+            mark = next_mark(mark, u128::from(term.var));
+            mark = next_mark(mark, if is_alike { size } else { !size });
         }
         mark
     }

@@ -1,23 +1,48 @@
 //! The choices that are open on the path of a search, and which of them is taken next.
 
 use crate::bounds::Bounds;
+use crate::levels::Place;
 use crate::linear::Linear;
 use crate::model::Model;
-use crate::part::{Atom, Part, some_follows, some_holds, ways, width};
+use crate::part::{Atom, Known, Part, some_follows, ways, width};
 use crate::rows::Rows;
 use std::alloc::{AllocError, Global};
 
 /// The most parts of a choice that is looked into.
 const LOOK_LIMIT: usize = 32;
 
-/// A choice among the facts of a level.
+/// A choice among the facts on the path.
 #[derive(Clone, Copy)]
 pub(crate) struct Open<'a> {
-    pub(crate) level: u32,
-    pub(crate) index: usize,
+    pub(crate) place: Place,
     pub(crate) parts: &'a [Part],
     pub(crate) size: usize,
     pub(crate) is_taken: bool,
+}
+
+/// An inequality that all parts of a choice imply, and the number of the choice.
+#[derive(Drop)]
+pub(crate) struct Common {
+    pub(crate) choice: usize,
+    pub(crate) form: Linear,
+}
+
+// The number of a choice, and how many ways it has.
+#[derive(Clone, Copy)]
+struct Candidate {
+    choice: usize,
+    ways: usize,
+}
+
+impl Open<'_> {
+    // Whether the choice is open, and not true of the values if there are some.
+    fn is_wanted(&self, model: Option<&Model>) -> bool {
+        match model {
+            _ if self.is_taken => false,
+            Some(model) => !some_follows(self.parts, Known::Values(model)),
+            None => true,
+        }
+    }
 }
 
 /// How many facts there are in the parts of these choices.
@@ -29,25 +54,9 @@ pub(crate) fn weight(open: &[Open]) -> usize {
     weight
 }
 
-// Whether the choice is open, and not true of the values if there are some.
-fn is_wanted(open: &Open, model: Option<&Model>) -> bool {
-    if open.is_taken {
-        return false;
-    }
-    match model {
-        Some(model) => !some_holds(open.parts, model),
-        None => true,
-    }
-}
-
 /// Whether each choice that is open holds of the values.
 pub(crate) fn all_hold(open: &[Open], model: &Model) -> bool {
-    for one in open {
-        if is_wanted(one, Some(model)) {
-            return false;
-        }
-    }
-    true
+    !open.iter().any(|one| one.is_wanted(Some(model)))
 }
 
 /// The first choice that has no way left, else the first that has one: among those that are false
@@ -55,7 +64,7 @@ pub(crate) fn all_hold(open: &[Open], model: &Model) -> bool {
 pub(crate) fn forced(open: &[Open], bounds: &Bounds, model: Option<&Model>) -> Option<usize> {
     let mut single = None;
     for (i, one) in open.iter().enumerate() {
-        if !is_wanted(one, model) {
+        if !one.is_wanted(model) {
             continue;
         }
         let left = ways(one.parts, bounds);
@@ -63,7 +72,7 @@ pub(crate) fn forced(open: &[Open], bounds: &Bounds, model: Option<&Model>) -> O
             return Some(i);
         }
         if left == 1 && single.is_none() {
-            let is_known = model.is_none() && some_follows(one.parts, bounds);
+            let is_known = model.is_none() && some_follows(one.parts, Known::Bounds(bounds));
             if !is_known {
                 single = Some(i);
             }
@@ -72,18 +81,21 @@ pub(crate) fn forced(open: &[Open], bounds: &Bounds, model: Option<&Model>) -> O
     single
 }
 
-// The first choice with the fewest ways among those that are false of the values, and how many.
-fn narrowest(open: &[Open], bounds: &Bounds, model: Option<&Model>) -> Option<(usize, usize)> {
+// The candidate with fewer ways, the first where both have as many.
+fn narrower(first: Option<Candidate>, second: Candidate) -> Candidate {
+    match first {
+        Some(first) if first.ways <= second.ways => first,
+        _ => second,
+    }
+}
+
+// The first choice with the fewest ways among those that are false of the values.
+fn narrowest(open: &[Open], bounds: &Bounds, model: Option<&Model>) -> Option<Candidate> {
     let mut best = None;
-    let mut fewest = usize::MAX;
-    for (i, one) in open.iter().enumerate() {
-        if !is_wanted(one, model) {
-            continue;
-        }
-        let left = ways(one.parts, bounds);
-        if left < fewest || best.is_none() {
-            fewest = left;
-            best = Some((i, left));
+    for (choice, one) in open.iter().enumerate() {
+        if one.is_wanted(model) {
+            let ways = ways(one.parts, bounds);
+            best = Some(narrower(best, Candidate { choice, ways }));
         }
     }
     best
@@ -94,43 +106,17 @@ fn bounds_with(part: &Part, bounds: &Bounds) -> Result<Option<Bounds>, AllocErro
     let mut own = bounds.copy()?;
     let mut is_better = false;
     for atom in &part.atoms {
-        if own.cut_by(&atom.form) {
+        if own.take(&atom.form, None).is_some() {
             is_better = true;
         }
     }
     if is_better { Ok(Some(own)) } else { Ok(None) }
 }
 
-// Whether a variable of these inequalities has no value left.
-fn is_emptied(atoms: &[Atom], bounds: &Bounds) -> bool {
-    for atom in atoms {
-        for t in &atom.form.terms {
-            if bounds.is_empty_at(t.0) {
-                return true;
-            }
-        }
-    }
-    false
-}
-
-// Whether a row is false within the bounds.
-fn some_excluded(rows: &Rows, base: &[usize], bounds: &Bounds) -> bool {
-    for r in base {
-        if bounds.exclude(rows.form(*r)) {
-            return true;
-        }
-    }
-    false
-}
-
-// Whether another open choice has no way left.
-fn some_shut(open: &[Open], but: usize, bounds: &Bounds) -> bool {
-    for (i, one) in open.iter().enumerate() {
-        if i != but && !one.is_taken && ways(one.parts, bounds) == 0 {
-            return true;
-        }
-    }
-    false
+// Whether a variable of the inequality has no value left.
+fn is_emptied(atom: &Atom, bounds: &Bounds) -> bool {
+    let mut terms = atom.form.terms.iter();
+    terms.any(|term| bounds.is_empty_at(term.var))
 }
 
 /// What a choice is looked at against: the rows and the choices of the path, and the bounds.
@@ -142,70 +128,80 @@ pub(crate) struct View<'v, 'a> {
     pub(crate) bounds: &'v Bounds,
 }
 
-// Whether the bounds, with those of the part, leave each row and each other choice a way.
-fn is_alive(view: View, part: &Part, own: usize) -> Result<bool, AllocError> {
-    if width(part, view.bounds) == 0 {
-        return Ok(false);
+impl View<'_, '_> {
+    // Whether a row is false within the bounds.
+    fn some_excluded(self, bounds: &Bounds) -> bool {
+        let mut base = self.base.iter();
+        base.any(|row| bounds.exclude(self.rows.form(*row)))
     }
-    let bounds = match bounds_with(part, view.bounds)? {
-        Some(bounds) => bounds,
-        None => return Ok(true),
-    };
-    if is_emptied(&part.atoms, &bounds) || some_excluded(view.rows, view.base, &bounds) {
-        return Ok(false);
-    }
-    Ok(!some_shut(view.open, own, &bounds))
-}
 
-// Whether no part of the choice is alive.
-fn is_dead(view: View, parts: &[Part], own: usize) -> Result<bool, AllocError> {
-    for part in parts {
-        if is_alive(view, part, own)? {
+    // Whether another open choice has no way left within the bounds.
+    fn some_shut(self, but: usize, bounds: &Bounds) -> bool {
+        let mut open = self.open.iter().enumerate();
+        open.any(|(i, one)| i != but && !one.is_taken && ways(one.parts, bounds) == 0)
+    }
+
+    // Whether these bounds leave each variable of the part a value, and each row and each other
+    // choice a way.
+    fn is_alive_within(self, part: &Part, own: usize, bounds: &Bounds) -> bool {
+        !part.atoms.iter().any(|atom| is_emptied(atom, bounds))
+            && !self.some_excluded(bounds)
+            && !self.some_shut(own, bounds)
+    }
+
+    // Whether the bounds, with those of the part, leave each row and each other choice a way.
+    fn is_alive(self, part: &Part, own: usize) -> Result<bool, AllocError> {
+        if width(part, self.bounds) == 0 {
             return Ok(false);
         }
-    }
-    Ok(true)
-}
-
-// The first choice with the fewest ways among those of which no part is alive.
-fn dead_choice(view: View) -> Result<Option<usize>, AllocError> {
-    let mut best = None;
-    let mut fewest = usize::MAX;
-    for (i, one) in view.open.iter().enumerate() {
-        if one.is_taken || one.parts.len() > LOOK_LIMIT || !is_dead(view, one.parts, i)? {
-            continue;
-        }
-        let left = ways(one.parts, view.bounds);
-        if left < fewest || best.is_none() {
-            fewest = left;
-            best = Some(i);
+        match bounds_with(part, self.bounds)? {
+            Some(bounds) => Ok(self.is_alive_within(part, own, &bounds)),
+            None => Ok(true),
         }
     }
-    Ok(best)
-}
 
-/// The choice with the fewest ways among those that are false of the values. Where that has three
-/// or more, one of which no part is alive comes first.
-pub(crate) fn pick(view: View, model: Option<&Model>) -> Result<Option<usize>, AllocError> {
-    let (i, left) = match narrowest(view.open, view.bounds, model) {
-        Some(best) => best,
-        None => return Ok(None),
-    };
-    if left < 3 {
-        return Ok(Some(i));
+    // Whether no part of the choice is alive.
+    fn is_dead(self, parts: &[Part], own: usize) -> Result<bool, AllocError> {
+        for part in parts {
+            if self.is_alive(part, own)? {
+                return Ok(false);
+            }
+        }
+        Ok(true)
     }
-    Ok(Some(dead_choice(view)?.unwrap_or(i)))
+
+    // The first choice with the fewest ways among those of which no part is alive.
+    fn dead_choice(self) -> Result<Option<Candidate>, AllocError> {
+        let mut best = None;
+        for (choice, one) in self.open.iter().enumerate() {
+            if !one.is_taken && one.parts.len() <= LOOK_LIMIT && self.is_dead(one.parts, choice)? {
+                let ways = ways(one.parts, self.bounds);
+                best = Some(narrower(best, Candidate { choice, ways }));
+            }
+        }
+        Ok(best)
+    }
+
+    /// The choice with the fewest ways among those that are false of the values. Where that has
+    /// three or more, one of which no part is alive comes first.
+    pub(crate) fn pick(self, model: Option<&Model>) -> Result<Option<usize>, AllocError> {
+        let Some(best) = narrowest(self.open, self.bounds, model) else {
+            return Ok(None);
+        };
+        if best.ways < 3 {
+            return Ok(Some(best.choice));
+        }
+        Ok(Some(self.dead_choice()?.unwrap_or(best).choice))
+    }
 }
 
 // The greatest constant of the inequalities with these terms.
 fn tightest(part: &Part, form: &Linear) -> Option<i128> {
-    let mut best = None;
+    let mut best: Option<i128> = None;
     for atom in &part.atoms {
         if atom.form.is_parallel(form) {
-            best = match best {
-                Some(constant) if constant >= atom.form.constant => Some(constant),
-                _ => Some(atom.form.constant),
-            };
+            let constant = atom.form.constant;
+            best = Some(best.unwrap_or(constant).max(constant));
         }
     }
     best
@@ -243,9 +239,8 @@ fn common_row(
     bounds: &Bounds,
     model: &Model,
 ) -> Result<Option<Linear>, AllocError> {
-    let first = match first_of_several(parts, bounds) {
-        Some(first) => first,
-        None => return Ok(None),
+    let Some(first) = first_of_several(parts, bounds) else {
+        return Ok(None);
     };
     for atom in &first.atoms {
         if atom.form.terms.is_empty() || atom.form.holds(model) {
@@ -269,11 +264,11 @@ pub(crate) fn common_to_choice(
     open: &[Open],
     bounds: &Bounds,
     model: &Model,
-) -> Result<Option<(usize, Linear)>, AllocError> {
-    for (i, one) in open.iter().enumerate() {
+) -> Result<Option<Common>, AllocError> {
+    for (choice, one) in open.iter().enumerate() {
         if !one.is_taken {
-            if let Some(row) = common_row(alloc, one.parts, bounds, model)? {
-                return Ok(Some((i, row)));
+            if let Some(form) = common_row(alloc, one.parts, bounds, model)? {
+                return Ok(Some(Common { choice, form }));
             }
         }
     }

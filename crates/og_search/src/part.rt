@@ -33,21 +33,23 @@ pub(crate) struct Choice {
     pub(crate) size: usize,
 }
 
-// How many facts there are, with those in the parts of choices.
-fn size_of_part(part: &Part) -> usize {
-    let mut size = part.count;
-    for choice in &part.choices {
-        size = size.saturating_add(choice.size);
-    }
-    size
+/// What is known of the variables.
+#[derive(Clone, Copy)]
+pub(crate) enum Known<'a> {
+    /// Their values.
+    Values(&'a Model),
+    /// Their bounds.
+    Bounds(&'a Bounds),
 }
 
-fn size_of_parts(parts: &[Part]) -> usize {
-    let mut size = 0usize;
-    for part in parts {
-        size = size.saturating_add(size_of_part(part));
+impl Known<'_> {
+    // Whether the inequality is then true.
+    fn implies(self, form: &Linear) -> bool {
+        match self {
+            Known::Values(model) => form.holds(model),
+            Known::Bounds(bounds) => bounds.imply(form),
+        }
     }
-    size
 }
 
 impl Part {
@@ -79,7 +81,10 @@ impl Part {
     /// Adds the fact that all facts of one of the parts are true. `AllocError` where an allocation
     /// was refused.
     pub fn add_choice(&mut self, parts: Vec<Part>) -> Result<(), AllocError> {
-        let size = size_of_parts(&parts);
+        let mut size = 0usize;
+        for part in &parts {
+            size = size.saturating_add(part.size());
+        }
         let index = self.next_place();
         self.choices.push(Choice { index, parts, size })?;
         Ok(())
@@ -90,34 +95,23 @@ impl Part {
         self.next_place();
     }
 
+    // How many facts there are, with those in the parts of choices.
+    fn size(&self) -> usize {
+        let mut size = self.count;
+        for choice in &self.choices {
+            size = size.saturating_add(choice.size);
+        }
+        size
+    }
+
     // Whether some inequality is false within the bounds.
     fn is_barred(&self, bounds: &Bounds) -> bool {
-        for atom in &self.atoms {
-            if bounds.exclude(&atom.form) {
-                return true;
-            }
-        }
-        false
+        self.atoms.iter().any(|atom| bounds.exclude(&atom.form))
     }
 
-    // Whether each inequality holds of these values.
-    fn atoms_hold(&self, model: &Model) -> bool {
-        for atom in &self.atoms {
-            if !atom.form.holds(model) {
-                return false;
-            }
-        }
-        true
-    }
-
-    // Whether each inequality is true within the bounds.
-    fn atoms_follow(&self, bounds: &Bounds) -> bool {
-        for atom in &self.atoms {
-            if !bounds.imply(&atom.form) {
-                return false;
-            }
-        }
-        true
+    // Whether each inequality is true by what is known.
+    fn atoms_follow(&self, known: Known) -> bool {
+        self.atoms.iter().all(|atom| known.implies(&atom.form))
     }
 }
 
@@ -148,48 +142,24 @@ pub(crate) fn ways(parts: &[Part], bounds: &Bounds) -> usize {
     sum
 }
 
-#[cycle(holding)]
-fn holds(part: &Part, model: &Model) -> bool {
-    if !part.atoms_hold(model) {
+#[cycle(following)]
+fn follows(part: &Part, known: Known) -> bool {
+    if !part.atoms_follow(known) {
         return false;
     }
     for choice in &part.choices {
-        if !some_holds(&choice.parts, model) {
+        if !some_follows(&choice.parts, known) {
             return false;
         }
     }
     true
 }
 
-/// Whether all facts of some part hold of these values.
-#[cycle(holding)]
-pub(crate) fn some_holds(parts: &[Part], model: &Model) -> bool {
-    for part in parts {
-        if holds(part, model) {
-            return true;
-        }
-    }
-    false
-}
-
+/// Whether all facts of some part are true by what is known.
 #[cycle(following)]
-fn follows(part: &Part, bounds: &Bounds) -> bool {
-    if !part.atoms_follow(bounds) {
-        return false;
-    }
-    for choice in &part.choices {
-        if !some_follows(&choice.parts, bounds) {
-            return false;
-        }
-    }
-    true
-}
-
-/// Whether all facts of some part are true within the bounds.
-#[cycle(following)]
-pub(crate) fn some_follows(parts: &[Part], bounds: &Bounds) -> bool {
+pub(crate) fn some_follows(parts: &[Part], known: Known) -> bool {
     for part in parts {
-        if follows(part, bounds) {
+        if follows(part, known) {
             return true;
         }
     }

@@ -1,22 +1,21 @@
 //! What a search found, before the facts have their numbers.
 
-use crate::levels::Levels;
+use crate::bounds::Side;
+use crate::levels::{Levels, Place};
 use crate::linear::Linear;
 
-/// A fact or a bound, or a line of the same leaf.
+/// A fact, an end of the range of `i64`, or a line of the same leaf.
 #[derive(Clone, Copy)]
 pub(crate) enum Name {
-    /// The fact with this place among those of its level.
-    Given(u32, usize),
-    /// The lower bound of the variable.
-    Low(u32),
-    /// The upper bound of the variable.
-    High(u32),
-    /// The line with this place in its leaf.
+    /// The fact at this place.
+    Given(Place),
+    /// That the variable is within the range of `i64` on this side.
+    Range { var: u32, side: Side },
+    /// The line with this place in its leaf, from 0.
     Line(usize),
 }
 
-/// A multiple.
+/// A multiple of what a name stands for.
 #[derive(Clone, Copy)]
 pub(crate) struct Multiple {
     pub(crate) times: u64,
@@ -27,7 +26,7 @@ pub(crate) struct Multiple {
 #[derive(Drop)]
 pub(crate) enum Line {
     Sum(Vec<Multiple>),
-    Cut(Name, u64),
+    Cut { name: Name, divisor: u64 },
 }
 
 /// A refutation, and the levels of the facts that it uses.
@@ -42,9 +41,15 @@ pub(crate) struct Proof {
 #[derive(Drop)]
 pub(crate) enum Tree {
     /// Lines, and the sum that closes.
-    Leaf(Vec<Line>, Vec<Multiple>),
-    /// A choice with this place among the facts of its level; and each part.
-    Split(u32, usize, Vec<Case>),
+    Leaf {
+        lines: Vec<Line>,
+        end: Vec<Multiple>,
+    },
+    /// The choice at this place, and each of its parts.
+    Split {
+        choice: Place,
+        cases: Vec<Case>,
+    },
     /// Both sides of a form.
     Branch(Box<Sides>),
 }
@@ -68,24 +73,29 @@ pub(crate) struct Sides {
     pub(crate) second: Tree,
 }
 
-// How many multiples there are in the lines, and how many lines.
+impl Line {
+    // The line itself, and its multiples.
+    fn size(&self) -> u64 {
+        match self {
+            Line::Sum(sum) => (sum.len() as u64).saturating_add(1),
+            Line::Cut { .. } => 2,
+        }
+    }
+}
+
 fn size_of_lines(lines: &[Line]) -> u64 {
-    let mut size = lines.len() as u64;
+    let mut size = 0u64;
     for line in lines {
-        let multiples = match line {
-            Line::Sum(sum) => sum.len() as u64,
-            Line::Cut(_, _) => 1,
-        };
-        size = size.saturating_add(multiples);
+        size = size.saturating_add(line.size());
     }
     size
 }
 
 impl Tree {
-    /// The size of a leaf: its lines and multiples, and four for itself.
+    /// The size of a leaf: its lines and multiples, and four for itself; 0 for other trees.
     pub(crate) fn size(&self) -> u64 {
         match self {
-            Tree::Leaf(lines, end) => size_of_lines(lines)
+            Tree::Leaf { lines, end } => size_of_lines(lines)
                 .saturating_add(end.len() as u64)
                 .saturating_add(4),
             _ => 0,

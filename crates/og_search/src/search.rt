@@ -1,17 +1,18 @@
 //! The search: it takes in facts, closes or picks a choice, and goes into each part.
 
 use crate::bounds::Bounds;
-use crate::eliminate::{Outcome, eliminate};
+use crate::eliminate::{Outcome, Problem, Ranges, eliminate};
 use crate::leaf::leaf;
-use crate::levels::{Levels, TOP};
-use crate::linear::Linear;
+use crate::levels::{Levels, Place, TOP};
+use crate::linear::{Linear, Term};
 use crate::model::Model;
-use crate::narrow::{Closed, close_within, narrow, note_bound};
-use crate::open::{Open, View, all_hold, common_to_choice, forced, pick, weight};
+use crate::narrow::{close_within, narrow, note_bound};
+use crate::open::{Open, View, all_hold, common_to_choice, forced, weight};
 use crate::part::Part;
 use crate::proof::{Case, Proof, Sides, Tree};
 use crate::rows::{Added, Origin, Rows};
-use crate::stop::Stop;
+use crate::stop::{Halt, Stop};
+use crate::values::Gap;
 use std::alloc::{AllocError, Global};
 
 /// Below this level a choice is taken only where it is false of the values.
@@ -32,15 +33,13 @@ enum Entry<'a> {
     Side(Linear),
 }
 
-// What is done at a level.
+// What is done at a level that finds no contradiction.
 #[derive(Drop)]
 enum Decision {
-    // It closes with this row.
-    Close(usize),
     // It goes into the parts of this choice.
     Split(usize),
-    // It goes into both sides of the form, and on the second into this choice.
-    Branch(Linear, Option<usize>),
+    // It goes into both sides of the form, and on the second into a choice, if it tells one.
+    Branch { form: Linear, next: Option<usize> },
 }
 
 /// A search among the facts of a condition.
@@ -93,17 +92,10 @@ impl<'a> Search<'a> {
         }
     }
 
-    // Adds a fact as a row. Tells the row that closes where one does.
-    fn take_atom(
-        &mut self,
-        form: Linear,
-        level: u32,
-        index: usize,
-        bounds: &mut Bounds,
-    ) -> Result<Closed, Stop> {
-        match self.rows.add(form, Origin::Given(level, index))? {
-            Added::Closed(row) => Ok(Some(row)),
-            Added::Nothing => Ok(None),
+    // Adds a fact as a row.
+    fn take_atom(&mut self, form: Linear, place: Place, bounds: &mut Bounds) -> Result<(), Halt> {
+        match self.rows.add(form, Origin::Given(place))? {
+            Added::Nothing => Ok(()),
             Added::Row(row) => {
                 self.base.push(row)?;
                 note_bound(&mut self.rows, row, bounds)
@@ -111,21 +103,19 @@ impl<'a> Search<'a> {
         }
     }
 
-    fn take_atoms(&mut self, part: &Part, level: u32, bounds: &mut Bounds) -> Result<Closed, Stop> {
+    fn take_atoms(&mut self, part: &Part, level: u32, bounds: &mut Bounds) -> Result<(), Halt> {
         for atom in &part.atoms {
-            let form = atom.form.copy()?;
-            if let Some(row) = self.take_atom(form, level, atom.index, bounds)? {
-                return Ok(Some(row));
-            }
+            let index = atom.index;
+            self.take_atom(atom.form.copy()?, Place { level, index }, bounds)?;
         }
-        Ok(None)
+        Ok(())
     }
 
     fn take_choices(&mut self, part: &'a Part, level: u32) -> Result<(), AllocError> {
         for choice in &part.choices {
+            let index = choice.index;
             self.open.push(Open {
-                level,
-                index: choice.index,
+                place: Place { level, index },
                 parts: &choice.parts,
                 size: choice.size,
                 is_taken: false,
@@ -148,15 +138,10 @@ impl<'a> Search<'a> {
     }
 
     // Takes in the facts of a level, one step for each fact of a part.
-    fn take_in(
-        &mut self,
-        entry: Entry<'a>,
-        level: u32,
-        bounds: &mut Bounds,
-    ) -> Result<Closed, Stop> {
+    fn take_in(&mut self, entry: Entry<'a>, level: u32, bounds: &mut Bounds) -> Result<(), Halt> {
         self.spend_level()?;
         match entry {
-            Entry::Side(form) => self.take_atom(form, level, 0, bounds),
+            Entry::Side(form) => self.take_atom(form, Place { level, index: 0 }, bounds),
             Entry::Part(part) => {
                 if level < TOP {
                     self.rows.spend(part.count as u64)?;
@@ -167,50 +152,43 @@ impl<'a> Search<'a> {
         }
     }
 
-    // Closes where one of the new rows is false within the bounds.
-    fn close_new(&mut self, from: usize, bounds: &Bounds) -> Result<Closed, Stop> {
-        for r in self.base.iter().skip(from) {
-            if let Some(row) = close_within(&mut self.rows, *r, bounds)? {
-                return Ok(Some(row));
-            }
+    // Looks for a contradiction within the bounds, in each of the new rows.
+    fn close_new(&mut self, from: usize, bounds: &Bounds) -> Result<(), Halt> {
+        for row in self.base.iter().skip(from) {
+            close_within(&mut self.rows, *row, bounds)?;
         }
-        Ok(None)
+        Ok(())
     }
 
-    // Takes in the facts of a level and the bounds that follow. Tells the row that closes.
-    fn begin(&mut self, entry: Entry<'a>, level: u32, bounds: &mut Bounds) -> Result<Closed, Stop> {
+    // Takes in the facts of a level and the bounds that follow.
+    fn begin(&mut self, entry: Entry<'a>, level: u32, bounds: &mut Bounds) -> Result<(), Halt> {
         let from = self.base.len();
-        if let Some(row) = self.take_in(entry, level, bounds)? {
-            return Ok(Some(row));
-        }
-        if let Some(row) = self.close_new(from, bounds)? {
-            return Ok(Some(row));
-        }
+        self.take_in(entry, level, bounds)?;
+        self.close_new(from, bounds)?;
         narrow(&mut self.rows, &self.base, bounds)
     }
 
-    // Eliminates all variables, at first without the range of `i64`.
-    fn eliminate(&mut self, bounds: &Bounds) -> Result<Outcome, Stop> {
+    // Eliminates all variables, and keeps no row of it but where there is a contradiction.
+    fn eliminate_in(&mut self, bounds: &Bounds, ranges: Ranges) -> Result<Outcome, Halt> {
         let mark = self.rows.len();
-        for with_ranges in [false, true] {
-            let outcome = eliminate(
-                &mut self.rows,
-                &self.base,
-                bounds,
-                &self.model,
-                self.variables,
-                with_ranges,
-            )?;
-            match outcome {
-                Outcome::Closed(row) => return Ok(Outcome::Closed(row)),
-                Outcome::OutOfRange => self.rows.forget(mark),
-                other => {
-                    self.rows.forget(mark);
-                    return Ok(other);
-                }
-            }
+        let problem = Problem {
+            base: &self.base,
+            bounds,
+            kept: &self.model,
+            variables: self.variables,
+            ranges,
+        };
+        let outcome = eliminate(&mut self.rows, &problem)?;
+        self.rows.forget(mark);
+        Ok(outcome)
+    }
+
+    // Eliminates all variables, at first without the range of `i64`.
+    fn eliminate(&mut self, bounds: &Bounds) -> Result<Outcome, Halt> {
+        match self.eliminate_in(bounds, Ranges::Ignored)? {
+            Outcome::OutOfRange => self.eliminate_in(bounds, Ranges::Counted),
+            other => Ok(other),
         }
-        Ok(Outcome::Unknown)
     }
 
     // What is done where all rows hold of these values.
@@ -222,40 +200,44 @@ impl<'a> Search<'a> {
         if let Some(i) = forced(&self.open, bounds, Some(&self.model)) {
             return Ok(Decision::Split(i));
         }
-        if let Some((i, form)) = common_to_choice(self.alloc, &self.open, bounds, &self.model)? {
-            return Ok(Decision::Branch(form, Some(i)));
+        if let Some(common) = common_to_choice(self.alloc, &self.open, bounds, &self.model)? {
+            return Ok(Decision::Branch {
+                form: common.form,
+                next: Some(common.choice),
+            });
         }
         self.spend_looks()?;
-        match pick(self.view(bounds), Some(&self.model))? {
-            Some(i) => Ok(Decision::Split(i)),
-            None => Err(Stop::Stuck),
+        let choice = self.view(bounds).pick(Some(&self.model))?;
+        Ok(Decision::Split(choice.ok_or(Stop::Stuck)?))
+    }
+
+    // Both sides of the gap between a variable's values.
+    fn branch_at(&self, gap: Gap) -> Result<Decision, Stop> {
+        if gap.most.unsigned_abs() > GAP_LIMIT {
+            return Err(Stop::Stuck);
         }
+        let term = Term {
+            var: gap.var,
+            coefficient: 1,
+        };
+        let constant = gap.most.checked_neg().ok_or(Stop::Stuck)?;
+        Ok(Decision::Branch {
+            form: Linear::single(self.alloc, term, constant)?,
+            next: None,
+        })
     }
 
     // What is done where no values were found.
-    fn decide_without(
-        &mut self,
-        gap: Option<(u32, i128)>,
-        bounds: &Bounds,
-    ) -> Result<Decision, Stop> {
+    fn decide_without(&mut self, gap: Option<Gap>, bounds: &Bounds) -> Result<Decision, Stop> {
         self.spend_looks()?;
-        if let Some(i) = pick(self.view(bounds), None)? {
-            return Ok(Decision::Split(i));
+        match self.view(bounds).pick(None)? {
+            Some(i) => Ok(Decision::Split(i)),
+            None => self.branch_at(gap.ok_or(Stop::Stuck)?),
         }
-        let (var, value) = match gap {
-            Some(gap) => gap,
-            None => return Err(Stop::Stuck),
-        };
-        if value.unsigned_abs() > GAP_LIMIT {
-            return Err(Stop::Stuck);
-        }
-        let constant = value.checked_neg().ok_or(Stop::Stuck)?;
-        let form = Linear::single(self.alloc, var, 1, constant)?;
-        Ok(Decision::Branch(form, None))
     }
 
     // What is done at a level whose facts were taken in.
-    fn go_on(&mut self, level: u32, bounds: &Bounds) -> Result<Decision, Stop> {
+    fn go_on(&mut self, level: u32, bounds: &Bounds) -> Result<Decision, Halt> {
         if let Some(i) = self.next.take() {
             return Ok(Decision::Split(i));
         }
@@ -264,13 +246,12 @@ impl<'a> Search<'a> {
                 return Ok(Decision::Split(i));
             }
         }
-        match self.eliminate(bounds)? {
-            Outcome::Closed(row) => Ok(Decision::Close(row)),
-            Outcome::Model(model) => self.decide_at(model, bounds),
-            Outcome::Gap(var, value) => self.decide_without(Some((var, value)), bounds),
-            Outcome::OutOfRange => self.decide_without(None, bounds),
-            Outcome::Unknown => self.decide_without(None, bounds),
-        }
+        let decision = match self.eliminate(bounds)? {
+            Outcome::Model(model) => self.decide_at(model, bounds)?,
+            Outcome::Gap(gap) => self.decide_without(Some(gap), bounds)?,
+            Outcome::OutOfRange | Outcome::Unknown => self.decide_without(None, bounds)?,
+        };
+        Ok(decision)
     }
 
     // Marks the choice as taken or not. Tells it, if it is there.
@@ -283,12 +264,19 @@ impl<'a> Search<'a> {
     // The leaf that closes with this row.
     fn close(&mut self, row: usize) -> Result<Proof, Stop> {
         let proof = leaf(&self.rows, row)?;
-        match self.room.checked_sub(proof.tree.size()) {
-            Some(room) => {
-                self.room = room;
-                Ok(proof)
+        let room = self.room.checked_sub(proof.tree.size());
+        self.room = room.ok_or(Stop::Size)?;
+        Ok(proof)
+    }
+
+    // What comes of a level whose work was halted.
+    fn halted(&mut self, halt: Halt) -> Result<Proof, Stop> {
+        match halt {
+            Halt::Contradiction(row) => {
+                self.next = None;
+                self.close(row)
             }
-            None => Err(Stop::Size),
+            Halt::Stop(stop) => Err(stop),
         }
     }
 
@@ -306,18 +294,14 @@ impl<'a> Search<'a> {
     #[cycle(search)]
     fn refute(&mut self, level: u32, entry: Entry<'a>, bounds: &Bounds) -> Result<Proof, Stop> {
         let mut own = bounds.copy()?;
-        if let Some(row) = self.begin(entry, level, &mut own)? {
-            self.next = None;
-            return self.close(row);
+        if let Err(halt) = self.begin(entry, level, &mut own) {
+            return self.halted(halt);
         }
-        let below = match level.checked_sub(1) {
-            Some(below) => below,
-            None => return Err(Stop::Stuck),
-        };
-        match self.go_on(level, &own)? {
-            Decision::Close(row) => self.close(row),
-            Decision::Split(i) => self.split(below, i, &own),
-            Decision::Branch(form, next) => self.branch(below, form, next, &own),
+        let below = level.checked_sub(1).ok_or(Stop::Stuck)?;
+        match self.go_on(level, &own) {
+            Ok(Decision::Split(i)) => self.split(below, i, &own),
+            Ok(Decision::Branch { form, next }) => self.branch(below, form, next, &own),
+            Err(halt) => self.halted(halt),
         }
     }
 
@@ -325,7 +309,7 @@ impl<'a> Search<'a> {
     #[cycle(search)]
     fn split(&mut self, below: u32, i: usize, bounds: &Bounds) -> Result<Proof, Stop> {
         let choice = self.set_taken(i, true).ok_or(Stop::Stuck)?;
-        let mut used = Levels::one(choice.level);
+        let mut used = Levels::one(choice.place.level);
         let mut cases = Vec::with_capacity(self.alloc, choice.parts.len())?;
         for part in choice.parts {
             let proof = self.at_level(below, Entry::Part(part), bounds)?;
@@ -343,7 +327,10 @@ impl<'a> Search<'a> {
         self.set_taken(i, false);
         Ok(Proof {
             used,
-            tree: Tree::Split(choice.level, choice.index, cases),
+            tree: Tree::Split {
+                choice: choice.place,
+                cases,
+            },
         })
     }
 

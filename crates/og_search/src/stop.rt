@@ -1,4 +1,4 @@
-//! Why a search ends without a certificate.
+//! Why a search ends without a certificate, and what ends the work on its rows.
 
 use std::alloc::{AllocError, AllocFailed};
 
@@ -26,5 +26,32 @@ impl From<AllocError> for Stop {
 impl<T: Drop> From<AllocFailed<T>> for Stop {
     fn from(_: AllocFailed<T>) -> Stop {
         Stop::Memory
+    }
+}
+
+/// What ends the work on the rows of a level.
+#[derive(Clone, Copy)]
+pub(crate) enum Halt {
+    /// This row is a constant above 0, so the facts contradict each other.
+    Contradiction(usize),
+    /// The search ends.
+    Stop(Stop),
+}
+
+impl From<Stop> for Halt {
+    fn from(stop: Stop) -> Halt {
+        Halt::Stop(stop)
+    }
+}
+
+impl From<AllocError> for Halt {
+    fn from(_: AllocError) -> Halt {
+        Halt::Stop(Stop::Memory)
+    }
+}
+
+impl<T: Drop> From<AllocFailed<T>> for Halt {
+    fn from(_: AllocFailed<T>) -> Halt {
+        Halt::Stop(Stop::Memory)
     }
 }

@@ -1,22 +1,27 @@
 //! Whole numbers for variables that were eliminated.
 
-use crate::bounds::{HIGHEST, LOWEST};
-use crate::eliminate::Eliminated;
-use crate::linear::{Linear, ceil_div, floor_div};
+use crate::bounds::{HIGHEST, LOWEST, Limit, Side};
+use crate::linear::{At, Linear};
 use crate::model::Model;
 use crate::rows::Rows;
+use crate::working::Eliminated;
 
-/// What came of the search for values.
+/// A variable for which no whole number fits: it is at most this, or above it.
 #[derive(Clone, Copy)]
-pub(crate) enum Values {
-    /// Each variable has its value.
-    Fit,
-    /// No whole number fits this variable: it is at most this, or above it.
-    Gap(u32, i128),
-    /// A variable leaves the range of `i64`.
+pub(crate) struct Gap {
+    pub(crate) var: u32,
+    pub(crate) most: i128,
+}
+
+/// Why a variable gets no value.
+#[derive(Clone, Copy)]
+pub(crate) enum Misfit {
+    /// No whole number fits.
+    Gap(Gap),
+    /// What fits is outside the range of `i64`.
     OutOfRange,
     /// A number is too large.
-    Unknown,
+    TooLarge,
 }
 
 // The least and the greatest value of a variable, as far as there are such.
@@ -26,41 +31,27 @@ struct Limits {
     high: Option<i128>,
 }
 
-// The value of the form without the variable.
-fn rest_of(form: &Linear, var: u32, model: &Model) -> Option<i128> {
-    let mut sum = form.constant;
-    for t in &form.terms {
-        if t.0 != var {
-            sum = sum.checked_add(t.1.checked_mul(model.value(t.0))?)?;
+impl Limits {
+    // The limits with one more.
+    fn and(self, limit: Limit) -> Limits {
+        let value = limit.value;
+        match limit.side {
+            Side::Lower => Limits {
+                low: Some(self.low.unwrap_or(value).max(value)),
+                high: self.high,
+            },
+            Side::Upper => Limits {
+                low: self.low,
+                high: Some(self.high.unwrap_or(value).min(value)),
+            },
         }
     }
-    Some(sum)
 }
 
-// The limits, with that of one more row.
-fn tightened(limits: Limits, form: &Linear, var: u32, model: &Model) -> Option<Limits> {
-    let rest = rest_of(form, var, model)?;
-    let c = form.coefficient(var);
-    if c > 0 {
-        let value = floor_div(rest.checked_neg()?, c)?;
-        let high = match limits.high {
-            Some(high) if high <= value => high,
-            _ => value,
-        };
-        return Some(Limits {
-            low: limits.low,
-            high: Some(high),
-        });
-    }
-    let value = ceil_div(rest, c.checked_neg()?)?;
-    let low = match limits.low {
-        Some(low) if low >= value => low,
-        _ => value,
-    };
-    Some(Limits {
-        low: Some(low),
-        high: limits.high,
-    })
+// What the inequality says of the variable, where the others have these values.
+fn limit_of(form: &Linear, var: u32, model: &Model) -> Option<Limit> {
+    let rest = form.value(At::Model(model), Some(var))?;
+    Limit::of(form.coefficient(var), rest)
 }
 
 // The limits that the rows set to a variable.
@@ -69,40 +60,38 @@ fn limits_of(rows: &Rows, gone: &Eliminated, model: &Model) -> Option<Limits> {
         low: None,
         high: None,
     };
-    for r in &gone.rows {
-        limits = tightened(limits, rows.form(*r), gone.var, model)?;
+    for row in &gone.rows {
+        limits = limits.and(limit_of(rows.form(*row), gone.var, model)?);
     }
     Some(limits)
 }
 
 // Gives the variable a value within the limits, its old one if that fits.
-fn settle(limits: Limits, var: u32, model: &mut Model) -> Values {
-    if let (Some(low), Some(high)) = (limits.low, limits.high) {
-        if low > high {
-            return Values::Gap(var, high);
+fn settle(limits: Limits, var: u32, model: &mut Model) -> Result<(), Misfit> {
+    if let (Some(low), Some(most)) = (limits.low, limits.high) {
+        if low > most {
+            return Err(Misfit::Gap(Gap { var, most }));
         }
     }
     let low = limits.low.unwrap_or(LOWEST).max(LOWEST);
     let high = limits.high.unwrap_or(HIGHEST).min(HIGHEST);
     if low > high {
-        return Values::OutOfRange;
+        return Err(Misfit::OutOfRange);
     }
     let value = model.value(var).max(low).min(high);
     model.set(var, value);
-    Values::Fit
+    Ok(())
 }
 
 /// Gives each variable a value, the last that was eliminated first.
-pub(crate) fn values_of(rows: &Rows, gone: &[Eliminated], model: &mut Model) -> Values {
+pub(crate) fn set_values(
+    rows: &Rows,
+    gone: &[Eliminated],
+    model: &mut Model,
+) -> Result<(), Misfit> {
     for one in gone.iter().rev() {
-        let limits = match limits_of(rows, one, model) {
-            Some(limits) => limits,
-            None => return Values::Unknown,
-        };
-        match settle(limits, one.var, model) {
-            Values::Fit => {}
-            other => return other,
-        }
+        let limits = limits_of(rows, one, model).ok_or(Misfit::TooLarge)?;
+        settle(limits, one.var, model)?;
     }
-    Values::Fit
+    Ok(())
 }
