@@ -1,12 +1,12 @@
 //! The program `og`.
 #![tactic(auto)]
 
-ghost use Rattle.std.specs.Prelude.{◌<◌, ◌≤◌};
-
+use og_answer::Answer;
 use og_engine::{
-    Answer, EngineFault, Options, engine, engine_joined, erased, found, listed, migrated,
+    EngineFault, Options, engine, engine_joined, erased, found, listed, migrated,
     read_certificates, read_source, write_answer,
 };
+use og_limits::{Budget, RunLimit, Workers};
 use og_pool::OpenGate;
 use og_running::{Reply, ran, ran_proved};
 use og_words::{Job, Usage, read_words};
@@ -58,14 +58,14 @@ fn open(rt: &HostRuntime, name: &str) -> Result<File, EngineFault> {
 // The bytes of a source; `-` is standard input.
 fn source_bytes(rt: &HostRuntime, name: &str) -> Result<Vec<u8>, EngineFault> {
     if name == "-" {
-        return read_source(rt.alloc(), &mut rt.stdin());
+        return Ok(read_source(rt.alloc(), &mut rt.stdin())?);
     }
-    read_source(rt.alloc(), &mut open(rt, name)?)
+    Ok(read_source(rt.alloc(), &mut open(rt, name)?)?)
 }
 
 // Prints an answer.
 fn print(rt: &HostRuntime, answer: Answer) -> Result<u8, EngineFault> {
-    write_answer(&mut rt.stdout(), &answer)
+    Ok(write_answer(&mut rt.stdout(), &answer)?)
 }
 
 // Prints the help that was asked for.
@@ -76,7 +76,7 @@ fn show(rt: &HostRuntime, text: String) -> Result<u8, EngineFault> {
 
 fn joined<H: Threads + Wait + Sync>(rt: &HostRuntime, threads: &H) -> Result<u8, EngineFault> {
     let options = Options {
-        workers: 1,
+        workers: Workers::ONE,
         json: false,
     };
     let gate = OpenGate;
@@ -96,9 +96,7 @@ fn check<H: Threads + Wait + Sync>(
     source: &str,
     certs: &str,
     options: Options,
-) -> Result<u8, EngineFault>
-    requires { (0 < options.workers) × (options.workers ≤ 64) }
-{
+) -> Result<u8, EngineFault> {
     let gate = OpenGate;
     let alloc = rt.alloc();
     if source == "-" {
@@ -136,7 +134,7 @@ fn erase(rt: &HostRuntime, source: &str) -> Result<u8, EngineFault> {
     print(rt, erased(rt.alloc(), &source)?)
 }
 
-fn find(rt: &HostRuntime, source: &str, budget: u64) -> Result<u8, EngineFault> {
+fn find(rt: &HostRuntime, source: &str, budget: Budget) -> Result<u8, EngineFault> {
     let source = source_bytes(rt, source)?;
     print(rt, found(rt.alloc(), &source, budget)?)
 }
@@ -152,19 +150,17 @@ fn run_source<'a, H: Threads + Wait + Sync>(
     source: &str,
     certs: Option<&str>,
     words: &[&'a str],
-    limit: u32,
+    limit: RunLimit,
     erased: bool,
-) -> Result<Reply<'a>, EngineFault>
-    requires { limit ≤ 1000000 }
-{
+) -> Result<Reply<'a>, EngineFault> {
     let gate = OpenGate;
     let alloc = rt.alloc();
     let source = source_bytes(rt, source)?;
     match certs {
-        None => ran(threads, alloc, &source, words, limit, erased, &gate),
+        None => Ok(ran(threads, alloc, &source, words, limit, erased, &gate)?),
         Some(certs) => {
             let certs = read_certificates(alloc, &mut open(rt, certs)?)?;
-            ran_proved(threads, alloc, &source, &certs, words, limit, &gate)
+            Ok(ran_proved(threads, alloc, &source, &certs, words, limit, &gate)?)
         }
     }
 }
@@ -181,39 +177,42 @@ fn reply(rt: &HostRuntime, reply: Result<Reply<'_>, EngineFault>) -> u8 {
     }
 }
 
+// Does a job, and returns the program's status.
+fn perform<H: Threads + Wait + Sync>(rt: &HostRuntime, threads: &H, job: Job<'_>) -> u8 {
+    match job {
+        Job::Joined => finish(rt, joined(rt, threads)),
+        Job::Check {
+            source,
+            certs,
+            workers,
+            json,
+        } => finish(
+            rt,
+            check(rt, threads, source, certs, Options { workers, json }),
+        ),
+        Job::Conditions { source } => finish(rt, conditions(rt, source)),
+        Job::Find { source, budget } => finish(rt, find(rt, source, budget)),
+        Job::Erase { source } => finish(rt, erase(rt, source)),
+        Job::Migrate { certs } => finish(rt, migrate(rt, certs)),
+        Job::Run {
+            source,
+            limit,
+            erased,
+            certs,
+            values,
+        } => reply(
+            rt,
+            run_source(rt, threads, source, certs, &values, limit, erased),
+        ),
+    }
+}
+
 fn run<H: Threads + Wait + Sync>(rt: &HostRuntime, threads: &H, words: &[String]) -> u8 {
     match read_words(rt.alloc(), words) {
         Err(Usage::Memory) => fault(rt, EngineFault::Memory),
         Err(Usage::Asked(text)) => finish(rt, show(rt, text)),
         Err(Usage::Wrong(text)) => complain(rt, text.as_str(), WRONG),
-        Ok(Job::Joined) => finish(rt, joined(rt, threads)),
-        Ok(
-            Job::Check {
-                source,
-                certs,
-                workers,
-                json,
-            },
-        ) => finish(
-            rt,
-            check(rt, threads, source, certs, Options { workers, json }),
-        ),
-        Ok(Job::Conditions { source }) => finish(rt, conditions(rt, source)),
-        Ok(Job::Find { source, budget }) => finish(rt, find(rt, source, budget)),
-        Ok(Job::Erase { source }) => finish(rt, erase(rt, source)),
-        Ok(Job::Migrate { certs }) => finish(rt, migrate(rt, certs)),
-        Ok(
-            Job::Run {
-                source,
-                limit,
-                erased,
-                certs,
-                values,
-            },
-        ) => reply(
-            rt,
-            run_source(rt, threads, source, certs, &values, limit, erased),
-        ),
+        Ok(job) => perform(rt, threads, job),
     }
 }
 

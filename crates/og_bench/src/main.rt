@@ -5,17 +5,16 @@
 //! the statuses with that many workers, and prints how many microseconds that took.
 #![tactic(auto)]
 
-ghost use Rattle.std.specs.Prelude.{◌<◌, ◌≤◌, ◌^◌, length};
+ghost use Rattle.std.specs.Prelude.{◌<◌, ◌^◌, length};
 
 use og_cert_read::read_certs;
 use og_cert_text::CertFile;
 use og_cond::{Condition, conditions};
 use og_input::read_up_to;
-use og_parse::parse;
+use og_limits::Workers;
 use og_pool::{OpenGate, Status, check_all};
-use og_text::lex;
-use og_typed::{Outline, resolve};
-use std::alloc::Global;
+use og_source::Source;
+use og_typed::Outline;
 use std::env;
 use std::fs::File;
 use std::io::{Read, Write};
@@ -33,12 +32,6 @@ fn bytes(rt: &HostRuntime, name: &str) -> Option<Vec<u8>> {
         return None;
     };
     read_up_to(rt.alloc(), &mut file, MOST).ok()
-}
-
-fn outline_of(alloc: Global, source: &[u8]) -> Option<Outline> {
-    let tokens = lex(alloc, source).ok()?;
-    let raw = parse(alloc, tokens.as_slice()).ok()?;
-    resolve(alloc, raw).ok()
 }
 
 fn print(rt: &HostRuntime, text: &str) -> Option<()> {
@@ -71,12 +64,12 @@ fn time<H: Threads + Wait + Sync>(
     threads: &H,
     conditions: &[Condition],
     certs: &CertFile,
-    workers: u32,
+    workers: Workers,
 ) -> Option<()>
-    requires workers { (0 < workers) × (workers ≤ 64) }
     requires few { length conditions.now < 2 ^ 32 }
 {
     let alloc = rt.alloc();
+    let workers = workers.count();
     let begin = Instant::now(rt).ok()?;
     let statuses = check_all(threads, alloc, conditions, certs, workers, &OpenGate);
     let took = begin.elapsed(rt).ok()?.as_micros();
@@ -100,8 +93,12 @@ fn time_all<H: Threads + Wait + Sync>(
         if input.read(&mut byte).ok()? == 0 {
             break;
         }
-        if let b'1'..=b'9' = byte[0] {
-            time(rt, threads, conditions, certs, u32::from(byte[0] - b'0'))?;
+        let count = match byte[0] {
+            digit @ b'1'..=b'9' => digit - b'0',
+            _ => 0,
+        };
+        if let Some(workers) = Workers::new(u32::from(count)) {
+            time(rt, threads, conditions, certs, workers)?;
         }
     }
     Some(())
@@ -131,9 +128,9 @@ fn measure_files<H: Threads + Wait + Sync>(
     let source = bytes(rt, source)?;
     let certs = bytes(rt, certs)?;
     let file = read_certs(rt.alloc(), &certs).ok()?;
-    let outline = outline_of(rt.alloc(), &source)?;
-    let told = measure(rt, threads, &outline, &file);
-    drop(outline);
+    let source = Source::read(rt.alloc(), &source).ok()?;
+    let told = measure(rt, threads, source.outline(), &file);
+    drop(source);
     told
 }
 

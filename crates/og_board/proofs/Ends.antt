@@ -5,7 +5,7 @@ use Rattle.std.proofs.lemmas.Bool.{both_ways}
 use Rattle.std.proofs.lemmas.Option.{same_Some}
 use Rattle.og_typed.specs.Machine.{Moment, phase, is_empty, todo, is_turn, is_finished, active, overflows, IsReached, IsStart, IsStuck}
 use Rattle.og_typed.proofs.Turns.{turn_active}
-use Rattle.og_judge.specs.Sound.{IsSound}
+use Rattle.og_theorem.specs.Sound.{IsSound}
 use Rattle.og_step.specs.Progress.{Progress}
 use Rattle.og_board.specs.Runs.{Given, IsRun, process_count, moment_after}
 use Rattle.og_board.specs.Turns.{IsTurn, Answers, SomeOverflows, is_overflow}

@@ -11,9 +11,9 @@ use crate::board::Board;
 use crate::machine::Machine;
 use crate::setting::Setting;
 use crate::turn::RunTurn;
-use og_judge::Proved;
 use og_linear::State;
 use og_step::StartError;
+use og_theorem::Proved;
 use std::alloc::Global;
 use std::marker::Model;
 
@@ -26,7 +26,7 @@ pub struct ProvedBoard<'a> {
 
 impl<'a> Model for ProvedBoard<'a> {
     ghost use Rattle.std.specs.Prelude.{◌≡◌, None};
-    ghost use Rattle.og_judge.specs.Sound.{IsSound};
+    ghost use Rattle.og_theorem.specs.Sound.{IsSound};
     ghost use Rattle.og_board.specs.Standing.{Standing, standing_code};
 
     ghost Value = { Standing };

@@ -78,7 +78,7 @@ pub drop_at : {X : Type 0} (all : List X) (i : ℕ) (x : X) → i < length all �
 drop_at all i x h is =
     drop-cons all i x h ∙ ap (λ y. y ∷ drop (suc i) all) (sym is) ∙ ap (λ k. x ∷ drop k all) (sym (add-one i))
 
--- what stands behind the first steps
+-- what stands after the first steps
 pub steps_turn : (line n i : ℕ) (fs gs : List Fact) (s : CertStep) (all : List CertStep) (c : Cert) → i < length all → s ≡ get_or all i s → stepped n fs s ≡ Ok gs → fault_from line n fs (with_steps (drop i all) c) ≡ fault_from (line + 1) n gs (with_steps (drop (i + 1) all) c)
 steps_turn line n i fs gs s all c h is e =
     ap (λ l. fault_from line n fs (with_steps l c)) (drop_at all i s h is) ∙ step_passes line n fs gs s (drop (i + 1) all) c e

@@ -42,7 +42,7 @@ abbrev pub FailsWith : ReplayError → Option ReplayFault → Type 0
 FailsWith errors.Memory fault = ⊤
 FailsWith (errors.Fault f) fault = fault ≡ Some f
 
--- the certificate from this line on has no fault, and the result is the line behind it; or the error is its first fault
+-- the certificate from this line on has no fault, and the result is the line after it; or the error is its first fault
 abbrev pub Replays : ℕ → ℕ → List Fact → Cert → Result ℕ ReplayError → Type 0
 Replays line n fs c (Ok next) = (fault_from line n fs c ≡ None) × (next ≡ line + lines c)
 Replays line n fs c (Err e) = FailsWith e (fault_from line n fs c)
@@ -52,7 +52,7 @@ abbrev pub ReplaysParts : ℕ → ℕ → List Fact → List (List Fact) → Cer
 ReplaysParts line n fs ps cs (Ok next) = (fault_parts (line + 1) line n fs ps cs ≡ None) × (next ≡ line + 1 + lines_of cs)
 ReplaysParts line n fs ps cs (Err e) = FailsWith e (fault_parts (line + 1) line n fs ps cs)
 
--- behind these steps the facts are the new ones, and what stands there goes on at the result's line; or the error is their first fault
+-- after these steps the facts are the new ones, and what stands there goes on at the result's line; or the error is their first fault
 abbrev pub TakesSteps : ℕ → ℕ → List Fact → List Fact → List CertStep → Result ℕ ReplayError → Type 0
 TakesSteps line n old new steps (Ok next) =
     (next ≡ line + length steps) × ((c : Cert) → fault_from line n old (with_steps steps c) ≡ fault_from next n new c)

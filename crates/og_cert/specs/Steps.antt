@@ -15,7 +15,7 @@ abbrev pub made : ℕ → List Fact → CertStep → Result FormValue FaultKind
 made n fs (step.Sum ts) = combination n fs (combination_of ts.items)
 made n fs (step.Cut i d) = cut_at fs i d
 
--- the facts behind a step
+-- the facts after a step
 abbrev pub stepped : ℕ → List Fact → CertStep → Result (List Fact) FaultKind
 stepped n fs s = ok_then (made n fs s) (λ f. ok_then (room fs 1) (λ _. Ok (fs ++ Atom f ∷ [])))
 

@@ -19,8 +19,8 @@ use og_facts::{Fact, FactList};
 use og_linear::Form;
 use std::alloc::Global;
 
-// The number of the line behind this one.
-fn line_behind(line: u64) -> Result<u64, ReplayError>
+// The number of the line after this one.
+fn line_after(line: u64) -> Result<u64, ReplayError>
     ensures next { IfOk result (λ next. next ≡ line + 1) }
     ensures last { IfErr result (λ e. e ≡ errors.Memory) }
 {
@@ -54,7 +54,7 @@ fn take_step(held: &mut Vec<Held>, variables: u32, step: &CertStep) -> Result<()
     Ok(())
 }
 
-// Adds the facts of the steps from this line on, and tells the line behind them.
+// Adds the facts of the steps from this line on, and tells the line after them.
 fn take_steps(
     held: &mut Vec<Held>,
     variables: u32,
@@ -68,7 +68,7 @@ fn take_steps(
     let mut next = line;
     for step in steps {
         at_line(next, take_step(held, variables, step))?;
-        next = line_behind(next)?;
+        next = line_after(next)?;
     }
     Ok(next)
 }
@@ -102,7 +102,7 @@ fn open_split<'a>(
     Ok(parts)
 }
 
-// Replays the lines of a certificate from this one on, and tells the line behind them.
+// Replays the lines of a certificate from this one on, and tells the line after them.
 #[cycle(replay)]
 fn replay_cert<'a>(
     held: &mut Vec<Held<'a>>,
@@ -134,11 +134,11 @@ fn replay_finish<'a>(
     match finish {
         Finish::Close(terms) => {
             at_line(line, check_closing(alloc, variables, held, terms))?;
-            line_behind(line)
+            line_after(line)
         }
         Finish::Branch(form, low, high) => {
             let other = at_line(line, open_branch(alloc, variables, held, form))?;
-            let first = line_behind(line)?;
+            let first = line_after(line)?;
             let second = replay_with(held, variables, first, form.copy()?, low)?;
             replay_with(held, variables, second, other, high)
         }
@@ -201,7 +201,7 @@ fn replay_parts<'a>(
         (map (λ p. map plain_fact p.items) parts.now) (certs_of certs.now) result }
     ensures kept { OnOk result (held.new.items ≡ held.old.items) }
 {
-    let mut next = line_behind(line)?;
+    let mut next = line_after(line)?;
     for index in 0..certs.len() {
         let part = parts[index].as_slice();
         at_line(line, room_for(held, part.len()))?;

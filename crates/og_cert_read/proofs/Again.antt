@@ -32,7 +32,7 @@ Same v r ls q ms = (at : ℕ) (es : Entries) → ((later : ℕ) → read_lines v
 deep_ok : (fs : List Frame) (next : Reading) (at : ℕ) (f : Reading → Result Entries (LineFault × ℕ)) → nat_lt (depth fs) most_depth ≡ true → goes at (deeper fs next) f ≡ f next
 deep_ok fs next at f e = ap (λ r. goes at r f) (cond-true (nat_lt (depth fs) most_depth) (Ok next) (Err TooDeep) e)
 
--- more certificates behind those that were read
+-- more certificates after those that were read
 abbrev joined : List Cert → Certs → Certs
 joined [] ds = ds
 joined (c ∷ cs) ds = cert c (joined cs ds)
@@ -120,11 +120,11 @@ whole_lines es = listing_lines (map (λ e. (e.0, Whole e.1)) es)
 
 entries_again : (es done all : Entries) (v : Version) (low : ℕ) → below low done → rise_from low es ≡ true → list_all (λ e. is_number e.0 && is_well_formed e.1) es ≡ true → done ++ es ≡ all
     → (at : ℕ) → read_lines v at (between done) (before (whole_lines es) []) ≡ Ok all
-entries_again [] done all v low b rise good e at = ap Ok (sym (none_behind done) ∙ e)
+entries_again [] done all v low b rise good e at = ap Ok (sym (none_past done) ∙ e)
   where
-    none_behind : (xs : Entries) → xs ++ [] ≡ xs
-    none_behind [] = refl
-    none_behind (y ∷ ys) = ap (λ zs. y ∷ zs) (none_behind ys)
+    none_past : (xs : Entries) → xs ++ [] ≡ xs
+    none_past [] = refl
+    none_past (y ∷ ys) = ap (λ zs. y ∷ zs) (none_past ys)
 entries_again (x ∷ es) done all v low b rise good e at =
     let r = and_parts (nat_le low x.0) (rise_from (x.0 + 1) es) rise in
     let g = and_parts (is_number x.0 && is_well_formed x.1) (list_all (λ e. is_number e.0 && is_well_formed e.1) es) good in

@@ -9,8 +9,8 @@ use Rattle.og_linear.specs.Arith.{fits_i128, fits_terms, fits_form}
 use Rattle.og_cert_text.specs.Lines.{Line, ForCondition, SameLine, SumLine, CutLine, BranchLine, SplitLine, CloseLine, part_text, parts_text, line_text, is_number, is_variable, is_factor, rises_from, is_form, is_line}
 use Rattle.og_cert_text.proofs.Forms.{both_true, and_parts}
 use Rattle.og_cert_read.specs.Text.{BytesSay}
-use Rattle.og_cert_read.specs.Words.{and_then, before, behind, after, words_in, words_of, number_of, index_of, variable_of, factor_of, whole_of, terms_of, named_variable, nonzero, part_of, parts_of, form_of, index_and_rest, cut_of, split_of, or_else, line_of}
-use Rattle.og_cert_read.proofs.Numbers.{and_some, map_some, some_same, cond_some, cond_none, apart, equal, none_behind, Lacks, lacks_both, lacks_decimal, number_parts, index_sound, index_complete, variable_sound, variable_complete, factor_sound, factor_complete, count_sound, count_complete, whole_sound, whole_complete, lt_from}
+use Rattle.og_cert_read.specs.Words.{and_then, before, past, after, words_in, words_of, number_of, index_of, variable_of, factor_of, whole_of, terms_of, named_variable, nonzero, part_of, parts_of, form_of, index_and_rest, cut_of, split_of, or_else, line_of}
+use Rattle.og_cert_read.proofs.Numbers.{and_some, map_some, some_same, cond_some, cond_none, apart, equal, none_past, Lacks, lacks_both, lacks_decimal, number_parts, index_sound, index_complete, variable_sound, variable_complete, factor_sound, factor_complete, count_sound, count_complete, whole_sound, whole_complete, lt_from}
 use Rattle.og_cert_read.proofs.Says.{split_text, no_split, cut_here, cut_nowhere, spaced, words_spaced, words_join, words_one, combination_sound, combination_complete, variable_small}
 
 -- ---- the variables of a form
@@ -37,9 +37,9 @@ false_from false h = refl
 
 part_sound : (word : List ℕ) (t : ℕ × ℤ) → part_of word ≡ Some t → (word ≡ part_text t) × GoodPart t
 part_sound word t h =
-    let p = and_some (whole_of (before 42 word)) (λ a. and_then (and_then (behind 42 word) named_variable) (λ v. nonzero v a)) t h in
-    let q = and_some (and_then (behind 42 word) named_variable) (λ v. nonzero v p.0) t p.2 in
-    let r = and_some (behind 42 word) named_variable q.0 q.1 in
+    let p = and_some (whole_of (before 42 word)) (λ a. and_then (and_then (past 42 word) named_variable) (λ v. nonzero v a)) t h in
+    let q = and_some (and_then (past 42 word) named_variable) (λ v. nonzero v p.0) t p.2 in
+    let r = and_some (past 42 word) named_variable q.0 q.1 in
     let z = cond_none (int_eq p.0 (pos 0)) (Some (q.0, p.0)) t q.2 in
     let w = whole_sound (before 42 word) p.0 p.1 in
     let n = named_sound r.0 q.0 r.2 in
@@ -55,8 +55,8 @@ lacks_whole b (negsuc n) lt h =
 part_complete : (t : ℕ × ℤ) → GoodPart t → part_of (part_text t) ≡ Some t
 part_complete t g =
     let c = cut_here 42 (signed_decimal t.1) (118 ∷ decimal t.0) (lacks_whole 42 t.1 (omega arith) g.fits) in
-    ap (λ w. and_then (whole_of w) (λ a. and_then (and_then (behind 42 (part_text t)) named_variable) (λ v. nonzero v a))) c.0
-    ∙ ap (λ o. and_then o (λ a. and_then (and_then (behind 42 (part_text t)) named_variable) (λ v. nonzero v a))) (whole_complete t.1 g.fits)
+    ap (λ w. and_then (whole_of w) (λ a. and_then (and_then (past 42 (part_text t)) named_variable) (λ v. nonzero v a))) c.0
+    ∙ ap (λ o. and_then o (λ a. and_then (and_then (past 42 (part_text t)) named_variable) (λ v. nonzero v a))) (whole_complete t.1 g.fits)
     ∙ ap (λ o. and_then (and_then o named_variable) (λ v. nonzero v t.1)) c.1
     ∙ ap (λ o. and_then o (λ v. nonzero v t.1)) (variable_complete t.0 g.small)
     ∙ ap (λ b. cond b None (Some t)) (false_from (int_eq t.1 (pos 0)) g.some)
@@ -98,7 +98,7 @@ part_good low t ts g =
 parts_complete : (low : ℕ) (t : ℕ × ℤ) (ts : Terms) → GoodParts low (t ∷ ts) → parts_of low (words_in (part_text t ++ parts_text ts)) ≡ Some (t ∷ ts)
 parts_complete low t [] g =
     let p = part_good low t [] g in
-    ap (λ w. parts_of low (words_in w)) (none_behind (part_text t)) ∙ ap (parts_of low) (words_one (part_text t) (lacks_part t p.0))
+    ap (λ w. parts_of low (words_in w)) (none_past (part_text t)) ∙ ap (parts_of low) (words_one (part_text t) (lacks_part t p.0))
     ∙ ap (λ o. and_then o (λ x. cond (nat_le low x.0) (option_map (λ us. x ∷ us) (parts_of (x.0 + 1) [])) None)) (part_complete t p.0)
     ∙ ap (λ b. cond b (Some (t ∷ [])) None) p.1
 parts_complete low t (u ∷ us) g =
@@ -113,15 +113,15 @@ parts_complete low t (u ∷ us) g =
 
 pub form_sound : (text : List ℕ) (f : FormValue) → form_of text ≡ Some f → (text ≡ signed_decimal f.constant ++ parts_text f.terms) × (is_form f ≡ true)
 form_sound text f h =
-    let p = and_some (whole_of (before 32 text)) (λ c. option_map (λ ts. form_value ts c) (parts_of 0 (words_of (behind 32 text)))) f h in
-    let q = map_some (parts_of 0 (words_of (behind 32 text))) (λ ts. form_value ts p.0) f p.2 in
+    let p = and_some (whole_of (before 32 text)) (λ c. option_map (λ ts. form_value ts c) (parts_of 0 (words_of (past 32 text)))) f h in
+    let q = map_some (parts_of 0 (words_of (past 32 text))) (λ ts. form_value ts p.0) f p.2 in
     let w = whole_sound (before 32 text) p.0 p.1 in
-    let s = parts_sound 0 (words_of (behind 32 text)) q.0 q.1 in
+    let s = parts_sound 0 (words_of (past 32 text)) q.0 q.1 in
     subst (λ y. (text ≡ signed_decimal y.constant ++ parts_text y.terms) × (is_form y ≡ true)) q.2
-    (from (behind 32 text) refl ∙ ap₂ (λ x y. x ++ y) w.0 s.0, both_true _ _ (both_true _ _ (both_true _ _ s.1.fit w.1) s.1.rise) s.1.small)
+    (from (past 32 text) refl ∙ ap₂ (λ x y. x ++ y) w.0 s.0, both_true _ _ (both_true _ _ (both_true _ _ s.1.fit w.1) s.1.rise) s.1.small)
   where
-    from : (o : Option (List ℕ)) → behind 32 text ≡ o → text ≡ before 32 text ++ spaced (words_of o)
-    from None e = no_split 32 text e ∙ sym (none_behind (before 32 text))
+    from : (o : Option (List ℕ)) → past 32 text ≡ o → text ≡ before 32 text ++ spaced (words_of o)
+    from None e = no_split 32 text e ∙ sym (none_past (before 32 text))
     from (Some rest) e = split_text 32 text rest e ∙ ap (λ x. before 32 text ++ x) (sym (words_spaced rest))
 
 pub form_good : (f : FormValue) → is_form f ≡ true → (fits_i128 f.constant ≡ true) × GoodParts 0 f.terms
@@ -137,7 +137,7 @@ form_complete f h = let g = form_good f h in from f.terms f.constant g.0 g.1
     from : (ts : Terms) (c : ℤ) → fits_i128 c ≡ true → GoodParts 0 ts → form_of (signed_decimal c ++ parts_text ts) ≡ Some (form_value ts c)
     from [] c fits g =
         let k = cut_nowhere 32 (signed_decimal c) (lacks_whole 32 c (omega arith) fits) in
-        ap form_of (none_behind (signed_decimal c))
+        ap form_of (none_past (signed_decimal c))
         ∙ ap₂ (λ x y. and_then (whole_of x) (λ d. option_map (λ us. form_value us d) (parts_of 0 (words_of y)))) k.0 k.1
         ∙ ap (λ o. and_then o (λ d. option_map (λ us. form_value us d) (parts_of 0 []))) (whole_complete c fits)
     from (t ∷ ts) c fits g =
@@ -151,8 +151,8 @@ form_complete f h = let g = form_good f h in from f.terms f.constant g.0 g.1
 
 pair_sound : (text : List ℕ) (i : ℕ) (rest : List ℕ) → index_and_rest text ≡ Some (i, rest) → (text ≡ decimal i ++ 32 ∷ rest) × (is_number i ≡ true)
 pair_sound text i rest h =
-    let p = and_some (index_of (before 32 text)) (λ j. and_then (behind 32 text) (λ r. Some (j, r))) (i, rest) h in
-    let q = and_some (behind 32 text) (λ r. Some (p.0, r)) (i, rest) p.2 in
+    let p = and_some (index_of (before 32 text)) (λ j. and_then (past 32 text) (λ r. Some (j, r))) (i, rest) h in
+    let q = and_some (past 32 text) (λ r. Some (p.0, r)) (i, rest) p.2 in
     let e : ◌≡◌ {A = ℕ × List ℕ} (p.0, q.0) (i, rest) = some_same (p.0, q.0) (i, rest) q.2 in
     let s = index_sound (before 32 text) p.0 p.1 in
     subst (λ (y : ℕ × List ℕ). (text ≡ decimal y.0 ++ 32 ∷ y.1) × (is_number y.0 ≡ true)) e (split_text 32 text q.0 q.1 ∙ ap (λ x. x ++ 32 ∷ q.0) s.0, s.1)

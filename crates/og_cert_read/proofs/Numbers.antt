@@ -39,9 +39,9 @@ differ a b h = grind (arith, nat_tests)
 pub equal : (a b : ℕ) → (a == b) ≡ true → a ≡ b
 equal a b h = grind (arith, nat_tests)
 
-pub none_behind : (xs : List ℕ) → xs ++ [] ≡ xs
-none_behind [] = refl
-none_behind (y ∷ ys) = ap (λ zs. y ∷ zs) (none_behind ys)
+pub none_past : (xs : List ℕ) → xs ++ [] ≡ xs
+none_past [] = refl
+none_past (y ∷ ys) = ap (λ zs. y ∷ zs) (none_past ys)
 
 -- ---- digits that are read are those of the number
 
@@ -67,7 +67,7 @@ grow v b n some lo hi e small =
     decimal_step_wide n large small ∙ ap₂ (λ x y. decimal x ++ y ∷ []) q r
 
 from_sound : (most : ℕ) → most < 10 ^ 64 → (bs : List ℕ) (v n : ℕ) → 0 < v → v ≤ most → read_from most v bs ≡ Some n → (decimal n ≡ decimal v ++ bs) × (n ≤ most)
-from_sound most small [] v n some le h = let e : v ≡ n = some_same v n h in (ap decimal (sym e) ∙ sym (none_behind (decimal v)), subst (λ x. x ≤ most) e le)
+from_sound most small [] v n some le h = let e : v ≡ n = some_same v n h in (ap decimal (sym e) ∙ sym (none_past (decimal v)), subst (λ x. x ≤ most) e le)
 from_sound most small (b ∷ bs) v n some le h =
     let p = and_some (next_of most v b) (λ w. read_from most w bs) n h in
     let q = next_sound most v b p.0 p.1 in

@@ -9,12 +9,12 @@ use Rattle.og_cert_text.specs.Lines.{Line}
 use Rattle.og_cert_text.specs.Files.{Entries}
 use Rattle.og_cert_text.specs.Text.{Version}
 use Rattle.og_cert_read.specs.Text.{pieces, with_byte}
-use Rattle.og_cert_read.specs.Words.{before, behind, line_of}
+use Rattle.og_cert_read.specs.Words.{before, past, line_of}
 use Rattle.og_cert_read.specs.Reading.{Reading, LineFault, BadLine, line_at, goes, read_lines}
 use Rattle.og_cert_read.specs.Reader.{read_piece, lines_of, refused, IsRefusal, IsStopped}
 use Rattle.og_cert_read.proofs.Numbers.{some_same}
 
-no_lf : (text : List ℕ) → behind 10 text ≡ None → 0 < length text → pieces text ≡ None ∷ []
+no_lf : (text : List ℕ) → past 10 text ≡ None → 0 < length text → pieces text ≡ None ∷ []
 no_lf [] h lt = absurd (omega arith)
 no_lf (c ∷ []) h lt = from (c == 10) h
   where
@@ -23,40 +23,40 @@ no_lf (c ∷ []) h lt = from (c == 10) h
     from false h = refl
 no_lf (c ∷ d ∷ ds) h lt = from (c == 10) h (λ k. no_lf (d ∷ ds) k (omega arith))
   where
-    from : (t : Bool) → cond t (Some (d ∷ ds)) (behind 10 (d ∷ ds)) ≡ None → (behind 10 (d ∷ ds) ≡ None → pieces (d ∷ ds) ≡ None ∷ []) → cond t (Some [] ∷ pieces (d ∷ ds)) (with_byte c (pieces (d ∷ ds))) ≡ None ∷ []
+    from : (t : Bool) → cond t (Some (d ∷ ds)) (past 10 (d ∷ ds)) ≡ None → (past 10 (d ∷ ds) ≡ None → pieces (d ∷ ds) ≡ None ∷ []) → cond t (Some [] ∷ pieces (d ∷ ds)) (with_byte c (pieces (d ∷ ds))) ≡ None ∷ []
     from true h later = cc
     from false h later = ap (with_byte c) (later h)
 
-with_lf : (text rest : List ℕ) → behind 10 text ≡ Some rest → pieces text ≡ Some (before 10 text) ∷ pieces rest
+with_lf : (text rest : List ℕ) → past 10 text ≡ Some rest → pieces text ≡ Some (before 10 text) ∷ pieces rest
 with_lf [] rest h = cc
 with_lf (c ∷ cs) rest h = from (c == 10) h (with_lf cs rest)
   where
-    from : (t : Bool) → cond t (Some cs) (behind 10 cs) ≡ Some rest → (behind 10 cs ≡ Some rest → pieces cs ≡ Some (before 10 cs) ∷ pieces rest)
+    from : (t : Bool) → cond t (Some cs) (past 10 cs) ≡ Some rest → (past 10 cs ≡ Some rest → pieces cs ≡ Some (before 10 cs) ∷ pieces rest)
         → cond t (Some [] ∷ pieces cs) (with_byte c (pieces cs)) ≡ Some (cond t [] (c ∷ before 10 cs)) ∷ pieces rest
     from true h later = ap (λ x. Some [] ∷ pieces x) (some_same cs rest h)
     from false h later = ap (with_byte c) (later h)
 
-pub behind_less : (text rest : List ℕ) → behind 10 text ≡ Some rest → length rest < length text
-behind_less [] rest h = cc
-behind_less (c ∷ cs) rest h = from (c == 10) h (behind_less cs rest)
+pub past_less : (text rest : List ℕ) → past 10 text ≡ Some rest → length rest < length text
+past_less [] rest h = cc
+past_less (c ∷ cs) rest h = from (c == 10) h (past_less cs rest)
   where
-    from : (t : Bool) → cond t (Some cs) (behind 10 cs) ≡ Some rest → (behind 10 cs ≡ Some rest → length rest < length cs) → length rest < length (c ∷ cs)
+    from : (t : Bool) → cond t (Some cs) (past 10 cs) ≡ Some rest → (past 10 cs ≡ Some rest → length rest < length cs) → length rest < length (c ∷ cs)
     from true h later = let p : length cs ≡ length rest = ap length (some_same cs rest h) in omega (arith, p)
     from false h later = let p = later h in omega (arith, p)
 
-first_line : (text rest : List ℕ) (o : Option Line) → behind 10 text ≡ Some rest → o ≡ line_of (before 10 text) → lines_of text ≡ o ∷ lines_of rest
+first_line : (text rest : List ℕ) (o : Option Line) → past 10 text ≡ Some rest → o ≡ line_of (before 10 text) → lines_of text ≡ o ∷ lines_of rest
 first_line text rest o h e = ap (map read_piece) (with_lf text rest h) ∙ ap (λ x. x ∷ lines_of rest) (sym e)
 
 stopped : (e : CertTextError) (at : ℕ) (answer : Result Entries (LineFault × ℕ)) → e ≡ refused BadLine at → answer ≡ Err (BadLine, at) → IsStopped e answer
 stopped e at answer p q = subst (λ x. IsStopped x answer) (sym p) (BadLine, at, q, refl)
 
-pub no_line_end : (v : Version) (at : ℕ) (r : Reading) (text : List ℕ) (e : CertTextError) → behind 10 text ≡ None → 0 < length text → e ≡ refused BadLine at → IsStopped e (read_lines v at r (lines_of text))
+pub no_line_end : (v : Version) (at : ℕ) (r : Reading) (text : List ℕ) (e : CertTextError) → past 10 text ≡ None → 0 < length text → e ≡ refused BadLine at → IsStopped e (read_lines v at r (lines_of text))
 no_line_end v at r text e h some p = stopped e at _ p (ap (λ ps. read_lines v at r (map read_piece ps)) (no_lf text h some))
 
-pub no_line : (v : Version) (at : ℕ) (r : Reading) (text rest : List ℕ) (e : CertTextError) → behind 10 text ≡ Some rest → None ≡ line_of (before 10 text) → e ≡ refused BadLine at → IsStopped e (read_lines v at r (lines_of text))
+pub no_line : (v : Version) (at : ℕ) (r : Reading) (text rest : List ℕ) (e : CertTextError) → past 10 text ≡ Some rest → None ≡ line_of (before 10 text) → e ≡ refused BadLine at → IsStopped e (read_lines v at r (lines_of text))
 no_line v at r text rest e h none p = stopped e at _ p (ap (read_lines v at r) (first_line text rest None h none))
 
-pub line_refused : (v : Version) (at : ℕ) (r : Reading) (text rest : List ℕ) (line : Line) (e : CertTextError) → behind 10 text ≡ Some rest → Some line ≡ line_of (before 10 text) → IsRefusal e at (line_at v r.done r.place line) → IsStopped e (read_lines v at r (lines_of text))
+pub line_refused : (v : Version) (at : ℕ) (r : Reading) (text rest : List ℕ) (line : Line) (e : CertTextError) → past 10 text ≡ Some rest → Some line ≡ line_of (before 10 text) → IsRefusal e at (line_at v r.done r.place line) → IsStopped e (read_lines v at r (lines_of text))
 line_refused v at r text rest line errors.Memory h is fault = tt
 line_refused v at r text rest line (errors.Fault f) h is fault = (
   fault.0,
@@ -65,7 +65,7 @@ line_refused v at r text rest line (errors.Fault f) h is fault = (
   fault.2,
 )
 
-pub line_taken : (v : Version) (at : ℕ) (r new : Reading) (text rest : List ℕ) (line : Line) → behind 10 text ≡ Some rest → Some line ≡ line_of (before 10 text) → line_at v r.done r.place line ≡ Ok new
+pub line_taken : (v : Version) (at : ℕ) (r new : Reading) (text rest : List ℕ) (line : Line) → past 10 text ≡ Some rest → Some line ≡ line_of (before 10 text) → line_at v r.done r.place line ≡ Ok new
     → read_lines v at r (lines_of text) ≡ read_lines v (at + 1) new (lines_of rest)
 line_taken v at r new text rest line h is ok =
     ap (read_lines v at r) (first_line text rest (Some line) h is) ∙ ap (λ a. goes at a (λ next. read_lines v (at + 1) next (lines_of rest))) ok

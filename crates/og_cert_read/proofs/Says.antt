@@ -6,8 +6,8 @@ use Rattle.std.specs.List.{list_all}
 use Rattle.og_cert_text.specs.Tree.{Ref, Known, Low, High, Combination}
 use Rattle.og_cert_text.specs.Lines.{ref_text, term_text, combination_text, is_variable, is_factor, is_ref, is_some_terms, is_combination}
 use Rattle.og_cert_text.proofs.Forms.{le_from, both_true, and_parts}
-use Rattle.og_cert_read.specs.Words.{and_then, before, behind, words_in, on_first, index_of, variable_of, factor_of, source_of, term_of, terms_of}
-use Rattle.og_cert_read.proofs.Numbers.{and_some, map_some, some_same, apart, differ, equal, none_behind, Lacks, lacks_both, lacks_decimal, decimal_begins, number_parts, index_sound, index_complete, variable_sound, variable_complete, factor_sound, factor_complete}
+use Rattle.og_cert_read.specs.Words.{and_then, before, past, words_in, on_first, index_of, variable_of, factor_of, source_of, term_of, terms_of}
+use Rattle.og_cert_read.proofs.Numbers.{and_some, map_some, some_same, apart, differ, equal, none_past, Lacks, lacks_both, lacks_decimal, decimal_begins, number_parts, index_sound, index_complete, variable_sound, variable_complete, factor_sound, factor_complete}
 
 -- ---- parts of a text
 
@@ -18,33 +18,33 @@ same b = from (b == b) (differ b b)
     from true f = refl
     from false f = absurd (f refl refl)
 
-pub split_text : (b : ℕ) (text rest : List ℕ) → behind b text ≡ Some rest → text ≡ before b text ++ b ∷ rest
+pub split_text : (b : ℕ) (text rest : List ℕ) → past b text ≡ Some rest → text ≡ before b text ++ b ∷ rest
 split_text b [] rest h = cc
 split_text b (c ∷ cs) rest h = from (c == b) refl h (split_text b cs rest)
   where
-    from : (t : Bool) → (c == b) ≡ t → cond t (Some cs) (behind b cs) ≡ Some rest → (behind b cs ≡ Some rest → cs ≡ before b cs ++ b ∷ rest) → c ∷ cs ≡ cond t [] (c ∷ before b cs) ++ b ∷ rest
+    from : (t : Bool) → (c == b) ≡ t → cond t (Some cs) (past b cs) ≡ Some rest → (past b cs ≡ Some rest → cs ≡ before b cs ++ b ∷ rest) → c ∷ cs ≡ cond t [] (c ∷ before b cs) ++ b ∷ rest
     from true e h later = ap₂ (λ x xs. x ∷ xs) (equal c b e) (some_same cs rest h)
     from false e h later = ap (λ xs. c ∷ xs) (later h)
 
-pub no_split : (b : ℕ) (text : List ℕ) → behind b text ≡ None → text ≡ before b text
+pub no_split : (b : ℕ) (text : List ℕ) → past b text ≡ None → text ≡ before b text
 no_split b [] h = refl
 no_split b (c ∷ cs) h = from (c == b) h (no_split b cs)
   where
-    from : (t : Bool) → cond t (Some cs) (behind b cs) ≡ None → (behind b cs ≡ None → cs ≡ before b cs) → c ∷ cs ≡ cond t [] (c ∷ before b cs)
+    from : (t : Bool) → cond t (Some cs) (past b cs) ≡ None → (past b cs ≡ None → cs ≡ before b cs) → c ∷ cs ≡ cond t [] (c ∷ before b cs)
     from true h later = cc
     from false h later = ap (λ xs. c ∷ xs) (later h)
 
-pub cut_here : (b : ℕ) (w rest : List ℕ) → Lacks b w → (before b (w ++ b ∷ rest) ≡ w) × (behind b (w ++ b ∷ rest) ≡ Some rest)
-cut_here b [] rest l = (ap (λ t. cond t [] (b ∷ before b rest)) (same b), ap (λ t. cond t (Some rest) (behind b rest)) (same b))
+pub cut_here : (b : ℕ) (w rest : List ℕ) → Lacks b w → (before b (w ++ b ∷ rest) ≡ w) × (past b (w ++ b ∷ rest) ≡ Some rest)
+cut_here b [] rest l = (ap (λ t. cond t [] (b ∷ before b rest)) (same b), ap (λ t. cond t (Some rest) (past b rest)) (same b))
 cut_here b (c ∷ cs) rest l =
     let r = cut_here b cs rest l.1 in
-    (ap (λ t. cond t [] (c ∷ before b (cs ++ b ∷ rest))) l.0 ∙ ap (λ xs. c ∷ xs) r.0, ap (λ t. cond t (Some (cs ++ b ∷ rest)) (behind b (cs ++ b ∷ rest))) l.0 ∙ r.1)
+    (ap (λ t. cond t [] (c ∷ before b (cs ++ b ∷ rest))) l.0 ∙ ap (λ xs. c ∷ xs) r.0, ap (λ t. cond t (Some (cs ++ b ∷ rest)) (past b (cs ++ b ∷ rest))) l.0 ∙ r.1)
 
-pub cut_nowhere : (b : ℕ) (w : List ℕ) → Lacks b w → (before b w ≡ w) × (behind b w ≡ None)
+pub cut_nowhere : (b : ℕ) (w : List ℕ) → Lacks b w → (before b w ≡ w) × (past b w ≡ None)
 cut_nowhere b [] l = (refl, refl)
 cut_nowhere b (c ∷ cs) l =
     let r = cut_nowhere b cs l.1 in
-    (ap (λ t. cond t [] (c ∷ before b cs)) l.0 ∙ ap (λ xs. c ∷ xs) r.0, ap (λ t. cond t (Some cs) (behind b cs)) l.0 ∙ r.1)
+    (ap (λ t. cond t [] (c ∷ before b cs)) l.0 ∙ ap (λ xs. c ∷ xs) r.0, ap (λ t. cond t (Some cs) (past b cs)) l.0 ∙ r.1)
 
 -- ---- words
 
@@ -123,8 +123,8 @@ GoodTerm t = is_factor t.0 && is_ref t.1
 
 term_sound : (word : List ℕ) (t : ℕ × Ref) → term_of word ≡ Some t → (word ≡ term_text t) × (GoodTerm t ≡ true)
 term_sound word t h =
-    let p = and_some (factor_of (before 42 word)) (λ m. and_then (behind 42 word) (λ rest. option_map (λ r. (m, r)) (source_of rest))) t h in
-    let q = and_some (behind 42 word) (λ rest. option_map (λ r. (p.0, r)) (source_of rest)) t p.2 in
+    let p = and_some (factor_of (before 42 word)) (λ m. and_then (past 42 word) (λ rest. option_map (λ r. (m, r)) (source_of rest))) t h in
+    let q = and_some (past 42 word) (λ rest. option_map (λ r. (p.0, r)) (source_of rest)) t p.2 in
     let r = map_some (source_of q.0) (λ x. (p.0, x)) t q.2 in
     let f = factor_sound (before 42 word) p.0 p.1 in
     let s = source_sound q.0 r.0 r.1 in
@@ -140,8 +140,8 @@ term_complete : (t : ℕ × Ref) → GoodTerm t ≡ true → term_of (term_text 
 term_complete t h =
     let p = and_parts (is_factor t.0) (is_ref t.1) h in
     let c = cut_here 42 (decimal t.0) (ref_text t.1) (lacks_decimal 42 t.0 (omega arith) (factor_small t.0 p.0)) in
-    ap (λ w. and_then (factor_of w) (λ m. and_then (behind 42 (term_text t)) (λ rest. option_map (λ r. (m, r)) (source_of rest)))) c.0
-    ∙ ap (λ o. and_then o (λ m. and_then (behind 42 (term_text t)) (λ rest. option_map (λ r. (m, r)) (source_of rest)))) (factor_complete t.0 p.0)
+    ap (λ w. and_then (factor_of w) (λ m. and_then (past 42 (term_text t)) (λ rest. option_map (λ r. (m, r)) (source_of rest)))) c.0
+    ∙ ap (λ o. and_then o (λ m. and_then (past 42 (term_text t)) (λ rest. option_map (λ r. (m, r)) (source_of rest)))) (factor_complete t.0 p.0)
     ∙ ap (λ o. and_then o (λ rest. option_map (λ r. (t.0, r)) (source_of rest))) c.1
     ∙ ap (option_map (λ r. (t.0, r))) (source_complete t.1 p.1)
 
@@ -177,7 +177,7 @@ combination_sound text ts h =
 pub combination_complete : (t : ℕ × Ref) (ts : Combination) → list_all GoodTerm (t ∷ ts) ≡ true → terms_of (words_in (term_text t ++ combination_text ts)) ≡ Some (t ∷ ts)
 combination_complete t [] h =
     let g = (and_parts (GoodTerm t) (list_all GoodTerm []) h).0 in
-    ap (λ w. terms_of (words_in w)) (none_behind (term_text t)) ∙ ap terms_of (words_one (term_text t) (lacks_term t g))
+    ap (λ w. terms_of (words_in w)) (none_past (term_text t)) ∙ ap terms_of (words_one (term_text t) (lacks_term t g))
     ∙ ap (λ o. and_then o (λ x. option_map (λ us. x ∷ us) (terms_of []))) (term_complete t g)
 combination_complete t (u ∷ us) h =
     let g = and_parts (GoodTerm t) (list_all GoodTerm (u ∷ us)) h in

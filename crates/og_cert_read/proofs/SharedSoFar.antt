@@ -10,25 +10,25 @@ use Rattle.og_cert_text.specs.Lines.{ForCondition}
 use Rattle.og_cert_text.specs.Files.{Entries, above}
 use Rattle.og_cert_text.specs.Text.{Two, version_text, listed_lines, listing_lines, lines_text}
 use Rattle.og_cert_text.proofs.Writing.{lines_both, one_more}
-use Rattle.og_cert_read.specs.Shared.{cert_text, first_with, listed_as, listing_behind, shared_text}
+use Rattle.og_cert_read.specs.Shared.{cert_text, first_with, listed_as, listing_after, shared_text}
 use Rattle.og_cert_read.specs.Firsts.{found, or_this}
 use Rattle.og_cert_read.proofs.Firsts.{first_end}
 
-abbrev pub behind_text : Entries → Entries → List ℕ
-behind_text done es = lines_text (listing_lines (listing_behind done es))
+abbrev pub past_text : Entries → Entries → List ℕ
+past_text done es = lines_text (listing_lines (listing_after done es))
 
 -- some entries are written, with the map of their first numbers, and the rest makes the whole text
 pub record IsSoFar (text : List ℕ) (firsts : BTreeMap (Vec ℕ Global) ℕ) (last : ℕ) (es : Entries) : Type 0 where
   pub done : Entries
   pub known : (t : List ℕ) → found t firsts ≡ first_with t done
-  pub whole : text ++ behind_text done (above last es) ≡ shared_text es
+  pub whole : text ++ past_text done (above last es) ≡ shared_text es
 
 pub so_far_begins : (text : List ℕ) (firsts : BTreeMap (Vec ℕ Global) ℕ) (es : Entries) → text ≡ version_text Two → firsts.entries ≡ [] → above 0 es ≡ es → IsSoFar text firsts 0 es
 so_far_begins text firsts es head none all =
     record {
       done = [];
       known = λ t. ap (lookup (is_at (λ k. slice_cmp nat_cmp t k.items))) none;
-      whole = ap (λ t. t ++ behind_text [] (above 0 es)) head ∙ ap (λ x. version_text Two ++ behind_text [] x) all;
+      whole = ap (λ t. t ++ past_text [] (above 0 es)) head ∙ ap (λ x. version_text Two ++ past_text [] x) all;
     }
 
 pub so_far_goes : (t0 t1 : List ℕ) (old new : BTreeMap (Vec ℕ Global) ℕ) (last n : ℕ) (c : Cert) (es : Entries) → above last es ≡ (n, c) ∷ above n es
@@ -39,14 +39,14 @@ so_far_goes t0 t1 old new last n c es next put noted s =
       done = s.done ++ (n, c) ∷ [];
       known = λ t. noted t ∙ ap (λ o. or_this o t (cert_text c) n) (s.known t) ∙ sym (first_end t s.done n c);
       whole =
-          one_more t0 t1 (lines_text (ForCondition n ∷ listed_lines (listed_as (first_with (cert_text c) s.done) c))) (behind_text s.done (above last es)) (behind_text (s.done ++ (n, c) ∷ []) (above n es)) (shared_text es)
+          one_more t0 t1 (lines_text (ForCondition n ∷ listed_lines (listed_as (first_with (cert_text c) s.done) c))) (past_text s.done (above last es)) (past_text (s.done ++ (n, c) ∷ []) (above n es)) (shared_text es)
           (put ∙ ap (λ o. t0 ++ lines_text (ForCondition n ∷ listed_lines (listed_as o c))) (s.known (cert_text c)))
-          (ap (behind_text s.done) next ∙ lines_both (ForCondition n ∷ listed_lines (listed_as (first_with (cert_text c) s.done) c)) (listing_lines (listing_behind (s.done ++ (n, c) ∷ []) (above n es))))
+          (ap (past_text s.done) next ∙ lines_both (ForCondition n ∷ listed_lines (listed_as (first_with (cert_text c) s.done) c)) (listing_lines (listing_after (s.done ++ (n, c) ∷ []) (above n es))))
           s.whole;
     }
 
 pub so_far_ends : (text : List ℕ) (firsts : BTreeMap (Vec ℕ Global) ℕ) (last : ℕ) (es : Entries) → above last es ≡ [] → IsSoFar text firsts last es → text ≡ shared_text es
-so_far_ends text firsts last es none s = sym (append_none text) ∙ ap (λ x. text ++ behind_text s.done x) (sym none) ∙ s.whole
+so_far_ends text firsts last es none s = sym (append_none text) ∙ ap (λ x. text ++ past_text s.done x) (sym none) ∙ s.whole
   where
     append_none : (xs : List ℕ) → xs ++ [] ≡ xs
     append_none [] = refl

@@ -16,7 +16,7 @@ use Rattle.og_cert_read.specs.Text.{most_text, pieces}
 use Rattle.og_cert_read.specs.Reading.{within, between, LineFault, Twice, goes, or_bad, read_lines, nothing_read}
 use Rattle.og_cert_read.specs.Read.{Gives}
 use Rattle.og_cert_read.specs.Reader.{read_piece}
-use Rattle.og_cert_read.specs.Shared.{listed_text, cert_text, first_with, listed_as, listing_behind, shared_text}
+use Rattle.og_cert_read.specs.Shared.{listed_text, cert_text, first_with, listed_as, listing_after, shared_text}
 use Rattle.og_cert_read.proofs.Numbers.{apart}
 use Rattle.og_cert_read.proofs.Split.{same}
 use Rattle.og_cert_read.proofs.Again.{before, before_append, before_map, cert_again, below, below_none, below_end, below_more, below_up, whole_lines}
@@ -109,7 +109,7 @@ good_more [] e h g = both_true _ _ (both_true _ _ g.0 g.1) refl
 good_more (x ∷ es) e h g = let p = good_parts x es h in both_true _ _ (both_true _ _ p.0.0 p.0.1) (good_more es e p.1 g)
 
 abbrev pub shared_lines : Entries → Entries → List Line
-shared_lines done es = listing_lines (listing_behind done es)
+shared_lines done es = listing_lines (listing_after done es)
 
 -- what is listed for a certificate is read as it
 listed_again : (l : Bool) (k n at : ℕ) (c : Cert) (done all : Entries) (ms : List (Option Line)) → is_shallow 0 c ≡ true → certificate_of k done ≡ Some c
@@ -128,11 +128,11 @@ entry_again (Some k) n at c done all ms is rise good w h =
 
 shared_again : (es done all : Entries) (low : ℕ) → below low done → rise_from 0 done ≡ true → are_good done → rise_from low es ≡ true → are_good es → done ++ es ≡ all
     → (at : ℕ) → read_lines Two at (between done) (before (shared_lines done es) []) ≡ Ok all
-shared_again [] done all low b risen held rise good e at = ap Ok (sym (none_behind done) ∙ e)
+shared_again [] done all low b risen held rise good e at = ap Ok (sym (none_past done) ∙ e)
   where
-    none_behind : (xs : Entries) → xs ++ [] ≡ xs
-    none_behind [] = refl
-    none_behind (y ∷ ys) = ap (λ zs. y ∷ zs) (none_behind ys)
+    none_past : (xs : Entries) → xs ++ [] ≡ xs
+    none_past [] = refl
+    none_past (y ∷ ys) = ap (λ zs. y ∷ zs) (none_past ys)
 shared_again (x ∷ es) done all low b risen held rise good e at =
     let r = and_parts (nat_le low x.0) (rise_from (x.0 + 1) es) rise in
     let g = good_parts x es good in

@@ -94,7 +94,7 @@ listed_longer a b c le small = from (is_listed b c).one
     from (inl e) = let p = (is_listed a c).same in let q = same_longer a b le small in omega (arith, p, q, e)
     from (inr e) = let p = (is_listed a c).whole in omega (arith, p, e)
 
--- ---- the same entries behind others
+-- ---- the same entries after others
 
 abbrev Below : Option ℕ → Option ℕ → Type 0
 Below None None = ⊤
@@ -126,23 +126,23 @@ more_below ps qs n c h small t =
     subst (λ x. Below x (first_with t (qs ++ (n, c) ∷ []))) (sym (first_end t ps n c))
     (subst (λ x. Below (or_this (first_with t ps) t (cert_text c) n) x) (sym (first_end t qs n c)) (or_below (first_with t ps) (first_with t qs) t (cert_text c) n (h t) small))
 
-abbrev pub behind_size : Entries → Entries → ℕ
-behind_size ps es = length (lines_text (shared_lines ps es))
+abbrev pub past_size : Entries → Entries → ℕ
+past_size ps es = length (lines_text (shared_lines ps es))
 
-behind_next : (ps : Entries) (e : ℕ × Cert) (es : Entries) → behind_size ps (e ∷ es) ≡ head_size e.0 + listed_size (first_with (cert_text e.1) ps) e.1 + behind_size (ps ++ e ∷ []) es
-behind_next ps e es = entry_size e.0 (listed_lines (listed_as (first_with (cert_text e.1) ps) e.1)) (shared_lines (ps ++ e ∷ []) es)
+past_next : (ps : Entries) (e : ℕ × Cert) (es : Entries) → past_size ps (e ∷ es) ≡ head_size e.0 + listed_size (first_with (cert_text e.1) ps) e.1 + past_size (ps ++ e ∷ []) es
+past_next ps e es = entry_size e.0 (listed_lines (listed_as (first_with (cert_text e.1) ps) e.1)) (shared_lines (ps ++ e ∷ []) es)
 
 abbrev pub AreSmall : Entries → Type 0
 AreSmall [] = ⊤
 AreSmall (e ∷ es) = (e.0 ≤ 999999999) × AreSmall es
 
-behind_below : (es ps qs : Entries) → AreSmall es → IsBelow ps qs → behind_size ps es ≤ behind_size qs es
-behind_below [] ps qs small h = omega arith
-behind_below (e ∷ es) ps qs small h =
-    let p = behind_next ps e es in
-    let q = behind_next qs e es in
+past_below : (es ps qs : Entries) → AreSmall es → IsBelow ps qs → past_size ps es ≤ past_size qs es
+past_below [] ps qs small h = omega arith
+past_below (e ∷ es) ps qs small h =
+    let p = past_next ps e es in
+    let q = past_next qs e es in
     let r = listed_below (first_with (cert_text e.1) ps) (first_with (cert_text e.1) qs) e.1 (h (cert_text e.1)) in
-    let s = behind_below es (ps ++ e ∷ []) (qs ++ e ∷ []) small.1 (more_below ps qs e.0 e.1 h small.0) in
+    let s = past_below es (ps ++ e ∷ []) (qs ++ e ∷ []) small.1 (more_below ps qs e.0 e.1 h small.0) in
     omega (arith, p, q, r, s)
 
 -- ---- one entry more in front
@@ -169,7 +169,7 @@ listed_alike k c d e = listed_is k c ∙ ap (λ t. cond (nat_lt (same_size k) (l
 eq_self : (t : List ℕ) → bytes_eq t t ≡ true
 eq_self t = nat_list_eq_equiv.refl t
 
--- behind an entry with the same text, and behind one with another
+-- after an entry with the same text, and after one with another
 with_same : (n : ℕ) (c : Cert) (new ps : Entries) (e : ℕ × Cert) → IsWith n c new ps → n ≤ e.0 → e.0 ≤ 999999999 → cert_text c ≡ cert_text e.1 → IsBelow (new ++ e ∷ []) (ps ++ e ∷ [])
 with_same n c new ps e w up small is t =
     subst (λ x. Below x (first_with t (ps ++ e ∷ []))) (sym (first_end t new e.0 e.1))
@@ -203,24 +203,24 @@ paid None n c = 0
 paid (Some m) n c = listed_size (Some n) c
 
 spared : (es new ps : Entries) (n : ℕ) (c : Cert) → AreSmall es → AllAbove n es → IsWith n c new ps
-    → behind_size new es + saved (first_with (cert_text c) es) c ≤ behind_size ps es + paid (first_with (cert_text c) es) n c
+    → past_size new es + saved (first_with (cert_text c) es) c ≤ past_size ps es + paid (first_with (cert_text c) es) n c
 spared [] new ps n c small up w = omega arith
 spared (e ∷ es) new ps n c small up w = from (bytes_eq (cert_text c) (cert_text e.1)) refl (λ h. spared es (new ++ e ∷ []) (ps ++ e ∷ []) n c small.1 up.1 (with_other n c new ps e w small.0 h))
   where
     from : (b : Bool) → bytes_eq (cert_text c) (cert_text e.1) ≡ b
-        → (bytes_eq (cert_text c) (cert_text e.1) ≡ false → behind_size (new ++ e ∷ []) es + saved (first_with (cert_text c) es) c ≤ behind_size (ps ++ e ∷ []) es + paid (first_with (cert_text c) es) n c)
-        → behind_size new (e ∷ es) + saved (cond b (Some e.0) (first_with (cert_text c) es)) c ≤ behind_size ps (e ∷ es) + paid (cond b (Some e.0) (first_with (cert_text c) es)) n c
+        → (bytes_eq (cert_text c) (cert_text e.1) ≡ false → past_size (new ++ e ∷ []) es + saved (first_with (cert_text c) es) c ≤ past_size (ps ++ e ∷ []) es + paid (first_with (cert_text c) es) n c)
+        → past_size new (e ∷ es) + saved (cond b (Some e.0) (first_with (cert_text c) es)) c ≤ past_size ps (e ∷ es) + paid (cond b (Some e.0) (first_with (cert_text c) es)) n c
     from true h later =
         let is : cert_text c ≡ cert_text e.1 = (bytes_decides (cert_text c) (cert_text e.1)).0 h in
-        let p = behind_next new e es in
-        let q = behind_next ps e es in
+        let p = past_next new e es in
+        let q = past_next ps e es in
         let a : listed_size (first_with (cert_text e.1) new) e.1 ≡ listed_size (Some n) c = ap (λ t. listed_size (first_with t new) e.1) (sym is) ∙ ap (λ o. listed_size o e.1) w.here ∙ sym (listed_alike n c e.1 is) in
         let b : listed_size (first_with (cert_text e.1) ps) e.1 ≡ whole_size c = ap (λ t. listed_size (first_with t ps) e.1) (sym is) ∙ ap (λ o. listed_size o e.1) w.none ∙ ap length (sym is) in
-        let r = behind_below es (new ++ e ∷ []) (ps ++ e ∷ []) small.1 (with_same n c new ps e w up.0 small.0 is) in
+        let r = past_below es (new ++ e ∷ []) (ps ++ e ∷ []) small.1 (with_same n c new ps e w up.0 small.0 is) in
         omega (arith, p, q, a, b, r)
     from false h later =
-        let p = behind_next new e es in
-        let q = behind_next ps e es in
+        let p = past_next new e es in
+        let q = past_next ps e es in
         let other : bytes_eq (cert_text e.1) (cert_text c) ≡ false = nat_list_eq_equiv.symm (cert_text e.1) (cert_text c) ∙ h in
         let a = listed_below (first_with (cert_text e.1) new) (first_with (cert_text e.1) ps) e.1 (w.others (cert_text e.1) other) in
         let r = later h in
@@ -289,9 +289,9 @@ unmet ps es w n low c (Some i) up rise none is (inr (k, pays, small, inr (m, at,
     let q = same_longer n k (omega (arith, up, b, le)) small in
     omega (arith, p, q, pays)
 
--- the entries behind an entry that says nothing new
-same_behind : (ps : Entries) (n j low : ℕ) (c : Cert) → FirstsBelow ps low → low ≤ 999999999 + 1 → first_with (cert_text c) ps ≡ Some j → IsBelow (ps ++ (n, c) ∷ []) ps
-same_behind ps n j low c below small is t = subst (λ x. Below x (first_with t ps)) (sym (first_end t ps n c)) (from (first_with t ps) refl)
+-- the entries after an entry that says nothing new
+same_after : (ps : Entries) (n j low : ℕ) (c : Cert) → FirstsBelow ps low → low ≤ 999999999 + 1 → first_with (cert_text c) ps ≡ Some j → IsBelow (ps ++ (n, c) ∷ []) ps
+same_after ps n j low c below small is t = subst (λ x. Below x (first_with t ps)) (sym (first_end t ps n c)) (from (first_with t ps) refl)
   where
     from : (o : Option ℕ) → first_with t ps ≡ o → Below (or_this o t (cert_text c) n) o
     from (Some i) h = let p = below t i h in (omega arith, omega (arith, p, small))
@@ -315,18 +315,18 @@ begins_with ps n low c below small none =
 
 -- in front of these entries
 put_front : (ps es : Entries) (w n low : ℕ) (c : Cert) → FirstsBelow ps n → n ≤ 999999999 → rise_from low es ≡ true → n ≤ low → AreSmall es → Affords w c ps es
-    → behind_size ps ((n, c) ∷ es) ≤ behind_size ps es + head_size n + w
+    → past_size ps ((n, c) ∷ es) ≤ past_size ps es + head_size n + w
 put_front ps es w n low c below small rise up few pays = from (first_with (cert_text c) ps) refl
   where
-    from : (o : Option ℕ) → first_with (cert_text c) ps ≡ o → behind_size ps ((n, c) ∷ es) ≤ behind_size ps es + head_size n + w
+    from : (o : Option ℕ) → first_with (cert_text c) ps ≡ o → past_size ps ((n, c) ∷ es) ≤ past_size ps es + head_size n + w
     from (Some j) is =
-        let p = behind_next ps (n, c) es in
+        let p = past_next ps (n, c) es in
         let a : listed_size (first_with (cert_text c) ps) c ≡ listed_size (Some j) c = ap (λ o. listed_size o c) is in
         let b = met ps es w low j c (λ t i h. let q = below t i h in omega (arith, q, up)) rise pays is in
-        let r = behind_below es (ps ++ (n, c) ∷ []) ps few (same_behind ps n j n c below (omega (arith, small)) is) in
+        let r = past_below es (ps ++ (n, c) ∷ []) ps few (same_after ps n j n c below (omega (arith, small)) is) in
         omega (arith, p, a, b, r)
     from None is =
-        let p = behind_next ps (n, c) es in
+        let p = past_next ps (n, c) es in
         let a : listed_size (first_with (cert_text c) ps) c ≡ whole_size c = ap (λ o. listed_size o c) is in
         let b = unmet ps es w n low c (first_with (cert_text c) es) up rise is refl pays in
         let r = spared es (ps ++ (n, c) ∷ []) ps n c few (all_above es n low rise up) (begins_with ps n n c below (omega (arith, small)) is) in
@@ -377,7 +377,7 @@ fresh_parts n e es h = from (n == e.0) refl h
         off k = cc
 
 pub put_in : (es ps : Entries) (w n low : ℕ) (c : Cert) → rise_from low es ≡ true → AreSmall es → FirstsBelow ps low → n ≤ 999999999 → low ≤ n → certificate_of n es ≡ None → Affords w c ps es
-    → behind_size ps (with_entry n c es) ≤ behind_size ps es + head_size n + w
+    → past_size ps (with_entry n c es) ≤ past_size ps es + head_size n + w
 put_in [] ps w n low c rise few below small le fresh pays = put_front ps [] w n n c (λ t j h. let p = below t j h in omega (arith, p, le)) small refl (omega arith) tt pays
 put_in (e ∷ es) ps w n low c rise few below small le fresh pays =
     let r = and_parts (nat_le low e.0) (rise_from (e.0 + 1) es) rise in
@@ -385,15 +385,15 @@ put_in (e ∷ es) ps w n low c rise few below small le fresh pays =
     let up = le_from low e.0 r.0 in
     from (nat_lt n e.0) refl (λ lt. put_in es (ps ++ e ∷ []) w n (e.0 + 1) c r.1 few.1 (firsts_more ps low e below up) small (omega (arith, lt)) f.1 (affords_more ps es w low c e below up pays)) f.0 r.1
   where
-    from : (b : Bool) → nat_lt n e.0 ≡ b → (e.0 < n → behind_size (ps ++ e ∷ []) (with_entry n c es) ≤ behind_size (ps ++ e ∷ []) es + head_size n + w) → (n ≡ e.0 → ⊥) → rise_from (e.0 + 1) es ≡ true
-        → behind_size ps (cond b ((n, c) ∷ e ∷ es) (e ∷ with_entry n c es)) ≤ behind_size ps (e ∷ es) + head_size n + w
+    from : (b : Bool) → nat_lt n e.0 ≡ b → (e.0 < n → past_size (ps ++ e ∷ []) (with_entry n c es) ≤ past_size (ps ++ e ∷ []) es + head_size n + w) → (n ≡ e.0 → ⊥) → rise_from (e.0 + 1) es ≡ true
+        → past_size ps (cond b ((n, c) ∷ e ∷ es) (e ∷ with_entry n c es)) ≤ past_size ps (e ∷ es) + head_size n + w
     from true h later off rest =
         let lt = lt_from n e.0 h in
         put_front ps (e ∷ es) w n e.0 c (λ t j k. let p = below t j k in omega (arith, p, le)) small (both_true _ _ (le_true e.0 e.0 (omega arith)) rest) (omega (arith, lt)) few pays
     from false h later off rest =
         let ge = not_lt_from n e.0 h in
         let lt : e.0 < n = omega (arith, ge, off) in
-        let a = behind_next ps e (with_entry n c es) in
-        let b = behind_next ps e es in
+        let a = past_next ps e (with_entry n c es) in
+        let b = past_next ps e es in
         let d = later lt in
         omega (arith, a, b, d)

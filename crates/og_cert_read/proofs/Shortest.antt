@@ -16,7 +16,7 @@ use Rattle.og_cert_read.specs.Read.{Gives}
 use Rattle.og_cert_read.specs.Shared.{cert_text, first_with, shared_text}
 use Rattle.og_cert_read.proofs.Numbers.{equal, number_parts}
 use Rattle.og_cert_read.proofs.Sharing.{shared_lines}
-use Rattle.og_cert_read.proofs.Shorter.{lt_from, not_lt_from, head_size, same_size, whole_size, behind_size, AreSmall, Affords, none_some, fresh_parts, put_in}
+use Rattle.og_cert_read.proofs.Shorter.{lt_from, not_lt_from, head_size, same_size, whole_size, past_size, AreSmall, Affords, none_some, fresh_parts, put_in}
 
 -- ---- entries
 
@@ -110,7 +110,7 @@ place_size Between = 0
 place_size (Within n fs) = head_size n + frames_size fs
 
 abbrev reading_size : Reading → ℕ
-reading_size r = behind_size [] r.done + place_size r.place
+reading_size r = past_size [] r.done + place_size r.place
 
 abbrev IsHeldAt : Entries → Place → Type 0
 IsHeldAt done Between = ⊤
@@ -128,36 +128,36 @@ record Held (done : Entries) (n : ℕ) : Type 0 where
 abbrev IsWithin : ℕ → Reading → Type 0
 IsWithin size r = IsHeld r × (reading_size r ≤ size)
 
-entered : (done : Entries) (n w : ℕ) (c : Cert) → Held done n → Affords w c [] done → IsWithin (behind_size [] done + head_size n + w) (between (with_entry n c done))
+entered : (done : Entries) (n w : ℕ) (c : Cert) → Held done n → Affords w c [] done → IsWithin (past_size [] done + head_size n + w) (between (with_entry n c done))
 entered done n w c h pays =
     let p = put_in done [] w n 0 c h.rise h.few (λ t j k. absurd (none_some None j refl k)) h.small (omega arith) h.fresh pays in
     ((rise_with done n 0 c h.rise (omega arith) h.fresh, small_with done n c h.few h.small, tt), omega (arith, p))
 
-opened : (done : Entries) (n size : ℕ) (fs : List Frame) → Held done n → behind_size [] done + head_size n + frames_size fs ≤ size → IsWithin size (within done n fs)
+opened : (done : Entries) (n size : ℕ) (fs : List Frame) → Held done n → past_size [] done + head_size n + frames_size fs ≤ size → IsWithin size (within done n fs)
 opened done n size fs h le = ((h.rise, h.few, (h.small, h.fresh)), omega (arith, le))
 
 more : (a b : ℕ) (r : Reading) → a ≤ b → IsWithin a r → IsWithin b r
 more a b r le h = let p = h.1 in (h.0, omega (arith, le, p))
 
-plugged : (fs : List Frame) (done : Entries) (n : ℕ) (c : Cert) → Held done n → IsWithin (behind_size [] done + head_size n + whole_size c + frames_size fs) (plug done n c fs)
-plugged [] done n c h = more (behind_size [] done + head_size n + whole_size c) _ (plug done n c []) (omega arith) (entered done n (whole_size c) c h (inl (omega arith)))
+plugged : (fs : List Frame) (done : Entries) (n : ℕ) (c : Cert) → Held done n → IsWithin (past_size [] done + head_size n + whole_size c + frames_size fs) (plug done n c fs)
+plugged [] done n c h = more (past_size [] done + head_size n + whole_size c) _ (plug done n c []) (omega arith) (entered done n (whole_size c) c h (inl (omega arith)))
 plugged (AfterSum ts ∷ fs) done n c h =
     let p = lines_size (SumLine ts) (cert_lines c) in
-    more (behind_size [] done + head_size n + whole_size (Sum ts c) + frames_size fs) _ (plug done n c (AfterSum ts ∷ fs)) (omega (arith, p)) (plugged fs done n (Sum ts c) h)
+    more (past_size [] done + head_size n + whole_size (Sum ts c) + frames_size fs) _ (plug done n c (AfterSum ts ∷ fs)) (omega (arith, p)) (plugged fs done n (Sum ts c) h)
 plugged (AfterCut i d ∷ fs) done n c h =
     let p = lines_size (CutLine i d) (cert_lines c) in
-    more (behind_size [] done + head_size n + whole_size (Cut i d c) + frames_size fs) _ (plug done n c (AfterCut i d ∷ fs)) (omega (arith, p)) (plugged fs done n (Cut i d c) h)
+    more (past_size [] done + head_size n + whole_size (Cut i d c) + frames_size fs) _ (plug done n c (AfterCut i d ∷ fs)) (omega (arith, p)) (plugged fs done n (Cut i d c) h)
 plugged (First f ∷ fs) done n c h = opened done n _ (Second f c ∷ fs) h (omega arith)
 plugged (Second f b ∷ fs) done n c h =
     let p = lines_size (BranchLine f) (cert_lines b ++ cert_lines c) in
     let q = lines_sizes (cert_lines b) (cert_lines c) in
-    more (behind_size [] done + head_size n + whole_size (Branch f b c) + frames_size fs) _ (plug done n c (Second f b ∷ fs)) (omega (arith, p, q)) (plugged fs done n (Branch f b c) h)
+    more (past_size [] done + head_size n + whole_size (Branch f b c) + frames_size fs) _ (plug done n c (Second f b ∷ fs)) (omega (arith, p, q)) (plugged fs done n (Branch f b c) h)
 plugged (Part i zero cs ∷ fs) done n c h =
     let all = cs ++ c ∷ [] in
     let len = length-append {A = Cert} cs (c ∷ []) in
     let p = split_is i (length cs + 0 + 1) all (len ∙ omega arith) in
     let q = certs_end cs c in
-    more (behind_size [] done + head_size n + whole_size (SplitOn i (cert_list all)) + frames_size fs) _ (plug done n c (Part i zero cs ∷ fs)) (omega (arith, p, q)) (plugged fs done n (SplitOn i (cert_list all)) h)
+    more (past_size [] done + head_size n + whole_size (SplitOn i (cert_list all)) + frames_size fs) _ (plug done n c (Part i zero cs ∷ fs)) (omega (arith, p, q)) (plugged fs done n (SplitOn i (cert_list all)) h)
 plugged (Part i (suc k) cs ∷ fs) done n c h =
     let len = length-append {A = Cert} cs (c ∷ []) in
     let e : length (cs ++ c ∷ []) + k + 1 ≡ length cs + suc k + 1 = omega (arith, len) in
@@ -186,29 +186,29 @@ deeper_within size fs a r h e = from (nat_lt (depth fs) most_depth) e
     from true e = is_within size a r h e
     from false e = absurd (no_reading TooDeep r e)
 
-same_within : (v : Version) (done : Entries) (n k : ℕ) (fs : List Frame) (r : Reading) → Held done n → k ≤ 999999999 → same_as v done n fs k ≡ Ok r → IsWithin (behind_size [] done + (head_size n + frames_size fs) + line_size (SameLine k)) r
+same_within : (v : Version) (done : Entries) (n k : ℕ) (fs : List Frame) (r : Reading) → Held done n → k ≤ 999999999 → same_as v done n fs k ≡ Ok r → IsWithin (past_size [] done + (head_size n + frames_size fs) + line_size (SameLine k)) r
 same_within One done n k fs r h small e = absurd (no_reading BadLine r e)
 same_within Two done n k (f ∷ fs) r h small e = absurd (no_reading BadLine r e)
 same_within Two done n k [] r h small e = from (certificate_of k done) refl e
   where
-    from : (o : Option Cert) → certificate_of k done ≡ o → or_bad o (λ c. between (with_entry n c done)) ≡ Ok r → IsWithin (behind_size [] done + (head_size n + frames_size []) + line_size (SameLine k)) r
+    from : (o : Option Cert) → certificate_of k done ≡ o → or_bad o (λ c. between (with_entry n c done)) ≡ Ok r → IsWithin (past_size [] done + (head_size n + frames_size []) + line_size (SameLine k)) r
     from None is e = absurd (no_reading BadLine r e)
     from (Some c) is e =
         let f = first_at done k 0 c h.rise is in
         let s = same_is k in
         is_within _ (between (with_entry n c done)) r
-        (more (behind_size [] done + head_size n + same_size k) _ (between (with_entry n c done)) (omega (arith, s)) (entered done n (same_size k) c h (inr (k, omega arith, small, inr (f.0, f.1, f.2))))) e
+        (more (past_size [] done + head_size n + same_size k) _ (between (with_entry n c done)) (omega (arith, s)) (entered done n (same_size k) c h (inr (k, omega arith, small, inr (f.0, f.1, f.2))))) e
 
-split_within : (done : Entries) (n i k : ℕ) (fs : List Frame) → Held done n → IsWithin (behind_size [] done + (head_size n + frames_size fs) + line_size (SplitLine i k)) (split_frames done n fs i k)
+split_within : (done : Entries) (n i k : ℕ) (fs : List Frame) → Held done n → IsWithin (past_size [] done + (head_size n + frames_size fs) + line_size (SplitLine i k)) (split_frames done n fs i k)
 split_within done n i zero fs h =
     let p = split_is i 0 [] refl in
-    more (behind_size [] done + head_size n + whole_size (SplitOn i (cert_list [])) + frames_size fs) _ (split_frames done n fs i zero) (omega (arith, p)) (plugged fs done n (SplitOn i (cert_list [])) h)
+    more (past_size [] done + head_size n + whole_size (SplitOn i (cert_list [])) + frames_size fs) _ (split_frames done n fs i zero) (omega (arith, p)) (plugged fs done n (SplitOn i (cert_list [])) h)
 split_within done n i (suc k) fs h =
     let e : length {A = Cert} [] + k + 1 ≡ suc k = omega arith in
     let p : line_size (SplitLine i (length {A = Cert} [] + k + 1)) ≡ line_size (SplitLine i (suc k)) = ap (λ m. line_size (SplitLine i m)) e in
     opened done n _ (Part i k [] ∷ fs) h (omega (arith, p))
 
-line_step : (v : Version) (done : Entries) (n : ℕ) (fs : List Frame) (line : Line) (r : Reading) → Held done n → is_line line ≡ true → line_within v done n fs line ≡ Ok r → IsWithin (behind_size [] done + (head_size n + frames_size fs) + line_size line) r
+line_step : (v : Version) (done : Entries) (n : ℕ) (fs : List Frame) (line : Line) (r : Reading) → Held done n → is_line line ≡ true → line_within v done n fs line ≡ Ok r → IsWithin (past_size [] done + (head_size n + frames_size fs) + line_size line) r
 line_step v done n fs (ForCondition m) r h good e = absurd (no_reading BadLine r e)
 line_step v done n fs (SameLine k) r h good e = same_within v done n k fs r h (number_parts k good).1 e
 line_step v done n fs (SumLine ts) r h good e = is_within _ (within done n (AfterSum ts ∷ fs)) r (opened done n _ (AfterSum ts ∷ fs) h (omega arith)) e
@@ -217,12 +217,12 @@ line_step v done n fs (BranchLine f) r h good e = deeper_within _ fs (within don
 line_step v done n fs (SplitLine i k) r h good e = deeper_within _ fs (split_frames done n fs i k) r (split_within done n i k fs h) e
 line_step v done n fs (CloseLine ts) r h good e =
     let p = lines_size (CloseLine ts) [] in
-    is_within _ (plug done n (Close ts) fs) r (more (behind_size [] done + head_size n + whole_size (Close ts) + frames_size fs) _ (plug done n (Close ts) fs) (omega (arith, p)) (plugged fs done n (Close ts) h)) e
+    is_within _ (plug done n (Close ts) fs) r (more (past_size [] done + head_size n + whole_size (Close ts) + frames_size fs) _ (plug done n (Close ts) fs) (omega (arith, p)) (plugged fs done n (Close ts) h)) e
 
-head_step : (done : Entries) (line : Line) (r : Reading) → rise_from 0 done ≡ true → AreSmall done → is_line line ≡ true → line_between done line ≡ Ok r → IsWithin (behind_size [] done + 0 + line_size line) r
+head_step : (done : Entries) (line : Line) (r : Reading) → rise_from 0 done ≡ true → AreSmall done → is_line line ≡ true → line_between done line ≡ Ok r → IsWithin (past_size [] done + 0 + line_size line) r
 head_step done (ForCondition n) r rise few good e = from (certificate_of n done) refl e
   where
-    from : (o : Option Cert) → certificate_of n done ≡ o → ◌≡◌ {A = Answer} (cond (is_some o) (Err Twice) (Ok (within done n []))) (Ok r) → IsWithin (behind_size [] done + 0 + line_size (ForCondition n)) r
+    from : (o : Option Cert) → certificate_of n done ≡ o → ◌≡◌ {A = Answer} (cond (is_some o) (Err Twice) (Ok (within done n []))) (Ok r) → IsWithin (past_size [] done + 0 + line_size (ForCondition n)) r
     from (Some c) is e = absurd (no_reading Twice r e)
     from None is e =
         let p = head_is n in
@@ -234,7 +234,7 @@ head_step done (BranchLine f) r rise few good e = absurd (no_reading BadLine r e
 head_step done (SplitLine i k) r rise few good e = absurd (no_reading BadLine r e)
 head_step done (CloseLine ts) r rise few good e = absurd (no_reading BadLine r e)
 
-any_step : (v : Version) (done : Entries) (place : Place) (line : Line) (r : Reading) → rise_from 0 done ≡ true → AreSmall done → IsHeldAt done place → is_line line ≡ true → line_at v done place line ≡ Ok r → IsWithin (behind_size [] done + place_size place + line_size line) r
+any_step : (v : Version) (done : Entries) (place : Place) (line : Line) (r : Reading) → rise_from 0 done ≡ true → AreSmall done → IsHeldAt done place → is_line line ≡ true → line_at v done place line ≡ Ok r → IsWithin (past_size [] done + place_size place + line_size line) r
 any_step v done Between line r rise few h good e = head_step done line r rise few good e
 any_step v done (Within n fs) line r rise few h good e = line_step v done n fs line r (record { rise = rise; few = few; small = h.0; fresh = h.1 }) good e
 
@@ -260,16 +260,16 @@ no_entries : (e : LineFault × ℕ) (es : Entries) → ◌≡◌ {A = Final} (Er
 no_entries e es h = cc
 
 total : (lines : List (Option Line)) (v : Version) (at : ℕ) (done : Entries) (place : Place) (es : Entries) → rise_from 0 done ≡ true → AreSmall done → IsHeldAt done place → AllGood lines
-    → read_lines v at (record { done = done; place = place }) lines ≡ Ok es → behind_size [] es ≤ behind_size [] done + place_size place + sizes lines
-total [] v at done Between es rise few h good e = let p : behind_size [] done ≡ behind_size [] es = ap (behind_size []) (ok_entries done es e) in omega (arith, p)
+    → read_lines v at (record { done = done; place = place }) lines ≡ Ok es → past_size [] es ≤ past_size [] done + place_size place + sizes lines
+total [] v at done Between es rise few h good e = let p : past_size [] done ≡ past_size [] es = ap (past_size []) (ok_entries done es e) in omega (arith, p)
 total [] v at done (Within n fs) es rise few h good e = absurd (no_entries (BadLine, at) es e)
 total (None ∷ lines) v at done place es rise few h good e = absurd (no_entries (BadLine, at) es e)
 total (Some line ∷ lines) v at done place es rise few h good e =
     from (line_at v done place line) refl e (λ r s. total lines v (at + 1) r.done r.place es s.0.0 s.0.1 s.0.2 good.1)
   where
     from : (a : Answer) → line_at v done place line ≡ a → goes at a (λ next. read_lines v (at + 1) next lines) ≡ Ok es
-        → ((r : Reading) → IsWithin (behind_size [] done + place_size place + line_size line) r → read_lines v (at + 1) r lines ≡ Ok es → behind_size [] es ≤ reading_size r + sizes lines)
-        → behind_size [] es ≤ behind_size [] done + place_size place + (line_size line + sizes lines)
+        → ((r : Reading) → IsWithin (past_size [] done + place_size place + line_size line) r → read_lines v (at + 1) r lines ≡ Ok es → past_size [] es ≤ reading_size r + sizes lines)
+        → past_size [] es ≤ past_size [] done + place_size place + (line_size line + sizes lines)
     from (Err f) is e later = absurd (no_entries (f, at) es e)
     from (Ok r) is e later =
         let s = any_step v done place line r rise few h good.0 is in

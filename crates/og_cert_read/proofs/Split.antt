@@ -6,7 +6,7 @@ use lib.Pointwise.{pointwise}
 use Rattle.std.proofs.lemmas.Bool.Decides.{nat_tests}
 use Rattle.std.proofs.lemmas.List.{take_all}
 use denote.Bor.{Bor}
-use Rattle.og_cert_read.specs.Words.{before, behind, after}
+use Rattle.og_cert_read.specs.Words.{before, past, after}
 
 apart : (a b : ℕ) → (a ≡ b → ⊥) → (a == b) ≡ false
 apart a b h = grind (arith, nat_tests)
@@ -14,21 +14,21 @@ apart a b h = grind (arith, nat_tests)
 pub same : (a b : ℕ) → a ≡ b → (a == b) ≡ true
 same a b h = grind (arith, nat_tests)
 
-pub before_at : (text : List ℕ) (b i : ℕ) → i < length text → get_or text i 0 ≡ b → ((k : ℕ) → k < i → get_or text k 0 ≡ b → ⊥) → (take i text ≡ before b text) × (Some (drop (suc i) text) ≡ behind b text)
+pub before_at : (text : List ℕ) (b i : ℕ) → i < length text → get_or text i 0 ≡ b → ((k : ℕ) → k < i → get_or text k 0 ≡ b → ⊥) → (take i text ≡ before b text) × (Some (drop (suc i) text) ≡ past b text)
 before_at [] b i lt at none = absurd (omega arith)
 before_at (c ∷ cs) b zero lt at none =
-    (ap (λ t. cond t [] (c ∷ before b cs)) (sym (same c b at)), ap (λ t. cond t (Some cs) (behind b cs)) (sym (same c b at)))
+    (ap (λ t. cond t [] (c ∷ before b cs)) (sym (same c b at)), ap (λ t. cond t (Some cs) (past b cs)) (sym (same c b at)))
 before_at (c ∷ cs) b (suc i) lt at none =
     let r = before_at cs b i (omega arith) at (λ k l. none (suc k) (omega arith)) in
     let no = apart c b (none 0 (omega arith)) in
-    (ap (λ l. c ∷ l) r.0 ∙ ap (λ t. cond t [] (c ∷ before b cs)) (sym no), r.1 ∙ ap (λ t. cond t (Some cs) (behind b cs)) (sym no))
+    (ap (λ l. c ∷ l) r.0 ∙ ap (λ t. cond t [] (c ∷ before b cs)) (sym no), r.1 ∙ ap (λ t. cond t (Some cs) (past b cs)) (sym no))
 
-pub before_none : (text : List ℕ) (b : ℕ) → ((k : ℕ) → k < length text → get_or text k 0 ≡ b → ⊥) → (text ≡ before b text) × (None ≡ behind b text)
+pub before_none : (text : List ℕ) (b : ℕ) → ((k : ℕ) → k < length text → get_or text k 0 ≡ b → ⊥) → (text ≡ before b text) × (None ≡ past b text)
 before_none [] b none = (refl, refl)
 before_none (c ∷ cs) b none =
     let r = before_none cs b (λ k l. none (suc k) (omega arith)) in
     let no = apart c b (none 0 (omega arith)) in
-    (ap (λ l. c ∷ l) r.0 ∙ ap (λ t. cond t [] (c ∷ before b cs)) (sym no), r.1 ∙ ap (λ t. cond t (Some cs) (behind b cs)) (sym no))
+    (ap (λ l. c ∷ l) r.0 ∙ ap (λ t. cond t [] (c ∷ before b cs)) (sym no), r.1 ∙ ap (λ t. cond t (Some cs) (past b cs)) (sym no))
 
 pub after_front : (ps text : List ℕ) (r : Bool) → pointwise (λ a b. a == b) (take (length ps) text) ps ≡ r → after ps text ≡ cond r (Some (drop (length ps) text)) None
 after_front [] text r e = ap (λ b. cond b (Some text) None) e

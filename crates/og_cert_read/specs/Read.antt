@@ -12,7 +12,7 @@ use Rattle.og_cert_text.specs.Text.{Version, version_text}
 use Rattle.og_cert_read.specs.Text.{most_text, pieces, EachSays}
 use Rattle.og_cert_read.specs.Reading.{LineFault, BadLine, Twice, TooDeep, read_lines, nothing_read}
 
--- the text is within its limit and begins with a version, and this is what the lines behind that give
+-- the text is within its limit and begins with a version, and this is what the lines after that give
 abbrev pub Gives : List ℕ → Result Entries (LineFault × ℕ) → Type 0
 Gives text answer =
     (length text ≤ most_text) × (v : Version) × (rest : List ℕ) × (text ≡ version_text v ++ rest)

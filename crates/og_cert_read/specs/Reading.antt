@@ -11,7 +11,7 @@ use Rattle.og_cert_text.specs.Text.{Version, One, Two}
 pub data Frame : Type 0 where
   AfterSum : Combination → Frame
   AfterCut : ℕ → ℕ → Frame
-  -- the first sub-certificate, or the second one behind the first
+  -- the first sub-certificate, or the second one after the first
   First : FormValue → Frame
   Second : FormValue → Cert → Frame
   -- so many are still wanted after the one that is read, and these are read
@@ -70,7 +70,7 @@ abbrev pub or_bad : Option Cert → (Cert → Reading) → Result Reading LineFa
 or_bad None f = Err BadLine
 or_bad (Some c) f = Ok (f c)
 
--- `same k`, right behind `cond n`
+-- `same k`, right after `cond n`
 abbrev pub same_as : Version → Entries → ℕ → List Frame → ℕ → Result Reading LineFault
 same_as One done n fs k = Err BadLine
 same_as Two done n [] k = or_bad (certificate_of k done) (λ c. between (with_entry n c done))

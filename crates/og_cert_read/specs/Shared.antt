@@ -21,11 +21,11 @@ abbrev pub listed_as : Option ℕ → Cert → Listed
 listed_as None c = Whole c
 listed_as (Some k) c = if nat_lt (length (listed_text (SameAs k))) (length (cert_text c)) then SameAs k else Whole c
 
--- what is listed for these entries behind those
-abbrev pub listing_behind : Entries → Entries → Listing
-listing_behind done [] = []
-listing_behind done (e ∷ es) = (e.0, listed_as (first_with (cert_text e.1) done) e.1) ∷ listing_behind (done ++ e ∷ []) es
+-- what is listed for these entries after those
+abbrev pub listing_after : Entries → Entries → Listing
+listing_after done [] = []
+listing_after done (e ∷ es) = (e.0, listed_as (first_with (cert_text e.1) done) e.1) ∷ listing_after (done ++ e ∷ []) es
 
 -- version 2's text of a file
 abbrev pub shared_text : Entries → List ℕ
-shared_text es = listing_text Two (listing_behind [] es)
+shared_text es = listing_text Two (listing_after [] es)

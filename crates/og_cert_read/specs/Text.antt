@@ -11,7 +11,7 @@ with_byte b [] = None ∷ []
 with_byte b (None ∷ ps) = None ∷ ps
 with_byte b (Some line ∷ ps) = Some (b ∷ line) ∷ ps
 
--- the bytes up to each LF; bytes with no LF behind them are no line
+-- the bytes up to each LF; bytes with no LF after them are no line
 abbrev pub pieces : List ℕ → List (Option (List ℕ))
 pieces [] = []
 pieces (b ∷ bs) = if b == 10 then Some [] ∷ pieces bs else with_byte b (pieces bs)

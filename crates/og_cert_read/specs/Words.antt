@@ -16,12 +16,12 @@ abbrev pub before : ℕ → List ℕ → List ℕ
 before b [] = []
 before b (c ∷ cs) = if c == b then [] else c ∷ before b cs
 
--- the bytes behind the first b
-abbrev pub behind : ℕ → List ℕ → Option (List ℕ)
-behind b [] = None
-behind b (c ∷ cs) = if c == b then Some cs else behind b cs
+-- the bytes after the first b
+abbrev pub past : ℕ → List ℕ → Option (List ℕ)
+past b [] = None
+past b (c ∷ cs) = if c == b then Some cs else past b cs
 
--- what stands behind these bytes at the front
+-- what stands after these bytes at the front
 abbrev pub after : List ℕ → List ℕ → Option (List ℕ)
 after [] text = Some text
 after (p ∷ ps) [] = None
@@ -92,7 +92,7 @@ source_of (b ∷ bs) =
 
 abbrev pub term_of : List ℕ → Option (ℕ × Ref)
 term_of word =
-    and_then (factor_of (before 42 word)) (λ m. and_then (behind 42 word) (λ rest. option_map (λ r. (m, r)) (source_of rest)))
+    and_then (factor_of (before 42 word)) (λ m. and_then (past 42 word) (λ rest. option_map (λ r. (m, r)) (source_of rest)))
 
 abbrev pub terms_of : List (List ℕ) → Option Combination
 terms_of [] = Some []
@@ -109,7 +109,7 @@ nonzero v a = if int_eq a (pos 0) then None else Some (v, a)
 
 abbrev pub part_of : List ℕ → Option (ℕ × ℤ)
 part_of word =
-    and_then (whole_of (before 42 word)) (λ a. and_then (and_then (behind 42 word) named_variable) (λ v. nonzero v a))
+    and_then (whole_of (before 42 word)) (λ a. and_then (and_then (past 42 word) named_variable) (λ v. nonzero v a))
 
 -- the variables rise from low on
 abbrev pub parts_of : ℕ → List (List ℕ) → Option Terms
@@ -119,13 +119,13 @@ parts_of low (w ∷ ws) =
 
 abbrev pub form_of : List ℕ → Option FormValue
 form_of text =
-    and_then (whole_of (before 32 text)) (λ c. option_map (λ ts. form_value ts c) (parts_of 0 (words_of (behind 32 text))))
+    and_then (whole_of (before 32 text)) (λ c. option_map (λ ts. form_value ts c) (parts_of 0 (words_of (past 32 text))))
 
 -- ---- lines
 
--- the number of a fact, and what stands behind it and a space
+-- the number of a fact, and what stands after it and a space
 abbrev pub index_and_rest : List ℕ → Option (ℕ × List ℕ)
-index_and_rest text = and_then (index_of (before 32 text)) (λ i. and_then (behind 32 text) (λ rest. Some (i, rest)))
+index_and_rest text = and_then (index_of (before 32 text)) (λ i. and_then (past 32 text) (λ rest. Some (i, rest)))
 
 abbrev pub cut_of : List ℕ → Option Line
 cut_of text = and_then (index_and_rest text) (λ p. option_map (λ d. CutLine p.0 d) (factor_of p.1))

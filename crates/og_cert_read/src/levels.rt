@@ -12,14 +12,14 @@ use std::alloc::{AllocError, Global};
 pub(crate) enum Fork {
     /// The first certificate of the branch is read.
     First(Form),
-    /// The second is read, behind this first one.
+    /// The second is read, after this first one.
     Second(Form, Cert),
-    /// A certificate of the split of this fact is read, behind these, and so many are wanted after
+    /// A certificate of the split of this fact is read, after these, and so many are wanted after
     /// it.
     Part(u32, u32, Vec<Cert>),
 }
 
-/// An open certificate: its steps, and the branch or split behind them.
+/// An open certificate: its steps, and the branch or split after them.
 #[derive(Drop)]
 pub(crate) struct Level {
     pub(crate) steps: Vec<CertStep>,

@@ -78,7 +78,7 @@ fn parts(alloc: Global, text: Option<&[u8]>) -> Result<Option<Vec<(u32, i128)>>,
     Ok(Some(parts))
 }
 
-// The number of a fact, and what stands behind it and a space.
+// The number of a fact, and what stands after it and a space.
 fn index_and_rest(text: &[u8]) -> Option<(u32, &[u8])>
     ensures { option_map (λ p. (p.0, p.1.now)) result ≡ words.index_and_rest text.now }
 {
@@ -106,11 +106,11 @@ fn split(text: &[u8]) -> Option<Line>
 fn form(alloc: Global, text: &[u8]) -> Result<Option<Form>, AllocError>
     ensures { IfOk result (λ r. r ≡ words.form_of text.now) }
 {
-    let (word, behind) = split_at_byte(text, b' ');
+    let (word, past) = split_at_byte(text, b' ');
     let Some(constant) = whole(word) else {
         return Ok(None);
     };
-    let Some(parts) = parts(alloc, behind)? else {
+    let Some(parts) = parts(alloc, past)? else {
         return Ok(None);
     };
     Ok(Some(Form::of_terms(parts, constant)))

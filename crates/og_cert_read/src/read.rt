@@ -12,8 +12,8 @@ use crate::words::after;
 use og_cert_text::{CertFile, CertTextError, CertTextFault};
 use std::alloc::Global;
 
-// Reads the lines behind the first one.
-fn read_behind(alloc: Global, version: Version, text: &[u8]) -> Result<CertFile, CertTextError>
+// Reads the lines after the first one.
+fn read_rest(alloc: Global, version: Version, text: &[u8]) -> Result<CertFile, CertTextError>
     requires { length text.now ≤ most_text }
     ensures { IsFile result (read_lines (version_of version) 2 nothing_read (lines_of text.now)) }
 {
@@ -42,10 +42,10 @@ pub fn read_certs(alloc: Global, text: &[u8]) -> Result<CertFile, CertTextError>
         return Err(CertTextError::Fault(CertTextFault::CertsTooLong));
     }
     if let Some(rest) = after(b"og-cert 1\n", text) {
-        return read_behind(alloc, Version::One, rest);
+        return read_rest(alloc, Version::One, rest);
     }
     if let Some(rest) = after(b"og-cert 2\n", text) {
-        return read_behind(alloc, Version::Two, rest);
+        return read_rest(alloc, Version::Two, rest);
     }
     Err(CertTextError::Fault(CertTextFault::BadVersion))
 }

@@ -60,7 +60,7 @@ impl Reader {
         }
     }
 
-    // Opens a branch or a split behind the steps.
+    // Opens a branch or a split after the steps.
     fn open(&mut self, alloc: Global, fork: Fork) -> Result<(), AllocError>
         ensures frames { OnOk result (frames_of self.new ≡ fork_frame fork ∷ frames_of self.old) }
         ensures file { self.new.file ≡ self.old.file }
@@ -217,7 +217,7 @@ impl Reader {
         }
     }
 
-    /// Takes the first line of the text, and gives what stands behind it.
+    /// Takes the first line of the text, and gives what stands after it.
     pub(crate) fn next<'a>(
         &mut self,
         alloc: Global,
@@ -229,8 +229,8 @@ impl Reader {
         requires sound { IsSound self.old }
         ensures { MatchResult result (λ rest. IsNext (version_of version) at text.now rest.now self.old self.new) (λ e. IsStopped e (read_lines (version_of version) at (reading_of self.old) (lines_of text.now))) }
     {
-        let (bytes, behind) = split_at_byte(text, b'\n');
-        let Some(rest) = behind else {
+        let (bytes, past) = split_at_byte(text, b'\n');
+        let Some(rest) = past else {
             return Err(bad_line(at));
         };
         let Some(line) = read_line(alloc, bytes)? else {

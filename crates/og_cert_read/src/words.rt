@@ -7,10 +7,10 @@ ghost use Rattle.og_cert_read.specs.Words as words;
 use crate::limits::{FACTOR_LIMIT, NUMBER_LIMIT};
 use og_cert_text::{Source, Term};
 
-/// The bytes before the first such byte, and those behind it.
+/// The bytes before the first such byte, and those after it.
 pub(crate) fn split_at_byte(text: &[u8], byte: u8) -> (&[u8], Option<&[u8]>)
     ensures before { result.0.now ≡ words.before byte text.now }
-    ensures behind { option_map (λ s. s.now) result.1 ≡ words.behind byte text.now }
+    ensures past { option_map (λ s. s.now) result.1 ≡ words.past byte text.now }
 {
     for (i, b) in text.iter().enumerate() {
         if *b == byte {
@@ -20,7 +20,7 @@ pub(crate) fn split_at_byte(text: &[u8], byte: u8) -> (&[u8], Option<&[u8]>)
     (text, None)
 }
 
-/// What stands behind these bytes at the front.
+/// What stands after these bytes at the front.
 pub(crate) fn after<'a>(front: &[u8], text: &'a [u8]) -> Option<&'a [u8]>
     ensures { option_map (λ s. s.now) result ≡ words.after front.now text.now }
 {
@@ -135,9 +135,9 @@ fn source(word: &[u8]) -> Option<Source>
 pub(crate) fn term(word: &[u8]) -> Option<Term>
     ensures { option_map (λ t. (t.times, ref_of t.source)) result ≡ words.term_of word.now }
 {
-    let (times, behind) = split_at_byte(word, b'*');
+    let (times, past) = split_at_byte(word, b'*');
     let times = factor(times)?;
-    let source = source(behind?)?;
+    let source = source(past?)?;
     Some(Term { times, source })
 }
 
@@ -154,9 +154,9 @@ fn named_variable(word: &[u8]) -> Option<u32>
 pub(crate) fn part(word: &[u8]) -> Option<(u32, i128)>
     ensures { result ≡ words.part_of word.now }
 {
-    let (coefficient, behind) = split_at_byte(word, b'*');
+    let (coefficient, past) = split_at_byte(word, b'*');
     let coefficient = whole(coefficient)?;
-    let variable = named_variable(behind?)?;
+    let variable = named_variable(past?)?;
     if coefficient == 0 {
         return None;
     }

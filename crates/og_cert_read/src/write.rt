@@ -37,7 +37,7 @@ fn put_again(text: &mut Vec<u8>, k: u32, lines: &[u8]) -> Result<(), AllocError>
     text.extend_from_slice(lines)
 }
 
-// An entry, behind those whose certificates have their first numbers in the map.
+// An entry, after those whose certificates have their first numbers in the map.
 fn put_entry(
     text: &mut Vec<u8>,
     firsts: &mut BTreeMap<Vec<u8>, u32>,

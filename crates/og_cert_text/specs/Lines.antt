@@ -20,7 +20,7 @@ pub data Line : Type 0 where
   SplitLine : ℕ → ℕ → Line
   CloseLine : Combination → Line
 
--- ---- how it is written, without the LF behind it
+-- ---- how it is written, without the LF after it
 
 abbrev pub ref_text : Ref → List ℕ
 ref_text (Known i) = decimal i

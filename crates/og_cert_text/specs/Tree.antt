@@ -12,7 +12,7 @@ pub data Ref : Type 0 where
 abbrev pub Combination : Type 0
 Combination = List (ℕ × Ref)
 
--- a sum or a cut adds a fact, and a certificate goes on behind it; a branch has two certificates, and a split one for each part
+-- a sum or a cut adds a fact, and a certificate goes on after it; a branch has two certificates, and a split one for each part
 mutual
   pub data Cert : Type 0 where
     Sum : Combination → Cert → Cert

@@ -37,7 +37,7 @@ pub enum CertStep {
 pub struct Cert {
     /// The steps, each of which adds a fact.
     pub steps: Vec<CertStep>,
-    /// What stands behind the steps.
+    /// What stands after the steps.
     pub finish: Finish,
 }
 

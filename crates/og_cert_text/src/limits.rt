@@ -124,7 +124,7 @@ pub(crate) fn are_lines(cert: &Cert) -> bool
     are_steps(&cert.steps) && is_finish(&cert.finish)
 }
 
-// Whether the numbers of each line behind the steps are within the limits.
+// Whether the numbers of each line after the steps are within the limits.
 #[cycle(lines)]
 #[tactic(auto, using(crate::proofs::Plains::plain_split, crate::proofs::Plains::lines_append, crate::proofs::Plains::count_list))]
 fn is_finish(finish: &Finish) -> bool

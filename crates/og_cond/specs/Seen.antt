@@ -1,11 +1,12 @@
 -- The condition that a value of the program's type stands for.
-use Rattle.std.specs.Prelude.{◌≡◌, List, [], ◌∷◌, ◌++◌, map, Option, Some, None, Vec}
+use Rattle.std.specs.Prelude.{◌≡◌, ℕ, List, [], ◌∷◌, ◌++◌, map, Option, Some, None, Vec}
 use Rattle.std.specs.Global.{Global}
 use Rattle.og_typed.specs.Syntax.{Simple}
 use Rattle.og_typed.specs.Plain.{formula}
 use Rattle.og_typed.specs.declared.assertion.Assert.{Assert}
 use Rattle.og_subst.specs.declared.action.Action.{Action}
 use Rattle.og_subst.specs.Actions.{action_body}
+use Rattle.og_cond.specs.declared.kind.Kind.{Kind}
 use Rattle.og_cond.specs.declared.condition.Part.{Part}
 use Rattle.og_cond.specs.declared.condition.Part.TheVariants as part
 use Rattle.og_cond.specs.declared.condition.Hypothesis.{Hypothesis}
@@ -47,6 +48,18 @@ seen c = record {
   hypotheses = map hypothesis_of c.hypotheses.items;
   action = body_of c.action;
   goal = goal_of c.goal;
+}
+
+-- a condition that is not about interference
+abbrev pub claim : Kind → ℕ → ℕ → List plain.Hypothesis → List Simple → plain.Goal → plain.Condition
+claim kind at variables hypotheses action goal = record {
+  kind = kind;
+  at = at;
+  action_at = None;
+  variables = variables;
+  hypotheses = hypotheses;
+  action = action;
+  goal = goal;
 }
 
 -- the new list is the old one, with these conditions at its end

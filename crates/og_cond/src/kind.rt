@@ -10,7 +10,7 @@ pub enum Kind {
     Prologue,
     /// A process may start.
     Start,
-    /// A statement leads to the assertion behind it.
+    /// A statement leads to the assertion after it.
     Step,
     /// Each value that an action assigns is an `i64`.
     Range,
@@ -18,7 +18,7 @@ pub enum Kind {
     Then,
     /// An `if` enters its else branch, or passes it by.
     Else,
-    /// A branch leads behind its `if`.
+    /// A branch leads to the assertion after its `if`.
     Join,
     /// A `while` enters its body.
     Enter,

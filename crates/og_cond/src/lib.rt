@@ -2,6 +2,7 @@
 #![tactic(auto)]
 
 mod blocking;
+mod claim;
 mod condition;
 mod count;
 mod fault;

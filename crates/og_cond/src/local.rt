@@ -51,15 +51,8 @@ pub(crate) fn add_gives<'a>(
         (gives variables kind at (given first.entry second.entry) (formula goal.now) ∷ [])) }
 {
     let hypotheses = hypotheses(*conditions.allocator(), first, second)?;
-    conditions.push(Condition {
-        kind,
-        at,
-        action_at: None,
-        variables,
-        hypotheses,
-        goal: Goal::Holds(goal),
-        action: None,
-    })?;
+    let goal = Goal::Holds(goal);
+    conditions.push(Condition::of_states(kind, at, variables, hypotheses, goal))?;
     Ok(())
 }
 
@@ -95,26 +88,12 @@ fn add_action<'a>(
         (formula after.now))) }
 {
     let alloc = *conditions.allocator();
+    let n = variables;
     let step = hypotheses(alloc, Part::Yes(before), guard_part(guard))?;
-    conditions.push(Condition {
-        kind: Kind::Step,
-        at,
-        action_at: None,
-        variables,
-        hypotheses: step,
-        goal: Goal::Holds(after),
-        action: Some(action),
-    })?;
+    let goal = Goal::Holds(after);
+    conditions.push(Condition::of_action(Kind::Step, at, n, step, action, goal))?;
     let range = hypotheses(alloc, Part::Yes(before), guard_part(guard))?;
-    conditions.push(Condition {
-        kind: Kind::Range,
-        at,
-        action_at: None,
-        variables,
-        hypotheses: range,
-        goal: Goal::Fits,
-        action: Some(action),
-    })?;
+    conditions.push(Condition::of_action(Kind::Range, at, n, range, action, Goal::Fits))?;
     Ok(())
 }
 

@@ -8,7 +8,7 @@ ghost use Rattle.og_cond.specs.Seen.{Adds, hypothesis_of};
 
 use crate::blocking::blocked_hypotheses;
 use crate::condition::{Condition, Goal, Hypothesis, Part};
-use crate::count::behind_conditions;
+use crate::count::left_after_conditions;
 use crate::fault::{ConditionsError, TooMany};
 use crate::interference::add_crossings;
 use crate::kind::Kind;
@@ -69,15 +69,14 @@ fn add_prologue<'a>(
         Some(part) => {
             let first: &Note = part.first();
             let hypotheses = pre_hypotheses(*conditions.allocator(), outline)?;
-            conditions.push(Condition {
-                kind: Kind::Prologue,
-                at: first.at,
-                action_at: None,
+            let goal = Goal::Holds(&first.assertion);
+            conditions.push(Condition::of_states(
+                Kind::Prologue,
+                first.at,
                 variables,
                 hypotheses,
-                goal: Goal::Holds(&first.assertion),
-                action: None,
-            })?;
+                goal,
+            ))?;
             add_seq(conditions, variables, part)
         }
     }
@@ -97,15 +96,8 @@ fn add_starts<'a>(
     for process in outline.processes() {
         let first: &Note = process.first();
         let hypotheses = start_hypotheses(alloc, outline)?;
-        conditions.push(Condition {
-            kind: Kind::Start,
-            at: first.at,
-            action_at: None,
-            variables,
-            hypotheses,
-            goal: Goal::Holds(&first.assertion),
-            action: None,
-        })?;
+        let goal = Goal::Holds(&first.assertion);
+        conditions.push(Condition::of_states(Kind::Start, first.at, variables, hypotheses, goal))?;
     }
     Ok(())
 }
@@ -153,15 +145,8 @@ fn add_end<'a>(
         None => outline.post(),
     };
     let hypotheses = last_hypotheses(*conditions.allocator(), outline.processes())?;
-    conditions.push(Condition {
-        kind: Kind::End,
-        at: note.at,
-        action_at: None,
-        variables,
-        hypotheses,
-        goal: Goal::Holds(&note.assertion),
-        action: None,
-    })?;
+    let goal = Goal::Holds(&note.assertion);
+    conditions.push(Condition::of_states(Kind::End, note.at, variables, hypotheses, goal))?;
     Ok(())
 }
 
@@ -205,15 +190,9 @@ fn add_blocking<'a>(
     ensures { OnOk result (Adds conditions.old conditions.new (plain.blocking_condition outline.now ∷ [])) }
 {
     let hypotheses = blocked_hypotheses(*conditions.allocator(), outline.processes())?;
-    conditions.push(Condition {
-        kind: Kind::Blocking,
-        at: outline.cobegin_at(),
-        action_at: None,
-        variables,
-        hypotheses,
-        goal: Goal::Never,
-        action: None,
-    })?;
+    let at = outline.cobegin_at();
+    let goal = Goal::Never;
+    conditions.push(Condition::of_states(Kind::Blocking, at, variables, hypotheses, goal))?;
     Ok(())
 }
 
@@ -247,7 +226,7 @@ pub fn conditions<'a>(
     ensures { IsListed CONDITION_LIMIT (plain.conditions outline.now) result }
 {
     outline.follows_rule();
-    let left = match behind_conditions(CONDITION_LIMIT, outline) {
+    let left = match left_after_conditions(CONDITION_LIMIT, outline) {
         Some(left) => left,
         None => return Err(ConditionsError::Fault(TooMany)),
     };

@@ -1,47 +1,43 @@
 -- From the parts of an answer to the whole.
-use Rattle.std.proofs.Common.{◌≡◌, ◌⊎◌, inl, inr, sym, subst, ℕ, Bool, List, Result, Ok, Err, Option, IfOk, IfSome}
+use Rattle.std.proofs.Common.{◌≡◌, ◌⊎◌, inl, inr, sym, subst, ℕ, ◌<◌, Bool, List, length, Result, Ok, Err, Option, IfOk, IfSome}
 use Rattle.std.specs.Io.KnownBytes.{Appends}
 use Rattle.og_input.specs.Joined.{IsSplit}
 use Rattle.og_typed.specs.Syntax.{Program}
-use Rattle.og_typed.specs.Erase.{erased}
-use Rattle.og_erase.specs.Collected.{raw_of}
-use Rattle.og_print.specs.Print.{program_text}
+use Rattle.og_cond.specs.Conditions.{conditions}
+use Rattle.og_cond.specs.declared.limits.TheConstants.{CONDITION_LIMIT}
+use Rattle.og_cond.specs.declared.fault.TooMany.{TooMany}
+use Rattle.og_source.specs.Source.{IsSource}
+use Rattle.og_answer.specs.Told.{Says, IsTold, IsUnread}
+use Rattle.og_answer.specs.declared.answer.Answer.{Answer}
+use Rattle.og_answer.specs.declared.fault.InputFault.{InputFault}
+use Rattle.og_answer.specs.declared.fault.InputFault.TheVariants as faults
 use Rattle.og_judge.specs.declared.entry.Entry.{Entry}
-use Rattle.og_judge.specs.declared.refusal.Refusal.{Refusal}
-use Rattle.og_judge.specs.Report.{IsSource, IsReport, IsRefused}
-use Rattle.og_engine.specs.declared.answer.Answer.{Answer}
-use Rattle.og_engine.specs.declared.fault.EngineFault.{EngineFault}
-use Rattle.og_engine.specs.Answers.{report_in, status_of, IsOutput, IsChecked, IsTold, Writes, WritesJoined}
-use Rattle.og_engine.specs.Commands.{IsUnread, IsConditionsRefused, IsErased}
+use Rattle.og_judge.specs.Report.{IsReport, IsRefused}
+use Rattle.og_engine.specs.Answers.{report_in, status_of, IsOutput, IsChecked, Writes, WritesJoined}
+use Rattle.og_engine.specs.Commands.{HasTooMany}
 use Rattle.og_engine.specs.Inputs.{source_of, certs_of, joined_of}
 use Rattle.og_engine.proofs.Fronts.{of_fronts, of_front}
 
-pub judged : (json : Bool) (source certs : List ℕ) (o : Program) (entries : List Entry) (r : Result Answer EngineFault) → IsReport source certs o entries
-    → IfOk r (λ a. a.text.items ≡ report_in json source entries) → IfOk r (λ a. a.status ≡ status_of entries) → IfOk r (IsChecked json source certs)
-judged json source certs o entries (Err e) h text status = tt
-judged json source certs o entries (Ok a) h text status = inl (record { outline = o; entries = entries; report = h; printed = text; told = status })
+pub judged : (json : Bool) (source certs : List ℕ) (o : Program) (entries : List Entry) (a : Answer) → IsReport source certs o entries
+    → Says (report_in json source entries) (status_of entries) a → IsChecked json source certs a
+judged json source certs o entries a h told = inl (record { outline = o; entries = entries; report = h; printed = told.0; told = told.1 })
 
-pub turned_down : (json : Bool) (source certs : List ℕ) (why : Refusal) (r : Result Answer EngineFault) → IsRefused source certs why
-    → IfOk r (IsTold source why) → IfOk r (IsChecked json source certs)
-turned_down json source certs why (Err e) h told = tt
-turned_down json source certs why (Ok a) h told = inr (record { why = why; refused = h; has_line = (told.0, told.1); printed = told.2; told = told.3 })
+pub turned_down : (json : Bool) (source certs : List ℕ) (why : InputFault) (a : Answer) → IsRefused source certs why
+    → IsTold source why a → IsChecked json source certs a
+turned_down json source certs why a h told = inr (record { why = why; refused = h; printed = told.0; told = told.1 })
 
--- an answer such as P says of it, or the line that says why an outline's conditions are not listed
-pub not_listed : (P : Answer → Type 0) (source : List ℕ) (o : Program) (why : Refusal) (r : Result Answer EngineFault) → IsConditionsRefused o why
-    → IfOk r (IsTold source why) → IfOk r (λ a. P a ⊎ ((why : Refusal) × IsConditionsRefused o why × IsTold source why a))
-not_listed P source o why (Err e) h told = tt
-not_listed P source o why (Ok a) h told = inr (why, h, told)
+-- an answer such as P says of it, or the line that says that there are too many conditions
+pub too_many : {E : Type 0} (P : Answer → Type 0) (source bytes : List ℕ) (o p : Program) (fault : TooMany) (r : Result Answer E) → bytes ≡ source → p ≡ o
+    → CONDITION_LIMIT < length (conditions p) → IfOk r (IsTold bytes (faults.Conditions fault)) → IfOk r (λ a. P a ⊎ HasTooMany o source a)
+too_many P source bytes o p fault (Err e) same_bytes same h told = tt
+too_many P source bytes o p fault (Ok a) same_bytes same h told =
+    inr (subst (λ (q : Program). CONDITION_LIMIT < length (conditions q)) same h, (fault, subst (λ (s : List ℕ). IsTold s (faults.Conditions fault) a) same_bytes told))
 
 -- such an answer is that of the outline's source
-pub of_source : (P : Program → Answer → Type 0) (source : List ℕ) (o : Program) (r : Result Answer EngineFault) → IsSource source o
+pub of_source : {E : Type 0} (P : Program → Answer → Type 0) (source : List ℕ) (o : Program) (r : Result Answer E) → IsSource source o
     → IfOk r (P o) → IfOk r (λ a. IsUnread source a ⊎ ((o : Program) × IsSource source o × P o a))
 of_source P source o (Err e) s told = tt
 of_source P source o (Ok a) s told = inr (o, s, told)
-
-pub erased_source : (source : List ℕ) (o : Program) (r : Result Answer EngineFault) → IsSource source o
-    → IfOk r (λ a. a.text.items ≡ program_text (raw_of (erased o))) → IfOk r (λ a. a.status ≡ 0) → IfOk r (IsErased source)
-erased_source source o (Err e) s text status = tt
-erased_source source o (Ok a) s text status = inr (o, s, text, status)
 
 pub written : (json : Bool) (source certs : List ℕ) (a : Answer) (status : ℕ) (before after : Option (List ℕ)) → IsChecked json source certs a → status ≡ a.status
     → Appends before after a.text.items → Writes json source certs before after status

@@ -1,16 +1,16 @@
 -- What is printed for a source and certificates, and the status.
-use Rattle.std.specs.Prelude.{◌≡◌, ◌≢◌, ◌⊎◌, ℕ, Bool, true, false, if◌then◌else◌, List, [], ◌∷◌, ◌++◌, Option}
+use Rattle.std.specs.Prelude.{◌≡◌, ◌⊎◌, ℕ, Bool, true, false, if◌then◌else◌, List, [], ◌∷◌, ◌++◌, Option}
 use Rattle.std.specs.Io.KnownBytes.{Appends}
 use Rattle.og_input.specs.Joined.{IsSplit}
 use Rattle.og_typed.specs.Syntax.{Program}
 use Rattle.og_judge.specs.declared.entry.Entry.{Entry}
-use Rattle.og_judge.specs.declared.refusal.Refusal.{Refusal}
-use Rattle.og_judge.specs.declared.refusal.Refusal.TheVariants as refusal
-use Rattle.og_judge.specs.Report.{IsReport, IsRefused, is_safe}
+use Rattle.og_judge.specs.Entries.{is_safe}
+use Rattle.og_judge.specs.Report.{IsReport, IsRefused}
 use Rattle.og_report.specs.Report.{report_text}
 use Rattle.og_report.specs.Json.{json_text}
-use Rattle.og_report.specs.Refusal.{refusal_text}
-use Rattle.og_engine.specs.declared.answer.Answer.{Answer}
+use Rattle.og_answer.specs.Line.{refused_line}
+use Rattle.og_answer.specs.declared.answer.Answer.{Answer}
+use Rattle.og_answer.specs.declared.fault.InputFault.{InputFault}
 
 -- JSON with an LF, or text
 abbrev pub report_in : Bool → List ℕ → List Entry → List ℕ
@@ -28,12 +28,11 @@ pub record IsJudged (json : Bool) (source certs text : List ℕ) (status : ℕ) 
   pub printed : text ≡ report_in json source entries
   pub told : status ≡ status_of entries
 
--- the line of a refusal, with status 2; want of threads or memory is no answer
+-- the line of a refusal, with status 2
 pub record IsTurnedDown (source certs text : List ℕ) (status : ℕ) : Type 0 where
-  pub why : Refusal
+  pub why : InputFault
   pub refused : IsRefused source certs why
-  pub has_line : (why ≢ refusal.Spawn) × (why ≢ refusal.Memory)
-  pub printed : text ≡ refusal_text source why
+  pub printed : text ≡ refused_line source why
   pub told : status ≡ 2
 
 -- the report, or the line of the first refusal
@@ -42,10 +41,6 @@ IsOutput json source certs text status = IsJudged json source certs text status 
 
 abbrev pub IsChecked : Bool → List ℕ → List ℕ → Answer → Type 0
 IsChecked json source certs answer = IsOutput json source certs answer.text.items answer.status
-
--- the line of this refusal, with status 2
-abbrev pub IsTold : List ℕ → Refusal → Answer → Type 0
-IsTold source why answer = (why ≢ refusal.Spawn) × (why ≢ refusal.Memory) × (answer.text.items ≡ refusal_text source why) × (answer.status ≡ 2)
 
 -- the answer goes to the end of what the writer holds
 abbrev pub Writes : Bool → List ℕ → List ℕ → Option (List ℕ) → Option (List ℕ) → ℕ → Type 0

@@ -1,33 +1,27 @@
 -- What is printed for the outline of a source, and the status.
-use Rattle.std.specs.Prelude.{◌≡◌, ◌<◌, ◌⊎◌, ℕ, List, length, ⊤}
+use Rattle.std.specs.Prelude.{◌≡◌, ◌<◌, ◌⊎◌, ℕ, List, length}
 use Rattle.og_typed.specs.Syntax.{Program}
 use Rattle.og_typed.specs.Erase.{erased}
 use Rattle.og_erase.specs.Collected.{raw_of}
 use Rattle.og_print.specs.Print.{program_text}
 use Rattle.og_cond.specs.Conditions.{conditions}
 use Rattle.og_cond.specs.declared.limits.TheConstants.{CONDITION_LIMIT}
+use Rattle.og_cond.specs.declared.fault.TooMany.{TooMany}
 use Rattle.og_listing.specs.Listing.{conditions_lines}
-use Rattle.og_judge.specs.declared.refusal.Refusal.{Refusal}
-use Rattle.og_judge.specs.declared.refusal.Refusal.TheVariants as refusal
-use Rattle.og_judge.specs.Report.{IsSource, IsSourceRefused}
-use Rattle.og_engine.specs.Answers.{IsTold}
-use Rattle.og_engine.specs.declared.answer.Answer.{Answer}
+use Rattle.og_source.specs.Source.{IsSource}
+use Rattle.og_answer.specs.Told.{Says, IsTold, IsUnread}
+use Rattle.og_answer.specs.declared.answer.Answer.{Answer}
+use Rattle.og_answer.specs.declared.fault.InputFault.TheVariants as faults
 
--- why the conditions of an outline are not listed
-abbrev pub IsConditionsRefused : Program → Refusal → Type 0
-IsConditionsRefused o (refusal.Conditions fault) = CONDITION_LIMIT < length (conditions o)
-IsConditionsRefused o refusal.Memory = ⊤
-IsConditionsRefused o why = ⊥
+-- there are too many conditions, and this is the line that says so
+abbrev pub HasTooMany : Program → List ℕ → Answer → Type 0
+HasTooMany o source answer =
+    (CONDITION_LIMIT < length (conditions o)) × ((fault : TooMany) × IsTold source (faults.Conditions fault) answer)
 
--- the source has no outline, and this is the line that says why
-abbrev pub IsUnread : List ℕ → Answer → Type 0
-IsUnread source answer = (why : Refusal) × IsSourceRefused source why × IsTold source why answer
-
--- the listing of the conditions with status 0, or the line of a refusal
+-- the listing of the conditions with status 0, or that line
 abbrev pub IsListedOf : Program → List ℕ → Answer → Type 0
 IsListedOf o source answer =
-    ((answer.text.items ≡ conditions_lines o.names source 1 (conditions o)) × (answer.status ≡ 0))
-    ⊎ ((why : Refusal) × IsConditionsRefused o why × IsTold source why answer)
+    Says (conditions_lines o.names source 1 (conditions o)) 0 answer ⊎ HasTooMany o source answer
 
 -- that of the source's outline, or the line of a refusal
 abbrev pub IsListed : List ℕ → Answer → Type 0
@@ -38,4 +32,4 @@ IsListed source answer =
 abbrev pub IsErased : List ℕ → Answer → Type 0
 IsErased source answer =
     IsUnread source answer
-    ⊎ ((o : Program) × IsSource source o × (answer.text.items ≡ program_text (raw_of (erased o))) × (answer.status ≡ 0))
+    ⊎ ((o : Program) × IsSource source o × Says (program_text (raw_of (erased o))) 0 answer)

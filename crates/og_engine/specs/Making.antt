@@ -1,19 +1,21 @@
 -- What is printed of certificates that are made, and the status.
-use Rattle.std.specs.Prelude.{◌≡◌, ◌<◌, ◌≤◌, ◌⊎◌, ℕ, List, [], length, IsSome}
+use Rattle.std.specs.Prelude.{◌≡◌, ◌<◌, ◌≤◌, ◌⊎◌, ℕ, List, [], length, IsSome, ⊤}
 use Rattle.og_typed.specs.Syntax.{Program}
 use Rattle.og_cond.specs.Conditions.{conditions}
+use Rattle.og_cond.specs.declared.limits.TheConstants.{CONDITION_LIMIT}
+use Rattle.og_cond.specs.declared.fault.ConditionsError.{ConditionsError}
+use Rattle.og_cond.specs.declared.fault.ConditionsError.TheVariants as errors
 use Rattle.og_cert_text.specs.Files.{Entries, certificate_of}
 use Rattle.og_cert_text.specs.Text.{file_text}
 use Rattle.og_cert_text.specs.declared.fault.CertTextFault.{CertTextFault}
 use Rattle.og_cert_read.specs.Read.{IsWrong}
 use Rattle.og_find.specs.Found.{AreOf}
-use Rattle.og_judge.specs.declared.refusal.Refusal.{Refusal}
-use Rattle.og_judge.specs.declared.refusal.Refusal.TheVariants as refusal
-use Rattle.og_judge.specs.Report.{IsSource}
+use Rattle.og_source.specs.Source.{IsSource}
+use Rattle.og_answer.specs.Told.{IsTold, IsUnread}
+use Rattle.og_answer.specs.declared.answer.Answer.{Answer}
+use Rattle.og_answer.specs.declared.fault.InputFault.TheVariants as faults
 use Rattle.og_judge.specs.Migrated.{IsMigration, HasSameAnswers}
-use Rattle.og_engine.specs.Answers.{IsTold}
-use Rattle.og_engine.specs.Commands.{IsUnread, IsConditionsRefused}
-use Rattle.og_engine.specs.declared.answer.Answer.{Answer}
+use Rattle.og_engine.specs.Commands.{HasTooMany}
 
 -- each condition up to the count has a certificate
 abbrev pub HasAll : ℕ → Entries → Type 0
@@ -28,9 +30,14 @@ abbrev pub IsFoundText : Program → Answer → Type 0
 IsFoundText o answer =
     (es : Entries) × AreOf (conditions o) es × (answer.text.items ≡ file_text es) × TellsWhetherAll (length (conditions o)) es answer.status
 
--- that text, or the line of a refusal
+-- why the certificates of an outline's conditions are not looked for
+abbrev pub IsTooMany : Program → ConditionsError → Type 0
+IsTooMany o (errors.Fault fault) = CONDITION_LIMIT < length (conditions o)
+IsTooMany o errors.Memory = ⊤
+
+-- that text, or the line that says that there are too many conditions
 abbrev pub IsFoundOf : Program → List ℕ → Answer → Type 0
-IsFoundOf o source answer = IsFoundText o answer ⊎ ((why : Refusal) × IsConditionsRefused o why × IsTold source why answer)
+IsFoundOf o source answer = IsFoundText o answer ⊎ HasTooMany o source answer
 
 -- that of the source's outline, or the line of a refusal
 abbrev pub IsFound : List ℕ → Answer → Type 0
@@ -41,4 +48,4 @@ IsFound source answer =
 abbrev pub IsMigrated : List ℕ → Answer → Type 0
 IsMigrated certs answer =
     (IsMigration certs answer.text.items × HasSameAnswers certs answer.text.items × (answer.status ≡ 0))
-    ⊎ ((fault : CertTextFault) × IsWrong certs fault × IsTold [] (refusal.Certs fault) answer)
+    ⊎ ((fault : CertTextFault) × IsWrong certs fault × IsTold [] (faults.Certs fault) answer)

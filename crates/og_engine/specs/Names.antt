@@ -2,6 +2,8 @@
 use Rattle.std.specs.Prelude.{ℕ, List, Option, Some, None, codes}
 use Rattle.og_input.specs.declared.reading.ReadFault.{ReadFault}
 use Rattle.og_input.specs.declared.reading.ReadFault.TheVariants as read
+use Rattle.og_pool.specs.declared.fault.PoolFault.{PoolFault}
+use Rattle.og_pool.specs.declared.fault.PoolFault.TheVariants as pool
 use Rattle.og_engine.specs.declared.fault.EngineFault.{EngineFault}
 use Rattle.og_engine.specs.declared.fault.EngineFault.TheVariants as faults
 
@@ -21,3 +23,8 @@ name_of_fault faults.Memory = codes "Memory"
 abbrev pub of_read : ReadFault → EngineFault
 of_read read.Failed = faults.ReadFailed
 of_read read.Memory = faults.Memory
+
+-- the fault of texts that were not judged
+abbrev pub of_pool : PoolFault → EngineFault
+of_pool pool.Spawn = faults.Spawn
+of_pool pool.Memory = faults.Memory

@@ -1,27 +1,18 @@
-//! What is printed, and the status.
+//! The answer of a check.
 
-ghost use Rattle.std.specs.Prelude.{◌≡◌, ◌≢◌, ◌<◌, ◌≤◌, ◌^◌, length, IfOk, IfErr, IsSome};
-ghost use Rattle.og_judge.specs.Names.{place_of_refusal};
+ghost use Rattle.std.specs.Prelude.{◌≡◌, ◌≤◌, ◌^◌, length, IfOk};
 ghost use Rattle.og_judge.specs.Shown.{entries_of};
-ghost use Rattle.og_engine.specs.Answers.{report_in, status_of, IsTold, IsChecked};
+ghost use Rattle.og_answer.specs.Told.{Says};
+ghost use Rattle.og_engine.specs.Answers.{report_in, status_of, IsChecked};
 
 use crate::engines::Options;
-use crate::fault::EngineFault;
+use og_answer::Answer;
 use og_judge::{Judgement, Refusal, judge};
-use og_pool::Gate;
-use og_report::{json, refusal_text, text};
-use std::alloc::Global;
+use og_pool::{Gate, PoolFault};
+use og_report::{json, text};
+use std::alloc::{AllocError, Global};
 use std::sync::Wait;
 use std::thread::Threads;
-
-/// What is printed, and the status with which the program ends.
-#[derive(Debug, Drop)]
-pub struct Answer {
-    /// What is printed.
-    pub text: Vec<u8>,
-    /// The status.
-    pub status: u8,
-}
 
 // The report in JSON with an LF, or as text.
 fn report(
@@ -29,14 +20,12 @@ fn report(
     judgement: &Judgement,
     source: &[u8],
     in_json: bool,
-) -> Result<Vec<u8>, EngineFault>
+) -> Result<Vec<u8>, AllocError>
     requires { length source.now ≤ 2 ^ 20 }
-    ensures text { IfOk result (λ t. t.items ≡ report_in in_json source.now (entries_of judgement.now)) }
-    ensures unread { IfErr result (λ e. e ≢ EngineFault.ReadFailed) }
-    ensures fault { IfErr result (λ e. e ≢ EngineFault.WriteFailed) }
+    ensures { IfOk result (λ t. t.items ≡ report_in in_json source.now (entries_of judgement.now)) }
 {
     if !in_json {
-        return Ok(text(alloc, judgement, source)?);
+        return text(alloc, judgement, source);
     }
     let mut line = json(alloc, judgement, source)?;
     line.push(b'\n')?;
@@ -49,38 +38,28 @@ fn of_judgement(
     judgement: &Judgement,
     source: &[u8],
     in_json: bool,
-) -> Result<Answer, EngineFault>
+) -> Result<Answer, AllocError>
     requires { length source.now ≤ 2 ^ 20 }
-    ensures text { IfOk result (λ a. a.text.items ≡ report_in in_json source.now (entries_of judgement.now)) }
-    ensures status { IfOk result (λ a. a.status ≡ status_of (entries_of judgement.now)) }
-    ensures unread { IfErr result (λ e. e ≢ EngineFault.ReadFailed) }
-    ensures fault { IfErr result (λ e. e ≢ EngineFault.WriteFailed) }
+    ensures { IfOk result (Says (report_in in_json source.now (entries_of judgement.now)) (status_of (entries_of judgement.now))) }
 {
     let text = report(alloc, judgement, source, in_json)?;
     let status = if judgement.safe() { 0 } else { 1 };
     Ok(Answer { text, status })
 }
 
-/// The answer to a refusal: its line and status 2.
-pub(crate) fn of_refusal(
+// The same, for good.
+fn of_judged(
     alloc: Global,
-    refusal: &Refusal,
+    judgement: Judgement,
     source: &[u8],
-) -> Result<Answer, EngineFault>
-    requires { IsSome (place_of_refusal refusal.now) → length source.now ≤ 2 ^ 20 }
-    ensures refused { IfOk result (λ a. IsTold source.now refusal.now a) }
-    ensures unread { IfErr result (λ e. e ≢ EngineFault.ReadFailed) }
-    ensures fault { IfErr result (λ e. e ≢ EngineFault.WriteFailed) }
-    ensures memory { refusal.now ≢ Refusal.Spawn → IfErr result (λ e. e ≡ EngineFault.Memory) }
+    in_json: bool,
+) -> Result<Answer, AllocError>
+    requires { length source.now ≤ 2 ^ 20 }
+    ensures { IfOk result (Says (report_in in_json source.now (entries_of judgement)) (status_of (entries_of judgement))) }
 {
-    match refusal {
-        Refusal::Memory => Err(EngineFault::Memory),
-        Refusal::Spawn => Err(EngineFault::Spawn),
-        _ => Ok(Answer {
-            text: refusal_text(alloc, refusal, source)?,
-            status: 2,
-        }),
-    }
+    let answer = of_judgement(alloc, &judgement, source, in_json);
+    drop(judgement);
+    answer
 }
 
 /// The report of a source by certificates, or the line of a refusal. Status 0 where the outline is
@@ -96,18 +75,14 @@ pub fn checked<G: Gate, H: Threads + Wait + Sync>(
     certs: &[u8],
     options: Options,
     gate: &G,
-) -> Result<Answer, EngineFault>
-    requires { (0 < options.workers) × (options.workers ≤ 64) }
-    ensures answer { IfOk result (IsChecked options.json source.now certs.now) }
-    ensures unread { IfErr result (λ e. e ≢ EngineFault.ReadFailed) }
-    ensures fault { IfErr result (λ e. e ≢ EngineFault.WriteFailed) }
+) -> Result<Answer, PoolFault>
+    ensures { IfOk result (IsChecked options.json source.now certs.now) }
 {
-    match judge(rt, alloc, source, certs, options.workers, gate) {
-        Ok(judgement) => {
-            let answer = of_judgement(alloc, &judgement, source, options.json);
-            drop(judgement);
-            answer
-        }
-        Err(refusal) => of_refusal(alloc, &refusal, source),
+    let workers = options.workers.count();
+    match judge(rt, alloc, source, certs, workers, gate) {
+        Ok(judgement) => Ok(of_judged(alloc, judgement, source, options.json)?),
+        Err(Refusal::Input(fault)) => Ok(Answer::refused(alloc, &fault, source)?),
+        Err(Refusal::Spawn) => Err(PoolFault::Spawn),
+        Err(Refusal::Memory) => Err(PoolFault::Memory),
     }
 }

@@ -1,14 +1,16 @@
 //! The engines: they read, judge and write.
 
-ghost use Rattle.std.specs.Prelude.{◌≡◌, ◌≢◌, ◌<◌, ◌≤◌, OnOk, IfOk, IfErr, IfSome};
+ghost use Rattle.std.specs.Prelude.{◌≡◌, ◌≢◌, OnOk, IfOk, IfErr, IfSome};
 ghost use Rattle.std.specs.Io.KnownBytes.{Appends, Keeps};
 ghost use Rattle.og_engine.specs.Inputs.{source_of, certs_of, joined_of};
 ghost use Rattle.og_engine.specs.Answers.{Writes, WritesJoined};
 
-use crate::answer::{Answer, checked};
-use crate::fault::EngineFault;
+use crate::answer::checked;
+use crate::fault::{EngineFault, WriteFailed};
 use crate::inputs::{read_certificates, read_joined, read_source};
+use og_answer::Answer;
 use og_input::split;
+use og_limits::Workers;
 use og_pool::Gate;
 use std::alloc::Global;
 use std::io::{Read, Write};
@@ -18,8 +20,8 @@ use std::thread::Threads;
 /// How a check is made and reported.
 #[derive(Clone, Copy, Debug, PartialEq, Eq)]
 pub struct Options {
-    /// How many workers draw conditions: from 1 to 64.
-    pub workers: u32,
+    /// How many workers draw conditions.
+    pub workers: Workers,
     /// Whether a report is JSON with an LF.
     pub json: bool,
 }
@@ -28,17 +30,16 @@ pub struct Options {
 ///
 /// # Errors
 ///
-/// `WriteFailed` where the writer failed; some bytes may have been written then.
-pub fn write_answer<W: Write>(out: &mut W, answer: &Answer) -> Result<u8, EngineFault>
+/// The writer failed; some bytes may have been written then.
+pub fn write_answer<W: Write>(out: &mut W, answer: &Answer) -> Result<u8, WriteFailed>
     ensures written { OnOk result (Appends (W.contents out.old) (W.contents out.new) answer.now.text.items) }
     ensures status { IfOk result (λ status. status ≡ answer.now.status) }
-    ensures fault { IfErr result (λ e. e ≡ EngineFault.WriteFailed) }
 {
     if out.write_all(answer.text.as_slice()).is_err() {
-        return Err(EngineFault::WriteFailed);
+        return Err(WriteFailed);
     }
     if out.flush().is_err() {
-        return Err(EngineFault::WriteFailed);
+        return Err(WriteFailed);
     }
     Ok(answer.status)
 }
@@ -61,7 +62,6 @@ pub fn engine<R: Read, S: Read, W: Write, G: Gate, H: Threads + Wait + Sync>(
     options: Options,
     gate: &G,
 ) -> Result<u8, EngineFault>
-    requires { (0 < options.workers) × (options.workers ≤ 64) }
     ensures answer { IfOk result (λ status. IfSome (R.remaining source.old) (λ s. IfSome (S.remaining certs.old) (λ c.
         Writes options.json (source_of s) (certs_of c) (W.contents out.old) (W.contents out.new) status))) }
     ensures unwritten { IfErr result (λ e. e ≢ EngineFault.WriteFailed → Keeps (W.contents out.old) (W.contents out.new)) }
@@ -88,7 +88,6 @@ pub fn engine_joined<R: Read, W: Write, G: Gate, H: Threads + Wait + Sync>(
     options: Options,
     gate: &G,
 ) -> Result<u8, EngineFault>
-    requires { (0 < options.workers) × (options.workers ≤ 64) }
     ensures answer { IfOk result (λ status. IfSome (R.remaining input.old) (λ i.
         WritesJoined options.json (joined_of i) (W.contents out.old) (W.contents out.new) status)) }
     ensures unwritten { IfErr result (λ e. e ≢ EngineFault.WriteFailed → Keeps (W.contents out.old) (W.contents out.new)) }

@@ -1,10 +1,11 @@
 //! Why there is no answer.
 
 ghost use Rattle.std.specs.Prelude.{◌≡◌};
-ghost use Rattle.og_engine.specs.Names.{number_of_fault, name_of_fault, of_read};
-ghost use Rattle.og_engine.specs.declared.fault.EngineFault.TheVariants.{Memory};
+ghost use Rattle.og_engine.specs.Names.{number_of_fault, name_of_fault, of_read, of_pool};
+ghost use Rattle.og_engine.specs.declared.fault.EngineFault.TheVariants.{Memory, WriteFailed as NotWritten};
 
 use og_input::ReadFault;
+use og_pool::PoolFault;
 use std::alloc::{AllocError, AllocFailed};
 use thiserror::Error;
 
@@ -59,6 +60,30 @@ impl From<ReadFault> for EngineFault {
             ReadFault::Failed => EngineFault::ReadFailed,
             ReadFault::Memory => EngineFault::Memory,
         }
+    }
+}
+
+impl From<PoolFault> for EngineFault {
+    ghost from_gives = { λ fault e. e ≡ of_pool fault };
+
+    fn from(fault: PoolFault) -> EngineFault {
+        match fault {
+            PoolFault::Spawn => EngineFault::Spawn,
+            PoolFault::Memory => EngineFault::Memory,
+        }
+    }
+}
+
+/// The writer failed; some bytes may have been written.
+#[derive(Clone, Copy, Debug, PartialEq, Eq, Error)]
+#[error("write failed")]
+pub struct WriteFailed;
+
+impl From<WriteFailed> for EngineFault {
+    ghost from_gives = { λ _ e. e ≡ NotWritten };
+
+    fn from(_: WriteFailed) -> EngineFault {
+        EngineFault::WriteFailed
     }
 }
 

@@ -1,10 +1,9 @@
 //! Reading sources and certificates, each to one byte past its limit.
 
-ghost use Rattle.std.specs.Prelude.{◌≡◌, ◌≢◌, IfOk, IfErr, IfSome};
+ghost use Rattle.std.specs.Prelude.{◌≡◌, IfOk, IfSome};
 ghost use Rattle.og_engine.specs.Inputs.{source_of, certs_of, joined_of};
 
-use crate::fault::EngineFault;
-use og_input::read_up_to;
+use og_input::{ReadFault, read_up_to};
 use std::alloc::Global;
 use std::io::Read;
 
@@ -21,14 +20,13 @@ const JOINED_BYTES: usize = 68_157_441;
 ///
 /// # Errors
 ///
-/// `ReadFailed` where the reader failed, or had not ended after 100,000,000 reads. `Memory` where
+/// `Failed` where the reader failed, or had not ended after 100,000,000 reads. `Memory` where
 /// an allocation was refused.
 #[tactic(auto, unfolding(crate::specs::Inputs::source_of))]
-pub fn read_source<R: Read>(alloc: Global, reader: &mut R) -> Result<Vec<u8>, EngineFault>
-    ensures text { IfOk result (λ text. IfSome (R.remaining reader.old) (λ input. text.items ≡ source_of input)) }
-    ensures fault { IfErr result (λ e. e ≢ EngineFault.WriteFailed) }
+pub fn read_source<R: Read>(alloc: Global, reader: &mut R) -> Result<Vec<u8>, ReadFault>
+    ensures { IfOk result (λ text. IfSome (R.remaining reader.old) (λ input. text.items ≡ source_of input)) }
 {
-    Ok(read_up_to(alloc, reader, SOURCE_BYTES)?)
+    read_up_to(alloc, reader, SOURCE_BYTES)
 }
 
 /// The bytes of a text of certificates, up to one past its limit of 67,108,864.
@@ -37,11 +35,10 @@ pub fn read_source<R: Read>(alloc: Global, reader: &mut R) -> Result<Vec<u8>, En
 ///
 /// As `read_source`.
 #[tactic(auto, unfolding(crate::specs::Inputs::certs_of))]
-pub fn read_certificates<R: Read>(alloc: Global, reader: &mut R) -> Result<Vec<u8>, EngineFault>
-    ensures text { IfOk result (λ text. IfSome (R.remaining reader.old) (λ input. text.items ≡ certs_of input)) }
-    ensures fault { IfErr result (λ e. e ≢ EngineFault.WriteFailed) }
+pub fn read_certificates<R: Read>(alloc: Global, reader: &mut R) -> Result<Vec<u8>, ReadFault>
+    ensures { IfOk result (λ text. IfSome (R.remaining reader.old) (λ input. text.items ≡ certs_of input)) }
 {
-    Ok(read_up_to(alloc, reader, CERTS_BYTES)?)
+    read_up_to(alloc, reader, CERTS_BYTES)
 }
 
 /// The bytes of a source and certificates in one, up to 68,157,441.
@@ -50,9 +47,8 @@ pub fn read_certificates<R: Read>(alloc: Global, reader: &mut R) -> Result<Vec<u
 ///
 /// As `read_source`.
 #[tactic(auto, unfolding(crate::specs::Inputs::joined_of))]
-pub fn read_joined<R: Read>(alloc: Global, reader: &mut R) -> Result<Vec<u8>, EngineFault>
-    ensures text { IfOk result (λ text. IfSome (R.remaining reader.old) (λ input. text.items ≡ joined_of input)) }
-    ensures fault { IfErr result (λ e. e ≢ EngineFault.WriteFailed) }
+pub fn read_joined<R: Read>(alloc: Global, reader: &mut R) -> Result<Vec<u8>, ReadFault>
+    ensures { IfOk result (λ text. IfSome (R.remaining reader.old) (λ input. text.items ≡ joined_of input)) }
 {
-    Ok(read_up_to(alloc, reader, JOINED_BYTES)?)
+    read_up_to(alloc, reader, JOINED_BYTES)
 }

@@ -8,9 +8,10 @@ mod fault;
 mod inputs;
 mod making;
 
-pub use answer::{Answer, checked};
+pub use answer::checked;
 pub use commands::{erased, listed};
 pub use engines::{Options, engine, engine_joined, write_answer};
-pub use fault::EngineFault;
+pub use fault::{EngineFault, WriteFailed};
 pub use inputs::{read_certificates, read_joined, read_source};
 pub use making::{found, migrated};
+pub use og_answer::Answer;

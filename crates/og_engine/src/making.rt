@@ -1,17 +1,17 @@
 //! The answers of the commands that make certificates.
 
-ghost use Rattle.std.specs.Prelude.{◌≡◌, ◌≤◌, ◌^◌, length, IfOk, IfErr};
-ghost use Rattle.og_engine.specs.Commands.{IsConditionsRefused};
+ghost use Rattle.std.specs.Prelude.{◌≡◌, IfOk, IfErr};
 ghost use Rattle.og_cert_text.specs.Shown.{shown};
 ghost use Rattle.og_cert_text.specs.Text.{file_text};
-ghost use Rattle.og_engine.specs.Making.{TellsWhetherAll, IsFoundText, IsFoundOf, IsFound, IsMigrated};
+ghost use Rattle.og_engine.specs.Making.{TellsWhetherAll, IsFoundText, IsTooMany, IsFoundOf, IsFound, IsMigrated};
 
-use crate::answer::{Answer, of_refusal};
-use crate::fault::EngineFault;
+use og_answer::{Answer, InputFault};
 use og_cert_text::{CertFile, CertTextError, write_certs};
-use og_cond::conditions;
+use og_cond::{ConditionsError, conditions};
 use og_find::{find_all, has_all};
-use og_judge::{Refusal, migrate, read_outline};
+use og_judge::migrate;
+use og_limits::Budget;
+use og_source::Source;
 use og_typed::Outline;
 use std::alloc::{AllocError, Global};
 
@@ -26,29 +26,25 @@ fn of_file(alloc: Global, file: &CertFile, count: u32) -> Result<Answer, AllocEr
 }
 
 // The certificates that are found for the conditions of an outline.
-fn of_search(alloc: Global, outline: &Outline, budget: u64) -> Result<Answer, Refusal>
+fn of_search(alloc: Global, outline: &Outline, budget: Budget) -> Result<Answer, ConditionsError>
     ensures found { IfOk result (IsFoundText outline.now) }
-    ensures refused { IfErr result (IsConditionsRefused outline.now) }
+    ensures refused { IfErr result (IsTooMany outline.now) }
 {
     let conditions = conditions(alloc, outline)?;
-    let file = find_all(alloc, &conditions, budget)?;
+    let file = find_all(alloc, &conditions, budget.facts())?;
     Ok(of_file(alloc, &file, conditions.len() as u32)?)
 }
 
-// The answer for the outline of the source.
-fn found_of(
-    alloc: Global,
-    outline: &Outline,
-    source: &[u8],
-    budget: u64,
-) -> Result<Answer, EngineFault>
-    requires { length source.now ≤ 2 ^ 20 }
-    ensures answer { IfOk result (IsFoundOf outline.now source.now) }
-    ensures fault { IfErr result (λ e. e ≡ EngineFault.Memory) }
+// The answer for the outline of a source.
+fn found_of(alloc: Global, source: &Source, budget: Budget) -> Result<Answer, AllocError>
+    ensures { IfOk result (IsFoundOf source.now.outline source.now.bytes) }
 {
-    match of_search(alloc, outline, budget) {
+    match of_search(alloc, source.outline(), budget) {
         Ok(answer) => Ok(answer),
-        Err(refusal) => of_refusal(alloc, &refusal, source),
+        Err(ConditionsError::Fault(fault)) => {
+            Answer::refused(alloc, &InputFault::Conditions(fault), source.bytes())
+        }
+        Err(ConditionsError::Memory) => Err(AllocError),
     }
 }
 
@@ -58,18 +54,17 @@ fn found_of(
 ///
 /// # Errors
 ///
-/// `Memory` where an allocation was refused.
-pub fn found(alloc: Global, source: &[u8], budget: u64) -> Result<Answer, EngineFault>
-    ensures answer { IfOk result (IsFound source.now) }
-    ensures fault { IfErr result (λ e. e ≡ EngineFault.Memory) }
+/// An allocation was refused.
+pub fn found(alloc: Global, source: &[u8], budget: Budget) -> Result<Answer, AllocError>
+    ensures { IfOk result (IsFound source.now) }
 {
-    match read_outline(alloc, source) {
-        Ok(outline) => {
-            let answer = found_of(alloc, &outline, source, budget);
-            drop(outline);
+    match Source::read(alloc, source) {
+        Ok(source) => {
+            let answer = found_of(alloc, &source, budget);
+            drop(source);
             answer
         }
-        Err(refusal) => of_refusal(alloc, &refusal, source),
+        Err(error) => Answer::unread(alloc, &error, source),
     }
 }
 
@@ -78,14 +73,13 @@ pub fn found(alloc: Global, source: &[u8], budget: u64) -> Result<Answer, Engine
 ///
 /// # Errors
 ///
-/// `Memory` where an allocation was refused.
-pub fn migrated(alloc: Global, certs: &[u8]) -> Result<Answer, EngineFault>
-    ensures answer { IfOk result (IsMigrated certs.now) }
-    ensures fault { IfErr result (λ e. e ≡ EngineFault.Memory) }
+/// An allocation was refused.
+pub fn migrated(alloc: Global, certs: &[u8]) -> Result<Answer, AllocError>
+    ensures { IfOk result (IsMigrated certs.now) }
 {
     match migrate(alloc, certs) {
         Ok(text) => Ok(Answer { text, status: 0 }),
-        Err(CertTextError::Memory) => Err(EngineFault::Memory),
-        Err(CertTextError::Fault(fault)) => of_refusal(alloc, &Refusal::Certs(fault), b""),
+        Err(CertTextError::Memory) => Err(AllocError),
+        Err(CertTextError::Fault(fault)) => Answer::refused(alloc, &InputFault::Certs(fault), b""),
     }
 }

@@ -36,7 +36,7 @@ pub list_assertions : (names : List (List ℕ)) (all : List Formula) → collect
 list_assertions names [] = refl
 list_assertions names (a ∷ all) = ap (tree.more (collected.assertion names a)) (list_assertions names all)
 
--- the next assertion, and those behind it
+-- the next assertion, and those after it
 pub assert_here : (test : FormValue → Bool) (all : List Assert) (i : ℕ) (x : Assert) → i < length all → x ≡ get_or all i x → each_form_in test (formula_list (map formula (drop i all))) ≡ true
     → (each_form test (formula x) ≡ true) × (each_form_in test (formula_list (map formula (drop (i + 1) all))) ≡ true)
 assert_here test all i x h is e =
@@ -70,11 +70,11 @@ or_made names a v all out is same e =
 
 -- ---- statements
 
--- the next element, and those behind it
+-- the next element, and those after it
 pub each_here : {X Y : Type 0} (P : Y → Type 0) (f : X → Y) (all : List X) (i : ℕ) (x : X) → i < length all → x ≡ get_or all i x → AllByRecursion P (map f (drop i all)) → P (f x) × AllByRecursion P (map f (drop (i + 1) all))
 each_here P f all i x h is e = subst (λ l. AllByRecursion P (map f l)) (drop_at all i x h is) e
 
--- the next item, and the sequence behind it
+-- the next item, and the sequence after it
 pub item_here : (n : ℕ) (last : Noted) (all : List Item) (i : ℕ) (x : Item) → i < length all → x ≡ get_or all i x → IsUsableSequence n (sequence_list (map item_of (drop i all)) last)
     → IsUsable n (formula x.before.assertion) × IsUsableStatement n (statement x.stmt) × IsUsableSequence n (sequence_list (map item_of (drop (i + 1) all)) last)
 item_here n last all i x h is e = subst (λ l. IsUsableSequence n (sequence_list (map item_of l) last)) (drop_at all i x h is) e
@@ -102,7 +102,7 @@ items_then-push : (items : List tree.Item) (i : tree.Item) (rest : tree.Seq) →
 items_then-push [] i rest = refl
 items_then-push (j ∷ items) i rest = ap (tree.item j.before j.place j.stmt) (items_then-push items i rest)
 
--- what is made of a sequence, behind the items that are made
+-- what is made of a sequence, after the items that are made
 abbrev pub made_of : List (List ℕ) → List RawItem → List Item → Noted → tree.Seq
 made_of names out all last = tree.items_then (map tree.item_of out) (collected.sequence names (sequence_list (map item_of all) last))
 

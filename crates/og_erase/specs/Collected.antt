@@ -36,7 +36,7 @@ factor n x = if n == 1 then Variable x else Product n x
 abbrev pub number : ℤ → RawTerm
 number c = record { sign = sign c; factor = Number (nat_abs c) }
 
--- the constant behind the terms, unless it is 0 and there are terms
+-- the constant after the terms, unless it is 0 and there are terms
 abbrev pub with_constant : List RawTerm → ℤ → List RawTerm
 with_constant [] c = number c ∷ []
 with_constant (t ∷ ts) c = if nat_abs c == 0 then t ∷ ts else t ∷ ts ++ number c ∷ []

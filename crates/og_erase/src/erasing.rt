@@ -137,7 +137,7 @@ fn processes(alloc: Global, vars: u32, all: &[Seq]) -> Result<Vec<Seq>, AllocErr
     Ok(processes)
 }
 
-// What stands before the processes, the processes, and what stands behind them.
+// What stands before the processes, the processes, and what stands after them.
 #[derive(Drop)]
 struct Main {
     prologue: Option<Seq>,

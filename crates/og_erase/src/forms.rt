@@ -73,7 +73,7 @@ fn number(c: i128) -> RawTerm
     }
 }
 
-// The constant behind the terms, unless it is 0 and there are terms.
+// The constant after the terms, unless it is 0 and there are terms.
 fn with_constant(terms: Vec<RawTerm>, c: i128) -> Result<Vec<RawTerm>, AllocError>
     requires { fits_i64 c ≡ true }
     ensures { IfOk result (λ v. v.items ≡ collected.with_constant terms.items c) }

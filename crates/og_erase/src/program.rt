@@ -83,7 +83,7 @@ fn processes(alloc: Global, names: &[Name], all: &[Seq]) -> Result<RawProcesses,
     }
 }
 
-// What stands before the processes, the processes, and what stands behind them.
+// What stands before the processes, the processes, and what stands after them.
 #[derive(Drop)]
 struct Main {
     prologue: Option<RawSeq>,

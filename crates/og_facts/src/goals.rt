@@ -5,7 +5,7 @@ ghost use Rattle.og_linear.specs.Answer.{IsAnswer};
 ghost use Rattle.og_linear.specs.declared.fault.FormFault.TheVariants as faults;
 ghost use Rattle.og_subst.specs.Subst.{low, high};
 ghost use Rattle.og_cond.specs.Seen.{goal_of};
-ghost use Rattle.og_facts.specs.Answer.{shown, behind};
+ghost use Rattle.og_facts.specs.Answer.{shown, added_to};
 ghost use Rattle.og_facts.specs.Facts.{split};
 ghost use Rattle.og_facts.specs.Walk.{beyond, walk_values, walk_goal};
 
@@ -60,7 +60,7 @@ fn parts_of_values(alloc: Global, values: &[Form]) -> Result<Vec<Vec<Fact>>, For
 // Some value is no i64.
 fn add_values(facts: &mut Vec<Fact>, values: &[Form]) -> Result<(), FormError>
     ensures { IsAnswer (λ _. shown facts.new) faults.TooLarge result
-        (behind (shown facts.old) (option_map split (walk_values values.now))) }
+        (added_to (shown facts.old) (option_map split (walk_values values.now))) }
 {
     if values.len() == 0 {
         return Ok(add_impossible(facts)?);
@@ -80,7 +80,7 @@ pub(crate) fn add_goal(
     goal: &Goal,
 ) -> Result<(), FormError>
     ensures { IsAnswer (λ _. shown facts.new) faults.TooLarge result
-        (behind (shown facts.old) (walk_goal map.now values.now (goal_of goal.now))) }
+        (added_to (shown facts.old) (walk_goal map.now values.now (goal_of goal.now))) }
 {
     match goal {
         Goal::Holds(a) => add_assertion(a, false, Some(map), facts),

@@ -5,7 +5,7 @@ ghost use Rattle.og_linear.specs.Linear.{form_value};
 ghost use Rattle.og_linear.specs.Answer.{IsAnswer, checked};
 ghost use Rattle.og_linear.specs.declared.fault.FormFault.TheVariants as faults;
 ghost use Rattle.og_cond.specs.Seen.{part_of, parts_of, hypothesis_of};
-ghost use Rattle.og_facts.specs.Answer.{shown, behind};
+ghost use Rattle.og_facts.specs.Answer.{shown, added_to};
 ghost use Rattle.og_facts.specs.Facts.{split};
 ghost use Rattle.og_facts.specs.Walk.{walk_part, walk_parts, walk_lists, walk_hypothesis, walk_hypotheses};
 
@@ -18,7 +18,7 @@ use std::alloc::Global;
 
 fn add_part(facts: &mut Vec<Fact>, part: &Part) -> Result<(), FormError>
     ensures { IsAnswer (λ _. shown facts.new) faults.TooLarge result
-        (behind (shown facts.old) (walk_part (part_of part.now))) }
+        (added_to (shown facts.old) (walk_part (part_of part.now))) }
 {
     match part {
         Part::Yes(a) => add_assertion(a, true, None, facts),
@@ -28,7 +28,7 @@ fn add_part(facts: &mut Vec<Fact>, part: &Part) -> Result<(), FormError>
 
 fn add_parts(facts: &mut Vec<Fact>, parts: &[Part]) -> Result<(), FormError>
     ensures { IsAnswer (λ _. shown facts.new) faults.TooLarge result
-        (behind (shown facts.old) (walk_parts (map part_of parts.now))) }
+        (added_to (shown facts.old) (walk_parts (map part_of parts.now))) }
 {
     for part in parts {
         add_part(facts, part)?;
@@ -39,7 +39,7 @@ fn add_parts(facts: &mut Vec<Fact>, parts: &[Part]) -> Result<(), FormError>
 // The facts of one of the lists.
 fn add_lists(facts: &mut Vec<Fact>, lists: &[Vec<Part>]) -> Result<(), FormError>
     ensures { IsAnswer (λ _. shown facts.new) faults.TooLarge result
-        (behind (shown facts.old) (option_map split (walk_lists (map parts_of lists.now)))) }
+        (added_to (shown facts.old) (option_map split (walk_lists (map parts_of lists.now)))) }
 {
     if lists.len() == 0 {
         return Ok(add_impossible(facts)?);
@@ -69,7 +69,7 @@ fn difference(alloc: Global, var: u32, value: i64) -> Result<Form, FormError>
 
 fn add_hypothesis(facts: &mut Vec<Fact>, hypothesis: &Hypothesis) -> Result<(), FormError>
     ensures { IsAnswer (λ _. shown facts.new) faults.TooLarge result
-        (behind (shown facts.old) (walk_hypothesis (hypothesis_of hypothesis.now))) }
+        (added_to (shown facts.old) (walk_hypothesis (hypothesis_of hypothesis.now))) }
 {
     match hypothesis {
         Hypothesis::Is(part) => add_part(facts, part),
@@ -87,7 +87,7 @@ pub(crate) fn add_hypotheses(
     hypotheses: &[Hypothesis],
 ) -> Result<(), FormError>
     ensures { IsAnswer (λ _. shown facts.new) faults.TooLarge result
-        (behind (shown facts.old) (walk_hypotheses (map hypothesis_of hypotheses.now))) }
+        (added_to (shown facts.old) (walk_hypotheses (map hypothesis_of hypotheses.now))) }
 {
     for hypothesis in hypotheses {
         add_hypothesis(facts, hypothesis)?;

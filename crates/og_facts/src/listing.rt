@@ -10,7 +10,7 @@ ghost use Rattle.og_facts.specs.Facts.{exact_facts, most_facts};
 ghost use Rattle.og_facts.specs.Rooms.{IsSize};
 ghost use Rattle.og_facts.specs.Walk.{joined, walk_hypotheses, walk_goal};
 
-use crate::counting::behind_facts;
+use crate::counting::left_after_facts;
 use crate::fact::Fact;
 use crate::fault::{FactsError, FactsFault};
 use crate::goals::add_goal;
@@ -26,7 +26,7 @@ use std::alloc::Global;
 fn size_of(condition: &Condition) -> Option<usize>
     ensures { IsSize (count (seen condition.now)) result }
 {
-    let left = behind_facts(FACT_LIMIT, condition)?;
+    let left = left_after_facts(FACT_LIMIT, condition)?;
     Some(FACT_LIMIT - left)
 }
 

@@ -5,7 +5,7 @@ ghost use Rattle.og_linear.specs.Linear.{form_value};
 ghost use Rattle.og_linear.specs.Arith.{add_scaled};
 ghost use Rattle.og_linear.specs.Answer.{IsAnswer, checked};
 ghost use Rattle.og_linear.specs.declared.fault.FormFault.TheVariants as faults;
-ghost use Rattle.og_facts.specs.Answer.{shown, behind};
+ghost use Rattle.og_facts.specs.Answer.{shown, added_to};
 ghost use Rattle.og_facts.specs.Facts as plain;
 ghost use Rattle.og_facts.specs.Plain.{plain_fact};
 ghost use Rattle.og_facts.specs.Walk.{relation_facts};
@@ -96,7 +96,7 @@ pub(crate) fn add_relation(
     form: &Form,
 ) -> Result<(), FormError>
     ensures { IsAnswer (λ _. shown facts.new) faults.TooLarge result
-        (behind (shown facts.old) (plain.checked_facts (relation_facts relation form.now))) }
+        (added_to (shown facts.old) (plain.checked_facts (relation_facts relation form.now))) }
 {
     let alloc = *facts.allocator();
     match relation {

@@ -5,7 +5,7 @@ ghost use Rattle.og_linear.specs.Answer.{IsAnswer};
 ghost use Rattle.og_linear.specs.declared.fault.FormFault.TheVariants as faults;
 ghost use Rattle.og_typed.specs.Plain.{formula};
 ghost use Rattle.og_typed.specs.Syntax.{formula_list};
-ghost use Rattle.og_facts.specs.Answer.{shown, behind};
+ghost use Rattle.og_facts.specs.Answer.{shown, added_to};
 ghost use Rattle.og_facts.specs.Facts.{impossible, split};
 ghost use Rattle.og_facts.specs.Walk.{walk_relation, walk, walk_all, walk_each};
 
@@ -44,7 +44,7 @@ fn add_moved(
     form: &Form,
 ) -> Result<(), FormError>
     ensures { IsAnswer (λ _. shown facts.new) faults.TooLarge result
-        (behind (shown facts.old) (walk_relation (option_map (λ m. m.now) forms.entry) relation form.now)) }
+        (added_to (shown facts.old) (walk_relation (option_map (λ m. m.now) forms.entry) relation form.now)) }
 {
     match forms {
         Some(map) => add_relation(facts, relation, &form.apply(map)?),
@@ -65,7 +65,7 @@ pub(crate) fn add_assertion(
     facts: &mut Vec<Fact>,
 ) -> Result<(), FormError>
     ensures { IsAnswer (λ _. shown facts.new) faults.TooLarge result
-        (behind (shown facts.old) (walk (option_map (λ m. m.now) forms.entry) is_true (formula a.now))) }
+        (added_to (shown facts.old) (walk (option_map (λ m. m.now) forms.entry) is_true (formula a.now))) }
 {
     match (a, is_true) {
         (Assert::True, true) | (Assert::False, false) => Ok(()),
@@ -105,7 +105,7 @@ fn add_all(
     facts: &mut Vec<Fact>,
 ) -> Result<(), FormError>
     ensures { IsAnswer (λ _. shown facts.new) faults.TooLarge result
-        (behind (shown facts.old)
+        (added_to (shown facts.old)
         (walk_all (option_map (λ m. m.now) forms.entry) is_true (formula_list (map formula all.now)))) }
 {
     for a in all {
@@ -123,7 +123,7 @@ fn add_some(
     facts: &mut Vec<Fact>,
 ) -> Result<(), FormError>
     ensures { IsAnswer (λ _. shown facts.new) faults.TooLarge result
-        (behind (shown facts.old)
+        (added_to (shown facts.old)
         (option_map split (walk_each (option_map (λ m. m.now) forms.entry) is_true (formula_list (map formula all.now))))) }
 {
     if all.len() == 0 {

@@ -1,3 +1,4 @@
+pub mod Symbols
 pub mod Laws
 pub mod More
 pub mod Wider

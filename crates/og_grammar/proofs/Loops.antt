@@ -90,7 +90,7 @@ pub goes_on : {X : Type 0} (test : ℕ → Bool) {each : Reader X} → Shortens 
     → with_front front (many_at test each tokens) ≡ total → with_front (front ++ x ∷ []) (many_at test each mid) ≡ total
 goes_on test {each} on front tokens x mid total goes at_each so_far = sym (regroup front x (many_at test each mid)) ∙ ap (with_front front) (sym (many_step test on tokens x mid goes at_each)) ∙ so_far
 
--- ---- parts behind a symbol
+-- ---- parts after a symbol
 
 pub after_shortens : {X : Type 0} (kind : TokenKind) {each : Reader X} → Onward each → Shortens (after_at kind each)
 after_shortens {X} kind {each} on = record { shortens = λ tokens x rest e. go tokens x rest (symbol_at kind tokens) refl e } where

@@ -64,7 +64,7 @@ Separated kind each = do
   others ← Many (After kind each)
   Gives (first ∷ others)
 
--- a part behind a symbol, which gives Some, or no token, which gives None
+-- a part after a symbol, which gives Some, or no token, which gives None
 abbrev pub IfSymbol : {X : Type 0} → TokenKind → Language X → Language (Option X)
 IfSymbol kind part = Either (After kind part >>= λ x. Gives (Some x)) (Gives None)
 

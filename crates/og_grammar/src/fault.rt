@@ -3,7 +3,6 @@
 ghost use Rattle.std.specs.Prelude.{◌≡◌};
 ghost use Rattle.og_grammar.specs.declared.fault.Refusal.TheVariants.{Memory};
 
-use og_text::Token;
 use std::alloc::{AllocError, AllocFailed};
 
 /// What is wrong at a token.
@@ -15,27 +14,27 @@ pub enum FaultKind {
     TooDeep,
 }
 
-/// Why a part was not read: no memory, or a fault at the first of these tokens, or at their end.
-#[derive(Drop)]
-pub enum Refusal<'a> {
+/// Why a part was not read.
+#[derive(Clone, Copy, Debug, Drop, PartialEq, Eq)]
+pub enum Refusal {
     /// Memory ran out.
     Memory,
-    /// The kind of fault, and the tokens from the one on at which it stands.
-    Fault(FaultKind, &'a [Token]),
+    /// A fault at the token where the cursor was left, or at the tokens' end.
+    Fault(FaultKind),
 }
 
-impl<'a> From<AllocError> for Refusal<'a> {
+impl From<AllocError> for Refusal {
     ghost from_gives = { λ _ e. e ≡ Memory };
 
-    fn from(_e: AllocError) -> Refusal<'a> {
+    fn from(_e: AllocError) -> Refusal {
         Refusal::Memory
     }
 }
 
-impl<'a, T: Drop> From<AllocFailed<T>> for Refusal<'a> {
+impl<T: Drop> From<AllocFailed<T>> for Refusal {
     ghost from_gives = { λ _ e. e ≡ Memory };
 
-    fn from(_e: AllocFailed<T>) -> Refusal<'a> {
+    fn from(_e: AllocFailed<T>) -> Refusal {
         Refusal::Memory
     }
 }

@@ -1,8 +1,8 @@
 //! Languages of tokens, and reading them from left to right with one token of look-ahead.
 #![tactic(auto)]
 
+mod cursor;
 mod fault;
-mod reading;
 
+pub use cursor::Cursor;
 pub use fault::{FaultKind, Refusal};
-pub use reading::{first_span, starts, symbol};

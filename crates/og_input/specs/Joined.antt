@@ -1,4 +1,4 @@
--- A joined input: a source, and behind it certificates, if there are some.
+-- A joined input: a source, and after it certificates, if there are some.
 use Rattle.std.specs.Prelude.{◌≡◌, ◌<◌, ◌-◌, ◌⊎◌, ℕ, Bool, true, false, ◌==◌, ◌&&◌, ◌||◌, List, [], ◌++◌, length, get_or, drop, codes}
 use Rattle.std.specs.List.{starts_with}
 
@@ -11,7 +11,7 @@ begins_with_line text line =
 abbrev pub begins_certs : List ℕ → Bool
 begins_certs text = begins_with_line text (codes "og-cert 1") || begins_with_line text (codes "og-cert 2")
 
--- a line begins at the place: the first one, or one behind an LF
+-- a line begins at the place: the first one, or one after an LF
 abbrev pub begins_line : List ℕ → ℕ → Bool
 begins_line input place = place == 0 || get_or input (place - 1) 0 == 10
 

@@ -20,7 +20,7 @@ use Rattle.og_cert.specs.declared.fault.ReplayFault.{ReplayFault}
 use Rattle.og_pool.specs.Status.{by_fault, by_facts, by_cert, by_condition, status_of}
 use Rattle.og_pool.specs.declared.status.Status.{Status}
 use Rattle.og_judge.specs.declared.entry.Entry.{Entry}
-use Rattle.og_judge.specs.Report.{entry_of, entries_from, is_proved, is_safe, is_there_and_proved, is_unblocked}
+use Rattle.og_judge.specs.Entries.{entry_of, entries_from, is_proved, is_safe, is_there_and_proved, is_unblocked}
 use Rattle.og_judge.specs.Parts.{told_from}
 
 -- each condition's status, at the places from the front

@@ -8,21 +8,21 @@ use Rattle.og_cert_read.specs.Read.{Gives}
 use Rattle.og_cert_read.specs.Shared.{shared_text}
 use Rattle.og_cert_read.specs.Laws.{OneAnswer, GivenIsRead, SharedIsRead, SharedIsShortest}
 use Rattle.og_cert_text.specs.declared.fault.CertTextError.TheVariants as errors
+use Rattle.og_answer.specs.declared.fault.InputFault.{InputFault}
+use Rattle.og_answer.specs.declared.fault.InputFault.TheVariants as faults
 use Rattle.og_judge.specs.declared.entry.Entry.{Entry}
-use Rattle.og_judge.specs.declared.refusal.Refusal.{Refusal}
-use Rattle.og_judge.specs.declared.refusal.Refusal.TheVariants as refusal
-use Rattle.og_judge.specs.Report.{IsReport, IsRefused, IsStray}
+use Rattle.og_judge.specs.Entries.{AreEntries, IsStray}
+use Rattle.og_judge.specs.Report.{IsRefused}
 use Rattle.og_judge.specs.Migrated.{IsMigration, AnswersAs, HasSameAnswers}
 
 same_file : (x y : Entries) → ◌≡◌ {A = Result Entries (LineFault × ℕ)} (Ok x) (Ok y) → x ≡ y
 same_file x y e = cc
 
-reports : (given text : List ℕ) (file : Entries) → OneAnswer → Gives given (Ok file) → Gives text (Ok file)
-    → (source : List ℕ) (o : Program) (entries : List Entry) → IsReport source given o entries → IsReport source text o entries
-reports given text file one g h source o entries r =
+entries : (given text : List ℕ) (file : Entries) → OneAnswer → Gives given (Ok file) → Gives text (Ok file)
+    → (o : Program) (es : List Entry) → AreEntries given o es → AreEntries text o es
+entries given text file one g h o es r =
     let same = same_file file r.file (one given (Ok file) (Ok r.file) g r.read) in
     record {
-      outline = r.outline;
       few = r.few;
       file = r.file;
       read = subst (λ (f : Entries). Gives text (Ok f)) same h;
@@ -31,12 +31,10 @@ reports given text file one g h source o entries r =
     }
 
 stray : (given text : List ℕ) (file : Entries) → OneAnswer → Gives given (Ok file) → Gives text (Ok file)
-    → (source : List ℕ) (n : ℕ) → IsStray source given n → IsStray source text n
-stray given text file one g h source n s =
+    → (o : Program) (n : ℕ) → IsStray given o n → IsStray text o n
+stray given text file one g h o n s =
     let same = same_file file s.file (one given (Ok file) (Ok s.file) g s.read) in
     record {
-      outline = s.outline;
-      is_outline = s.is_outline;
       few = s.few;
       file = s.file;
       read = subst (λ (f : Entries). Gives text (Ok f)) same h;
@@ -47,19 +45,15 @@ stray given text file one g h source n s =
 
 -- a text that gives a file has no fault
 refusals : (given text : List ℕ) (file : Entries) → OneAnswer → GivenIsRead → Gives given (Ok file) → Gives text (Ok file)
-    → (source : List ℕ) (why : Refusal) → IsRefused source given why → IsRefused source text why
-refusals given text file one never g h source (refusal.Lex fault) r = r
-refusals given text file one never g h source (refusal.Parse fault) r = r
-refusals given text file one never g h source (refusal.Resolve fault) r = r
-refusals given text file one never g h source (refusal.Conditions fault) r = r
-refusals given text file one never g h source (refusal.Certs fault) r = absurd (never given file (Err (errors.Fault fault)) g r.3)
-refusals given text file one never g h source (refusal.Stray n) r = stray given text file one g h source n r
-refusals given text file one never g h source refusal.Spawn r = r
-refusals given text file one never g h source refusal.Memory r = r
+    → (source : List ℕ) (why : InputFault) → IsRefused source given why → IsRefused source text why
+refusals given text file one never g h source (faults.Source fault) r = r
+refusals given text file one never g h source (faults.Conditions fault) r = r
+refusals given text file one never g h source (faults.Certs fault) r = absurd (never given file (Err (errors.Fault fault)) g r.2.1)
+refusals given text file one never g h source (faults.Stray n) r = (r.0, r.1, stray given text file one g h r.0 n r.2)
 
 answers : (given text : List ℕ) (file : Entries) → OneAnswer → GivenIsRead → Gives given (Ok file) → Gives text (Ok file) → AnswersAs given text
 answers given text file one never g h = record {
-  reports = reports given text file one g h;
+  reports = λ source o es r. record { outline = r.outline; found = entries given text file one g h o es r.found };
   refusals = refusals given text file one never g h;
 }
 

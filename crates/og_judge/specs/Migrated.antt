@@ -6,8 +6,8 @@ use Rattle.og_cert_text.specs.declared.fault.CertTextError.{CertTextError}
 use Rattle.og_cert_text.specs.declared.fault.CertTextError.TheVariants as errors
 use Rattle.og_cert_read.specs.Read.{Gives, IsWrong}
 use Rattle.og_cert_read.specs.Shared.{shared_text}
+use Rattle.og_answer.specs.declared.fault.InputFault.{InputFault}
 use Rattle.og_judge.specs.declared.entry.Entry.{Entry}
-use Rattle.og_judge.specs.declared.refusal.Refusal.{Refusal}
 use Rattle.og_judge.specs.Report.{IsReport, IsRefused}
 
 -- version 2's text of the file that the given text gives: it gives the same file, and is not longer
@@ -21,7 +21,7 @@ pub record IsMigration (given text : List ℕ) : Type 0 where
 -- each report and each refusal of a source by the one text is one by the other
 pub record AnswersAs (given text : List ℕ) : Type 0 where
   pub reports : (source : List ℕ) (o : Program) (entries : List Entry) → IsReport source given o entries → IsReport source text o entries
-  pub refusals : (source : List ℕ) (why : Refusal) → IsRefused source given why → IsRefused source text why
+  pub refusals : (source : List ℕ) (why : InputFault) → IsRefused source given why → IsRefused source text why
 
 abbrev pub HasSameAnswers : List ℕ → List ℕ → Type 0
 HasSameAnswers given text = AnswersAs given text × AnswersAs text given

@@ -1,7 +1,7 @@
 //! What is found of a condition.
 
 ghost use Rattle.std.specs.Prelude.{◌≡◌};
-ghost use Rattle.og_judge.specs.Report.{is_proved};
+ghost use Rattle.og_judge.specs.Entries.{is_proved};
 
 use og_cond::Kind;
 use og_pool::Status;

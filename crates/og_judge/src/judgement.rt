@@ -1,61 +1,59 @@
-//! What was found of an outline.
+//! An outline with what was found of it.
 
 ghost use Rattle.std.specs.Prelude.{◌≡◌, is_some, IfSome};
-ghost use Rattle.og_judge.specs.Report.{is_safe, is_unblocked};
+ghost use Rattle.og_judge.specs.Entries.{is_safe, is_unblocked};
 
 use crate::entry::Entry;
-use crate::proved::Proved;
-use crate::verdict::Verdict;
+use crate::findings::Findings;
+use og_theorem::Proved;
 use og_typed::Outline;
 
 /// An outline, and what was found of each of its conditions. All readers take no memory.
-#[derive(Debug, Drop)]
+#[derive(Drop)]
 pub struct Judgement {
-    verdict: Verdict,
-    entries: Vec<Entry>,
-    ghost safe: { verdict.safe ≡ is_safe entries.items },
-    ghost unblocked: { verdict.unblocked ≡ is_unblocked entries.items },
+    outline: Outline,
+    findings: Findings,
+    ghost same: { outline ≡ findings.verdict.outline },
 }
 
 impl Judgement {
-    ghost use Rattle.og_judge.specs.Shown.{outline_of, entries_of};
+    ghost use Rattle.og_judge.specs.Shown.{looked_at, found_of, outline_of, entries_of};
 
-    // The judgement of an outline whose conditions have these entries.
-    pub(crate) fn new(verdict: Verdict, entries: Vec<Entry>) -> Judgement
-        requires safe { verdict.safe ≡ is_safe entries.items }
-        requires unblocked { verdict.unblocked ≡ is_unblocked entries.items }
-        ensures outline { outline_of result ≡ verdict.outline }
-        ensures entries { entries_of result ≡ entries.items }
+    // The outline with what was found of it.
+    pub(crate) fn new(outline: Outline, findings: Findings) -> Judgement
+        requires { outline ≡ looked_at findings }
+        ensures outline { outline_of result ≡ outline }
+        ensures entries { entries_of result ≡ found_of findings }
     {
-        Judgement { verdict, entries }
+        Judgement { outline, findings }
     }
 
     /// The outline.
     pub fn outline(&self) -> &Outline
         ensures { result.now ≡ outline_of self.now }
     {
-        self.verdict.outline()
+        &self.outline
     }
 
     /// The conditions in order, each with what was found of it.
     pub fn entries(&self) -> &[Entry]
         ensures { result.now ≡ entries_of self.now }
     {
-        &self.entries
+        self.findings.entries()
     }
 
     /// Whether every condition but the last is proved.
     pub fn safe(&self) -> bool
         ensures { result ≡ is_safe (entries_of self.now) }
     {
-        self.verdict.safe()
+        self.findings.safe()
     }
 
     /// Whether the last condition is proved.
     pub fn unblocked(&self) -> bool
         ensures { result ≡ is_unblocked (entries_of self.now) }
     {
-        self.verdict.unblocked()
+        self.findings.unblocked()
     }
 
     /// The outline as one that is proved, exactly where it is safe.
@@ -63,6 +61,6 @@ impl Judgement {
         ensures safe { is_some result ≡ is_safe (entries_of self.now) }
         ensures proved { IfSome result (λ p. p ≡ (outline_of self.now, is_unblocked (entries_of self.now))) }
     {
-        self.verdict.proved()
+        self.findings.proved(&self.outline)
     }
 }

@@ -1,55 +1,28 @@
 //! From the bytes of a source and of its certificates to a judgement.
 
-ghost use Rattle.std.specs.Prelude.{◌≡◌, ℕ, ◌<◌, ◌≤◌, ◌^◌, length, map, IfOk, IfErr};
-ghost use Rattle.og_cond.specs.Conditions.{conditions as conditions_of};
+ghost use Rattle.std.specs.Prelude.{◌≡◌, ◌<◌, ◌≤◌, ◌^◌, length, map, IfOk, IfErr};
 ghost use Rattle.og_cond.specs.Seen.{seen};
-ghost use Rattle.og_cert_text.specs.Shown.{shown};
-ghost use Rattle.og_judge.specs.Report.{entry_of, IsSource, IsSourceRefused, IsReport, IsRefused, HasNoneAbove, is_safe, is_unblocked};
-ghost use Rattle.og_judge.specs.Parts.{AreEntries, AreListed, AreRefused, IsStrayIn, told_from};
-ghost use Rattle.og_judge.specs.Shown.{outline_of, entries_of};
+ghost use Rattle.og_judge.specs.Entries.{entry_of, AreEntries, AreNotFound, is_safe, is_unblocked};
+ghost use Rattle.og_judge.specs.Report.{IsReport, IsNotJudged};
+ghost use Rattle.og_judge.specs.Parts.{AreListed, told_from};
+ghost use Rattle.og_judge.specs.Shown.{looked_at, found_of, outline_of, entries_of};
 
 use crate::entry::Entry;
+use crate::findings::Findings;
 use crate::judgement::Judgement;
 use crate::refusal::Refusal;
 use crate::verdict::Verdict;
+use og_answer::InputFault;
 use og_cert::replay_laws;
 use og_cert_read::read_certs;
-use og_cert_text::CertFile;
 use og_cond::{Condition, conditions};
-use og_parse::parse;
+use og_limits::Workers;
 use og_pool::{Gate, Status, check_all};
-use og_text::lex;
-use og_typed::{Outline, resolve};
+use og_source::Source;
+use og_typed::Outline;
 use std::alloc::{AllocError, Global};
 use std::sync::Wait;
 use std::thread::Threads;
-
-/// The outline of a source.
-///
-/// # Errors
-///
-/// The first that applies: `Lex` where the source is not cut into tokens, `Parse` where they stand for
-/// no outline, `Resolve` where its names or numbers are not as they must be. `Memory` where an
-/// allocation was refused.
-pub fn read_outline(alloc: Global, source: &[u8]) -> Result<Outline, Refusal>
-    ensures outline { IfOk result (IsSource source.now) }
-    ensures refused { IfErr result (IsSourceRefused source.now) }
-{
-    let tokens = lex(alloc, source)?;
-    let raw = parse(alloc, tokens.as_slice())?;
-    Ok(resolve(alloc, raw)?)
-}
-
-// The least number with a certificate and no condition is refused.
-fn refuse_stray(file: &CertFile, count: u32) -> Result<(), Refusal>
-    ensures none { IfOk result (λ _. HasNoneAbove count (shown file.now)) }
-    ensures stray { IfErr result (IsStrayIn count (shown file.now)) }
-{
-    match file.least_above(count) {
-        Some(n) => Err(Refusal::Stray(n)),
-        None => Ok(()),
-    }
-}
 
 // The entry of a condition.
 fn entry_of(condition: &Condition, status: Status) -> Entry
@@ -93,17 +66,18 @@ fn judge_conditions<G: Gate, R: Threads + Wait + Sync>(
     alloc: Global,
     outline: &Outline,
     certs: &[u8],
-    workers: u32,
+    workers: Workers,
     gate: &G,
 ) -> Result<Vec<Entry>, Refusal>
-    requires { (0 < workers) × (workers ≤ 64) }
     ensures entries { IfOk result (λ v. AreEntries certs.now outline.now v.items) }
-    ensures refused { IfErr result (AreRefused certs.now outline.now) }
+    ensures refused { IfErr result (AreNotFound certs.now outline.now) }
 {
     let conditions = conditions(alloc, outline)?;
     let file = read_certs(alloc, certs)?;
-    refuse_stray(&file, count_of(&conditions))?;
-    let statuses = check_all(rt, alloc, &conditions, &file, workers, gate)?;
+    if let Some(number) = file.least_above(count_of(&conditions)) {
+        return Err(Refusal::Input(InputFault::Stray(number)));
+    }
+    let statuses = check_all(rt, alloc, &conditions, &file, workers.count(), gate)?;
     Ok(listed(alloc, &conditions, &statuses)?)
 }
 
@@ -127,28 +101,51 @@ fn the_last(entries: &[Entry]) -> bool
     }
 }
 
-// The judgement of an outline whose conditions have these entries.
-fn concluded(outline: Outline, entries: Vec<Entry>) -> Judgement
-    requires { AreListed outline entries.items }
-    ensures outline { outline_of result ≡ outline }
-    ensures entries { entries_of result ≡ entries.items }
+// What these entries say of the outline whose conditions have them.
+fn concluded(outline: &Outline, entries: Vec<Entry>) -> Findings
+    requires { AreListed outline.now entries.items }
+    ensures outline { looked_at result ≡ outline.now }
+    ensures entries { found_of result ≡ entries.items }
 {
     replay_laws();
     let safe = all_but_the_last(&entries);
     let unblocked = the_last(&entries);
-    Judgement::new(Verdict::new(outline, safe, unblocked), entries)
+    Findings::new(Verdict::new(outline, safe, unblocked), entries)
 }
 
-/// The judgement of a source by the certificates of a text, found by so many workers. It is the
-/// same for every number of workers.
+/// What is found of an outline by the certificates of a text and by so many workers. It is the same
+/// for every number of workers.
 ///
 /// # Errors
 ///
-/// The first that applies: why the source has no outline (`Lex`, `Parse`, `Resolve`); `Conditions`
-/// where there are more than 4,000,000; `Certs`, why the text of the certificates is not read;
-/// `Stray` with the least number that has a certificate and no condition. `Spawn` where a thread
-/// could not be started, and `Memory` where an allocation was refused, may stand in place of any
-/// answer.
+/// `Input` with the first that applies: `Conditions` where there are more than 4,000,000 conditions;
+/// `Certs`, why the text of the certificates is not read; `Stray` with the least number that has a
+/// certificate and no condition. `Spawn` where a thread could not be started, and `Memory` where an
+/// allocation was refused, may stand in place of any answer.
+pub fn judge_outline<G: Gate, R: Threads + Wait + Sync>(
+    rt: &R,
+    alloc: Global,
+    outline: &Outline,
+    certs: &[u8],
+    workers: Workers,
+    gate: &G,
+) -> Result<Findings, Refusal>
+    ensures outline { IfOk result (λ f. looked_at f ≡ outline.now) }
+    ensures entries { IfOk result (λ f. AreEntries certs.now outline.now (found_of f)) }
+    ensures refused { IfErr result (AreNotFound certs.now outline.now) }
+{
+    let entries = judge_conditions(rt, alloc, outline, certs, workers, gate)?;
+    Ok(concluded(outline, entries))
+}
+
+/// The judgement of a source by the certificates of a text, found by so many workers, from 1 to 64.
+/// It is the same for every number of workers.
+///
+/// # Errors
+///
+/// `Input` with the first that applies: `Source`, why the source has no outline; else as
+/// `judge_outline`. `Spawn` where a thread could not be started, and `Memory` where an allocation
+/// was refused, may stand in place of any answer.
 pub fn judge<G: Gate, R: Threads + Wait + Sync>(
     rt: &R,
     alloc: Global,
@@ -159,13 +156,16 @@ pub fn judge<G: Gate, R: Threads + Wait + Sync>(
 ) -> Result<Judgement, Refusal>
     requires { (0 < workers) × (workers ≤ 64) }
     ensures report { IfOk result (λ j. IsReport source.now certs.now (outline_of j) (entries_of j)) }
-    ensures refused { IfErr result (IsRefused source.now certs.now) }
+    ensures refused { IfErr result (IsNotJudged source.now certs.now) }
 {
-    let outline = read_outline(alloc, source)?;
-    match judge_conditions(rt, alloc, &outline, certs, workers, gate) {
-        Ok(entries) => Ok(concluded(outline, entries)),
+    let Some(workers) = Workers::new(workers) else {
+        unreachable!()
+    };
+    let source = Source::read(alloc, source)?;
+    match judge_outline(rt, alloc, source.outline(), certs, workers, gate) {
+        Ok(findings) => Ok(Judgement::new(source.into_outline(), findings)),
         Err(refusal) => {
-            drop(outline);
+            drop(source);
             Err(refusal)
         }
     }

@@ -1,20 +1,19 @@
-//! The judgement of an outline by certificates, and what it says of every run: the theorem over all
-//! interleavings.
+//! The judgement of an outline by certificates.
 #![tactic(auto)]
 
 mod entry;
+mod findings;
 mod judgement;
 mod judging;
-mod laws;
 mod migration;
-mod proved;
 mod refusal;
 mod verdict;
 
 pub use entry::Entry;
+pub use findings::Findings;
 pub use judgement::Judgement;
-pub use judging::{judge, read_outline};
-pub use laws::{erased_soundness, progress, soundness};
+pub use judging::{judge, judge_outline};
 pub use migration::migrate;
-pub use proved::Proved;
+pub use og_answer::InputFault;
+pub use og_theorem::{Proved, erased_soundness, progress, soundness};
 pub use refusal::Refusal;

@@ -2,40 +2,24 @@
 
 ghost use Rattle.std.specs.Prelude.{◌≡◌};
 ghost use Rattle.og_judge.specs.Names.{number_of_refusal, name_of_refusal};
-ghost use Rattle.og_judge.specs.Refused.{of_lex, of_parse, of_type, of_conditions, of_certs, of_pool};
+ghost use Rattle.og_judge.specs.Errors.{of_source, of_conditions, of_certs, of_pool};
 ghost use Rattle.og_judge.specs.declared.refusal.Refusal.TheVariants.{Memory};
 
-use og_cert_text::{CertTextError, CertTextFault};
-use og_cond::{ConditionsError, TooMany};
-use og_parse::{ParseError, ParseFault};
+use og_answer::InputFault;
+use og_cert_text::CertTextError;
+use og_cond::ConditionsError;
 use og_pool::PoolFault;
-use og_text::{LexError, LexFault};
-use og_typed::{TypeError, TypeFault};
+use og_source::SourceError;
 use std::alloc::{AllocError, AllocFailed};
 use thiserror::Error;
 
-/// Why an outline and its certificates are not judged: the first of these that applies, in this
-/// order. `Spawn` and `Memory` say nothing of the texts.
+/// Why an outline and its certificates are not judged. `Spawn` and `Memory` say nothing of the
+/// texts.
 #[derive(Clone, Copy, Debug, PartialEq, Eq, Error)]
 pub enum Refusal {
-    /// The source is not cut into tokens.
+    /// This is wrong with the source or the certificates.
     #[error(transparent)]
-    Lex(LexFault),
-    /// The tokens stand for no outline.
-    #[error(transparent)]
-    Parse(ParseFault),
-    /// The outline's names or numbers are not as they must be.
-    #[error(transparent)]
-    Resolve(TypeFault),
-    /// There are too many conditions.
-    #[error(transparent)]
-    Conditions(TooMany),
-    /// The text of the certificates is not read.
-    #[error(transparent)]
-    Certs(CertTextFault),
-    /// This number has a certificate and no condition; it is the least such number.
-    #[error("there is no condition {0}")]
-    Stray(u32),
+    Input(InputFault),
     /// A thread could not be started.
     #[error("a thread could not be started")]
     Spawn,
@@ -50,12 +34,7 @@ impl Refusal {
         ensures { result ≡ number_of_refusal self.now }
     {
         match self {
-            Refusal::Lex(fault) => Some(fault.number()),
-            Refusal::Parse(fault) => Some(fault.number()),
-            Refusal::Resolve(fault) => Some(fault.number()),
-            Refusal::Conditions(fault) => Some(fault.number()),
-            Refusal::Certs(fault) => Some(fault.number()),
-            Refusal::Stray(_) => Some(25),
+            Refusal::Input(fault) => Some(fault.number()),
             Refusal::Spawn => Some(40),
             Refusal::Memory => None,
         }
@@ -66,47 +45,20 @@ impl Refusal {
         ensures { result.now ≡ name_of_refusal self.now }
     {
         match self {
-            Refusal::Lex(fault) => fault.name(),
-            Refusal::Parse(fault) => fault.name(),
-            Refusal::Resolve(fault) => fault.name(),
-            Refusal::Conditions(fault) => fault.name(),
-            Refusal::Certs(fault) => fault.name(),
-            Refusal::Stray(_) => "Stray",
+            Refusal::Input(fault) => fault.name(),
             Refusal::Spawn => "Spawn",
             Refusal::Memory => "Memory",
         }
     }
 }
 
-impl From<LexError> for Refusal {
-    ghost from_gives = { λ error refusal. refusal ≡ of_lex error };
+impl From<SourceError> for Refusal {
+    ghost from_gives = { λ error refusal. refusal ≡ of_source error };
 
-    fn from(error: LexError) -> Refusal {
+    fn from(error: SourceError) -> Refusal {
         match error {
-            LexError::Fault(fault) => Refusal::Lex(fault),
-            LexError::Memory => Refusal::Memory,
-        }
-    }
-}
-
-impl From<ParseError> for Refusal {
-    ghost from_gives = { λ error refusal. refusal ≡ of_parse error };
-
-    fn from(error: ParseError) -> Refusal {
-        match error {
-            ParseError::Fault(fault) => Refusal::Parse(fault),
-            ParseError::Memory => Refusal::Memory,
-        }
-    }
-}
-
-impl From<TypeError> for Refusal {
-    ghost from_gives = { λ error refusal. refusal ≡ of_type error };
-
-    fn from(error: TypeError) -> Refusal {
-        match error {
-            TypeError::Fault(fault) => Refusal::Resolve(fault),
-            TypeError::Memory => Refusal::Memory,
+            SourceError::Fault(fault) => Refusal::Input(InputFault::Source(fault)),
+            SourceError::Memory => Refusal::Memory,
         }
     }
 }
@@ -116,7 +68,7 @@ impl From<ConditionsError> for Refusal {
 
     fn from(error: ConditionsError) -> Refusal {
         match error {
-            ConditionsError::Fault(fault) => Refusal::Conditions(fault),
+            ConditionsError::Fault(fault) => Refusal::Input(InputFault::Conditions(fault)),
             ConditionsError::Memory => Refusal::Memory,
         }
     }
@@ -127,7 +79,7 @@ impl From<CertTextError> for Refusal {
 
     fn from(error: CertTextError) -> Refusal {
         match error {
-            CertTextError::Fault(fault) => Refusal::Certs(fault),
+            CertTextError::Fault(fault) => Refusal::Input(InputFault::Certs(fault)),
             CertTextError::Memory => Refusal::Memory,
         }
     }

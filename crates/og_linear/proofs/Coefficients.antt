@@ -113,7 +113,7 @@ coefficient-without f x y = go f.terms
 at_front : (t : ℕ × ℤ) (ts : Terms) → coefficient t.0 (t ∷ ts) ≡ t.1
 at_front t ts = cond-true (t.0 == t.0) _ _ (eq-eqb t.0 t.0 refl)
 
--- behind the first variable
+-- after the first variable
 rest_same : (t u : ℕ × ℤ) (ts us : Terms) (x : ℕ) → t.0 ≡ u.0 → IsTidyFrom (t.0 + 1) ts → IsTidyFrom (u.0 + 1) us → coefficient x (t ∷ ts) ≡ coefficient x (u ∷ us) → coefficient x ts ≡ coefficient x us
 rest_same t u ts us x same h k e = go (x == t.0) refl
   where

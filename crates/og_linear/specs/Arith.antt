@@ -14,7 +14,7 @@ abbrev pub scale_terms : ℤ → Terms → Terms
 scale_terms k [] = []
 scale_terms k (t ∷ ts) = with_term t.0 (k *ℤ t.1) (scale_terms k ts)
 
--- the sum of t and what stands behind it with us, where `rest` is the sum of what stands behind it with another list
+-- the sum of t and what stands after it with us, where `rest` is the sum of what stands after it with another list
 abbrev pub merge_in : ℕ × ℤ → (Terms → Terms) → Terms → Terms
 merge_in t rest [] = t ∷ rest []
 merge_in t rest (u ∷ us) =

@@ -97,12 +97,7 @@ impl Form {
     pub fn mentions(&self, var: u32) -> bool
         ensures { result ≡ is_term var self.now.terms }
     {
-        for t in &self.terms {
-            if var == t.0 {
-                return true;
-            }
-        }
-        false
+        self.terms.iter().any(|t| t.0 == var)
     }
 
     // k times the form.

@@ -16,11 +16,11 @@ tidy_at (u ∷ us) low (suc i) t h e = let k = tidy_at us (u.0 + 1) i t h.2 e in
 pub number_of_term : (ts : Terms) (i : ℕ) (t : ℕ × ℤ) → IsTidy ts → slice_get ts i ≡ Some t → i ≤ t.0
 number_of_term ts i t h e = omega (arith, tidy_at ts 0 i t h e)
 
--- the i-th term, and those behind it
+-- the i-th term, and those after it
 drop_term : (ts : Terms) (i : ℕ) (t : ℕ × ℤ) → slice_get ts i ≡ Some t → drop i ts ≡ t ∷ drop (i + 1) ts
 drop_term ts i t found = drop-cons ts i t (slice_get_within ts i t found) ∙ ap₂ (λ u j. u ∷ drop j ts) (get_or_from_slice_get ts i t t found) (sym (add-one i))
 
--- there are none behind the end
+-- there are none after the end
 pub no_terms_left : (names : List (List ℕ)) (text : List ℕ) (ts : Terms) (i : ℕ) (first : Bool) → slice_get ts i ≡ None → text ≡ text ++ terms_text names first (drop i ts)
 no_terms_left names text ts i first e = left (drop i ts) (gone ts i e)
   where

@@ -38,7 +38,7 @@ name_text (Some name) = name
 abbrev pub factor_text : ℕ → List ℕ
 factor_text n = if n == 1 then [] else decimal n & codes "*"
 
--- the constant behind the terms, unless it is 0 and there are terms
+-- the constant after the terms, unless it is 0 and there are terms
 abbrev pub constant_text : Bool → ℤ → List ℕ
 constant_text first c = if nat_abs c == 0 && not first then [] else sign_text first c & decimal (nat_abs c)
 

@@ -8,14 +8,14 @@ use Rattle.og_text.specs.declared.token.TokenKind.TheVariants as kinds
 use Rattle.og_text.specs.declared.token.Token.{Token}
 use Rattle.og_grammar.specs.Language.{Language, Symbol, One, Gives, Never, Then, Either, Allowed, Many, After, Separated, IfSymbol, WithPlace}
 use Rattle.og_grammar.specs.Reading.{is_a}
-use Rattle.og_parse.specs.Faults.{begins_statement, closes_note, statements_behind}
+use Rattle.og_parse.specs.Faults.{begins_statement, closes_note, statements_after}
 use Rattle.og_parse.specs.Reads.{a_stmt}
 use Rattle.og_parse.proofs.Counts.{closed_after, one_if, statements-append}
 
--- ---- what a part of the tokens counts, entered behind a '}' or not, and whether it leaves behind one
+-- ---- what a part of the tokens counts, entered after a '}' or not, and whether it leaves after one
 
 pub record Counts {X : Type 0} (enter : Bool) (before : ℕ) (is : Language X) (count : X → ℕ) (leave : Bool) : Type 0 where
-  pub counts : (x : X) (front : List Token) → is x front → before + statements_behind enter front ≡ count x
+  pub counts : (x : X) (front : List Token) → is x front → before + statements_after enter front ≡ count x
   pub leaves : (x : X) (front : List Token) → is x front → closed_after enter front ≡ leave
 
 closed-append : (closed : Bool) (front rest : List Token) → closed_after closed (front ++ rest) ≡ closed_after (closed_after closed front) rest
@@ -28,14 +28,14 @@ module _ {A B : Type 0} {is : Language A} {is' : A → Language B} {enter mid le
     counts = λ x front h.
         let one = first.counts h.head h.front h.is_first in
         let two = (second h.head).counts x h.back h.is_second in
-        let whole : statements_behind enter front ≡ statements_behind enter h.front + statements_behind mid h.back = ap (statements_behind enter) h.parts ∙ statements-append enter h.front h.back ∙ ap (λ (c : Bool). statements_behind enter h.front + statements_behind c h.back) (first.leaves h.head h.front h.is_first) in
+        let whole : statements_after enter front ≡ statements_after enter h.front + statements_after mid h.back = ap (statements_after enter) h.parts ∙ statements-append enter h.front h.back ∙ ap (λ (c : Bool). statements_after enter h.front + statements_after c h.back) (first.leaves h.head h.front h.is_first) in
         omega (arith, one, two, whole);
     leaves = λ x front h. ap (closed_after enter) h.parts ∙ closed-append enter h.front h.back ∙ ap (λ (c : Bool). closed_after c h.back) (first.leaves h.head h.front h.is_first) ∙ (second h.head).leaves x h.back h.is_second;
   }
 
 pub gives_counts : {X : Type 0} {count : X → ℕ} (enter : Bool) (before : ℕ) (x : X) → before ≡ count x → Counts enter before (Gives x) count enter
 gives_counts {X} {count} enter before x e = record {
-  counts = λ y front h. ap (λ (z : List Token). before + statements_behind enter z) h.1 ∙ (let zero_more : before + 0 ≡ before = omega arith in zero_more) ∙ e ∙ ap count (sym h.0);
+  counts = λ y front h. ap (λ (z : List Token). before + statements_after enter z) h.1 ∙ (let zero_more : before + 0 ≡ before = omega arith in zero_more) ∙ e ∙ ap count (sym h.0);
   leaves = λ y front h. ap (closed_after enter) h.1;
 }
 
@@ -62,8 +62,8 @@ symbol_closes kind token same = closes_number token.kind ∙ ap (is_a kinds.Clos
 pub symbol_counts : (enter : Bool) (kind : TokenKind) → Counts enter 0 (Symbol kind) (λ at. one_if (enter && begins_statement kind)) (closes_note kind)
 symbol_counts enter kind = record {
   counts = λ at front h.
-      let one : statements_behind enter (h.0 ∷ []) ≡ one_if (enter && begins_statement h.0.kind) = (let plus : one_if (enter && begins_statement h.0.kind) + 0 ≡ one_if (enter && begins_statement h.0.kind) = omega arith in plus) in
-      let whole : statements_behind enter front ≡ one_if (enter && begins_statement kind) = ap (statements_behind enter) h.1 ∙ one ∙ ap (λ (b : Bool). one_if (enter && b)) (symbol_begins kind h.0 h.2) in
+      let one : statements_after enter (h.0 ∷ []) ≡ one_if (enter && begins_statement h.0.kind) = (let plus : one_if (enter && begins_statement h.0.kind) + 0 ≡ one_if (enter && begins_statement h.0.kind) = omega arith in plus) in
+      let whole : statements_after enter front ≡ one_if (enter && begins_statement kind) = ap (statements_after enter) h.1 ∙ one ∙ ap (λ (b : Bool). one_if (enter && b)) (symbol_begins kind h.0 h.2) in
       omega (arith, whole);
   leaves = λ at front h. ap (closed_after enter) h.1 ∙ symbol_closes kind h.0 h.2;
 }
@@ -72,8 +72,8 @@ symbol_counts enter kind = record {
 pub one_counts : {X : Type 0} (enter : Bool) (value : Token → Option X) (begins : Bool) → ((token : Token) (x : X) → value token ≡ Some x → (begins_statement token.kind ≡ begins) × (closes_note token.kind ≡ false)) → Counts enter 0 (One value) (λ x. one_if (enter && begins)) false
 one_counts enter value begins facts = record {
   counts = λ x front h.
-      let one : statements_behind enter (h.0 ∷ []) ≡ one_if (enter && begins_statement h.0.kind) = (let plus : one_if (enter && begins_statement h.0.kind) + 0 ≡ one_if (enter && begins_statement h.0.kind) = omega arith in plus) in
-      let whole : statements_behind enter front ≡ one_if (enter && begins) = ap (statements_behind enter) h.1 ∙ one ∙ ap (λ (b : Bool). one_if (enter && b)) (facts h.0 x h.2).0 in
+      let one : statements_after enter (h.0 ∷ []) ≡ one_if (enter && begins_statement h.0.kind) = (let plus : one_if (enter && begins_statement h.0.kind) + 0 ≡ one_if (enter && begins_statement h.0.kind) = omega arith in plus) in
+      let whole : statements_after enter front ≡ one_if (enter && begins) = ap (statements_after enter) h.1 ∙ one ∙ ap (λ (b : Bool). one_if (enter && b)) (facts h.0 x h.2).0 in
       omega (arith, whole);
   leaves = λ x front h. ap (closed_after enter) h.1 ∙ (facts h.0 x h.2).1;
 }
@@ -110,12 +110,12 @@ many_counts {X} {flag} {count} {is} each = record { counts = counted; leaves = l
   left [] front h = ap (closed_after flag) h
   left (x ∷ xs) front h = ap (closed_after flag) h.2 ∙ closed-append flag h.0 h.1 ∙ ap (λ (c : Bool). closed_after c h.1) (each.leaves x h.0 h.3) ∙ left xs h.1 h.4
 
-  counted : (xs : List X) (front : List Token) → Many is xs front → 0 + statements_behind flag front ≡ sum_by count xs
-  counted [] front h = ap (λ (z : List Token). 0 + statements_behind flag z) h
+  counted : (xs : List X) (front : List Token) → Many is xs front → 0 + statements_after flag front ≡ sum_by count xs
+  counted [] front h = ap (λ (z : List Token). 0 + statements_after flag z) h
   counted (x ∷ xs) front h =
       let one = each.counts x h.0 h.3 in
       let rest = counted xs h.1 h.4 in
-      let whole : statements_behind flag front ≡ statements_behind flag h.0 + statements_behind flag h.1 = ap (statements_behind flag) h.2 ∙ statements-append flag h.0 h.1 ∙ ap (λ (c : Bool). statements_behind flag h.0 + statements_behind c h.1) (each.leaves x h.0 h.3) in
+      let whole : statements_after flag front ≡ statements_after flag h.0 + statements_after flag h.1 = ap (statements_after flag) h.2 ∙ statements-append flag h.0 h.1 ∙ ap (λ (c : Bool). statements_after flag h.0 + statements_after c h.1) (each.leaves x h.0 h.3) in
       omega (arith, one, rest, whole, sum_by-cons count x xs)
 
 -- no statement, and no '}' at the end

@@ -2,7 +2,7 @@
 use Rattle.std.proofs.Common.{◌≡◌, ℕ, suc, ◌+◌, ◌<◌, ◌≤◌, Bool, true, false, cond, ◌&&◌, List, [], ◌∷◌, ◌++◌, length, take, drop, get_or, ◌-◌, refl, sym, ap, ◌∙◌, arith, append_assoc}
 use Rattle.std.proofs.lemmas.List.{take_more, take-append-drop}
 use Rattle.og_text.specs.declared.token.Token.{Token}
-use Rattle.og_parse.specs.Faults.{begins_statement, closes_note, statements_behind, statement_count, last_end, end_place, place_of}
+use Rattle.og_parse.specs.Faults.{begins_statement, closes_note, statements_after, statement_count, last_end, end_place, place_of}
 use Rattle.og_parse.specs.Answers.{IsExcess}
 
 -- whether the last token closes an assertion
@@ -14,7 +14,7 @@ closed_after closed (token ∷ tokens) = closed_after (closes_note token.kind) t
 abbrev pub one_if : Bool → ℕ
 one_if b = cond b 1 0
 
-pub statements-append : (closed : Bool) (front rest : List Token) → statements_behind closed (front ++ rest) ≡ statements_behind closed front + statements_behind (closed_after closed front) rest
+pub statements-append : (closed : Bool) (front rest : List Token) → statements_after closed (front ++ rest) ≡ statements_after closed front + statements_after (closed_after closed front) rest
 statements-append closed [] rest = omega arith
 statements-append closed (t ∷ front) rest =
     omega (arith, statements-append (closes_note t.kind) front rest)

@@ -59,10 +59,10 @@ module _ (n limit : ℕ) (tokens : List Token) (few : statement_count tokens ≤
   too_deep_within (t ∷ after) s =
       (s.front, after, t, comes_to stops.TooDeep (t ∷ after) s, record { goes_on = s.stops.0; too_deep = s.stops.1 }, few_in limit tokens (s.front ++ t ∷ []) after (next_parts tokens s.front after t s.parts) few, refl)
 
-  pub answer_err : (e : Refusal) → Fails e (whole_at (outline_at n) tokens) → IsParsed n limit tokens (Err (error_of tokens e))
-  answer_err refusals.Memory fails = tt
-  answer_err (refusals.Fault stops.Expected rest) fails = expected_within rest.now (whole_fault outline_at IsOutline outline_reads n tokens stops.Expected rest.now fails)
-  answer_err (refusals.Fault stops.TooDeep rest) fails = too_deep_within rest.now (whole_fault outline_at IsOutline outline_reads n tokens stops.TooDeep rest.now fails)
+  pub answer_err : (e : Refusal) (left : List Token) → Fails e left (whole_at (outline_at n) tokens) → IsParsed n limit tokens (Err (error_of tokens e left))
+  answer_err refusals.Memory left fails = tt
+  answer_err (refusals.Fault stops.Expected) left fails = expected_within left (whole_fault outline_at IsOutline outline_reads n tokens stops.Expected left fails)
+  answer_err (refusals.Fault stops.TooDeep) left fails = too_deep_within left (whole_fault outline_at IsOutline outline_reads n tokens stops.TooDeep left fails)
 
   pub answer_ok : (raw : Raw) (rest : List Token) → whole_at (outline_at n) tokens ≡ Ok (tree_of raw, rest) → IsParsed n limit tokens (Ok raw)
   answer_ok raw rest e = (whole_found outline_at IsOutline outline_reads n (tree_of raw) tokens rest e, few)
@@ -144,10 +144,10 @@ module _ (n limit : ℕ) (tokens front : List Token) (span : Span) (x : IsExcess
         )
       ]
 
-  pub excess_err : (e : Refusal) → Fails e (whole_at (outline_at n) front) → IsParsed n limit tokens (Err (excess_error e span))
-  excess_err refusals.Memory fails = tt
-  excess_err (refusals.Fault stops.Expected rest) fails = expected_excess rest.now (whole_fault outline_at IsOutline outline_reads n front stops.Expected rest.now fails)
-  excess_err (refusals.Fault stops.TooDeep rest) fails = too_deep_excess rest.now (whole_fault outline_at IsOutline outline_reads n front stops.TooDeep rest.now fails)
+  pub excess_err : (e : Refusal) (left : List Token) → Fails e left (whole_at (outline_at n) front) → IsParsed n limit tokens (Err (excess_error e left span))
+  excess_err refusals.Memory left fails = tt
+  excess_err (refusals.Fault stops.Expected) left fails = expected_excess left (whole_fault outline_at IsOutline outline_reads n front stops.Expected left fails)
+  excess_err (refusals.Fault stops.TooDeep) left fails = too_deep_excess left (whole_fault outline_at IsOutline outline_reads n front stops.TooDeep left fails)
 
   pub excess_ok : (tree : Outline) (rest : List Token) → whole_at (outline_at n) front ≡ Ok (tree, rest) → IsParsed n limit tokens (Err (errors.Fault (faults.TooManyStatements span)))
   excess_ok tree rest e =

@@ -12,7 +12,7 @@ use Rattle.og_parse.specs.declared.raw.RawStmt.TheViews.{roll-RawItem}
 use Rattle.og_parse.specs.declared.raw.RawStmt.TheFolds.{fold-roll-RawItem}
 use Rattle.og_parse.specs.Trees.{Note, Item, Step, Stmt, Seq, item, sequence, items_then, item_of, note_of, stmt_of, step_of, stmt_step, item_step, seq_step}
 
--- the items so far, the assertion behind them, and what is still read
+-- the items so far, the assertion after them, and what is still read
 abbrev pub with_items : List Item → Note → Outcome (List Step) → Outcome Seq
 with_items items before read = read >>= λ steps. Ok (items_then items (sequence before steps.0), steps.1)
 

@@ -1,4 +1,4 @@
--- How a refusal of a part becomes the error of the whole.
+-- How a refusal of a part, with the tokens that it left, becomes the error of the whole.
 use Rattle.std.specs.Prelude.{◌≡◌, ℕ, ◌<◌, ◌≤◌, List, [], ◌∷◌, ◌++◌}
 use Rattle.og_text.specs.declared.place.Span.{Span}
 use Rattle.og_text.specs.declared.token.Token.{Token}
@@ -10,10 +10,10 @@ use Rattle.og_parse.specs.declared.fault.ParseError.{ParseError}
 use Rattle.og_parse.specs.declared.fault.ParseError.TheVariants as errors
 use Rattle.og_parse.specs.Faults.{statement_count, place_of}
 
-abbrev pub error_of : List Token → Refusal → ParseError
-error_of tokens refusals.Memory = errors.Memory
-error_of tokens (refusals.Fault stops.Expected rest) = errors.Fault (faults.Expected (place_of tokens rest.now))
-error_of tokens (refusals.Fault stops.TooDeep rest) = errors.Fault (faults.TooDeep (place_of tokens rest.now))
+abbrev pub error_of : List Token → Refusal → List Token → ParseError
+error_of tokens refusals.Memory left = errors.Memory
+error_of tokens (refusals.Fault stops.Expected) left = errors.Fault (faults.Expected (place_of tokens left))
+error_of tokens (refusals.Fault stops.TooDeep) left = errors.Fault (faults.TooDeep (place_of tokens left))
 
 -- the front ends with the first token of the first statement above the limit
 pub record IsExcess (limit : ℕ) (tokens front : List Token) (span : Span) : Type 0 where
@@ -36,7 +36,7 @@ too_deep_at [] span = errors.Fault (faults.TooManyStatements span)
 too_deep_at (token ∷ []) span = errors.Fault (faults.TooManyStatements span)
 too_deep_at (token ∷ next ∷ rest) span = errors.Fault (faults.TooDeep token.span)
 
-abbrev pub excess_error : Refusal → Span → ParseError
-excess_error refusals.Memory span = errors.Memory
-excess_error (refusals.Fault stops.Expected rest) span = expected_at rest.now span
-excess_error (refusals.Fault stops.TooDeep rest) span = too_deep_at rest.now span
+abbrev pub excess_error : Refusal → List Token → Span → ParseError
+excess_error refusals.Memory left span = errors.Memory
+excess_error (refusals.Fault stops.Expected) left span = expected_at left span
+excess_error (refusals.Fault stops.TooDeep) left span = too_deep_at left span

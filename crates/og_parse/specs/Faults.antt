@@ -23,7 +23,7 @@ level_limit = 100
 unfoldable pub statement_limit : ℕ
 statement_limit = 4096
 
--- ---- how many statements: each one outside the bodies of awaits begins right behind the '}' of its assertion
+-- ---- how many statements: each one outside the bodies of awaits begins right after the '}' of its assertion
 
 abbrev pub begins_statement : TokenKind → Bool
 begins_statement (kinds.Name bytes) = true
@@ -37,13 +37,13 @@ abbrev pub closes_note : TokenKind → Bool
 closes_note kinds.CloseBrace = true
 closes_note _ = false
 
--- in tokens that stand behind a '}', or don't
-abbrev pub statements_behind : Bool → List Token → ℕ
-statements_behind closed [] = 0
-statements_behind closed (token ∷ tokens) = (if closed && begins_statement token.kind then 1 else 0) + statements_behind (closes_note token.kind) tokens
+-- in tokens that stand after a '}', or don't
+abbrev pub statements_after : Bool → List Token → ℕ
+statements_after closed [] = 0
+statements_after closed (token ∷ tokens) = (if closed && begins_statement token.kind then 1 else 0) + statements_after (closes_note token.kind) tokens
 
 abbrev pub statement_count : List Token → ℕ
-statement_count tokens = statements_behind false tokens
+statement_count tokens = statements_after false tokens
 
 -- ---- the place of a fault: the next token, or the end of the last one
 

@@ -107,7 +107,7 @@ IsImplied assertion left = do
   right ← assertion
   Gives (Implication left right)
 
--- what opens a level: 'not' unit and '(' assert ')'; and '->' assert, behind what stands on its left
+-- what opens a level: 'not' unit and '(' assert ')'; and '->' assert, after what stands on its left
 pub record Openings : Type 1 where
   pub prefix : Language Assertion
   pub implied : Assertion → Language Assertion
@@ -203,7 +203,7 @@ IsAwait n = do
   body ← IsBody
   Gives (Await guard body)
 
--- begin seq end, behind the 'begin'
+-- begin seq end, after the 'begin'
 abbrev pub IsRestOfBlock : Language Seq → Language Seq
 IsRestOfBlock seq = do
   s ← seq
@@ -269,7 +269,7 @@ IsAux = do
   value ← IsInt
   Gives (record { name = name; value = value })
 
--- what stands behind 'var' or 'aux'
+-- what stands after 'var' or 'aux'
 abbrev pub IsListed : {X : Type 0} → Language X → Language (List X)
 IsListed each = do
   all ← Separated kinds.Comma each

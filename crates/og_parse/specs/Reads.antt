@@ -165,7 +165,7 @@ opens (suc n) = record { prefix = prefix_by (opens n); implied = implied_by (ass
 abbrev pub assertion_at : ℕ → Reader Assertion
 assertion_at n = assertion_by (opens n)
 
--- an assertion, and the symbol behind it
+-- an assertion, and the symbol after it
 unfoldable pub test_at : TokenKind → ℕ → Reader Assertion
 test_at kind n tokens = do
   a ← assertion_at n tokens
@@ -233,7 +233,7 @@ block_by seq tokens = do
   begin_at ← symbol_at kinds.Begin tokens
   rest_of_block_by seq begin_at.1
 
--- a test, the word behind it, and a block
+-- a test, the word after it, and a block
 unfoldable pub tested_by : TokenKind → ℕ → Reader Seq → Reader (Assertion × Seq)
 tested_by kind n seq tokens = do
   test ← test_at kind n tokens

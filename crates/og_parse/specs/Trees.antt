@@ -73,7 +73,7 @@ mutual
     While : (test : Assertion) (body : Seq) → Stmt
     Await : (guard : Assertion) (body : List (Placed Basic)) → Stmt
 
-  -- a statement behind its assertion, with its place, and the rest; or the last assertion
+  -- a statement after its assertion, with its place, and the rest; or the last assertion
   pub data Seq : Type 0 where
     item : (before : Note) (place : Span) (stmt : Stmt) (rest : Seq) → Seq
     finish : (last : Note) → Seq

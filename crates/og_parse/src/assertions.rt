@@ -4,13 +4,13 @@ ghost use Rattle.std.specs.Prelude.{◌≡◌, map, IfOk};
 ghost use Rattle.og_text.specs.declared.token.TokenKind.TheVariants.{Arrow};
 ghost use Rattle.og_grammar.specs.Gives.{IsRead};
 ghost use Rattle.og_grammar.specs.Reading.{after_at};
-ghost use Rattle.og_parse.specs.Trees.{Assertion, Implication, assertion_of, note_of, conjunction, disjunction};
+ghost use Rattle.og_parse.specs.Trees.{Implication, assertion_of, note_of, conjunction, disjunction};
 ghost use Rattle.og_parse.specs.Reads.{opens, negation_by, in_parens_by, unit_by, units_by, conjunction_by, conjunctions_by, disjunction_by, assertion_at, test_at, note_at};
 
 use crate::raw::{RawAssert, RawNote};
 use crate::sum::comparison;
-use og_grammar::{FaultKind, Refusal, first_span, starts, symbol};
-use og_text::{Token, TokenKind};
+use og_grammar::{Cursor, FaultKind, Refusal};
+use og_text::TokenKind;
 use std::alloc::{AllocError, Global};
 
 // The conjunction of them all; one alone is itself.
@@ -36,50 +36,37 @@ fn or_of(mut all: Vec<RawAssert>) -> RawAssert
 // What `not` or `(` opens, where `depth` levels are left.
 #[cycle(assertions)]
 #[tactic(auto, unfolding(crate::specs::Reads::prefix_by))]
-fn prefix(alloc: Global, depth: u32, tokens: &[Token]) -> Result<(RawAssert, &[Token]), Refusal<'_>>
-    ensures { IsRead (λ x. (assertion_of x.0, x.1.now)) result ((opens depth).prefix tokens.now) }
+fn prefix(alloc: Global, depth: u32, cursor: &mut Cursor) -> Result<RawAssert, Refusal>
+    ensures { IsRead assertion_of result cursor.new ((opens depth).prefix cursor.old) }
 {
     if depth == 0 {
-        return Err(Refusal::Fault(FaultKind::TooDeep, tokens));
+        return Err(Refusal::Fault(FaultKind::TooDeep));
     }
-    if starts(tokens, &TokenKind::Not) {
-        return negation(alloc, depth - 1, tokens);
+    if cursor.is_at(&TokenKind::Not) {
+        return negation(alloc, depth - 1, cursor);
     }
-    in_parens(alloc, depth - 1, tokens)
+    in_parens(alloc, depth - 1, cursor)
 }
 
 #[cycle(assertions)]
 #[tactic(auto, unfolding(crate::specs::Reads::negation_by))]
-fn negation(
-    alloc: Global,
-    depth: u32,
-    tokens: &[Token],
-) -> Result<(RawAssert, &[Token]), Refusal<'_>>
-    ensures { IsRead (λ x. (assertion_of x.0, x.1.now)) result (negation_by (unit_by (opens depth)) tokens.now) }
+fn negation(alloc: Global, depth: u32, cursor: &mut Cursor) -> Result<RawAssert, Refusal>
+    ensures { IsRead assertion_of result cursor.new (negation_by (unit_by (opens depth)) cursor.old) }
 {
-    let (_, rest) = symbol(tokens, &TokenKind::Not)?;
-    let (a, rest) = unit(alloc, depth, rest)?;
-    Ok((RawAssert::Not(Box::new(alloc, a)?), rest))
+    cursor.expect(&TokenKind::Not)?;
+    let a = unit(alloc, depth, cursor)?;
+    Ok(RawAssert::Not(Box::new(alloc, a)?))
 }
 
 #[cycle(assertions)]
 #[tactic(auto, unfolding(crate::specs::Reads::in_parens_by))]
-fn in_parens(
-    alloc: Global,
-    depth: u32,
-    tokens: &[Token],
-) -> Result<(RawAssert, &[Token]), Refusal<'_>>
-    ensures { IsRead (λ x. (assertion_of x.0, x.1.now)) result (in_parens_by (assertion_at depth) tokens.now) }
+fn in_parens(alloc: Global, depth: u32, cursor: &mut Cursor) -> Result<RawAssert, Refusal>
+    ensures { IsRead assertion_of result cursor.new (in_parens_by (assertion_at depth) cursor.old) }
 {
-    let (_, rest) = symbol(tokens, &TokenKind::OpenParen)?;
-    let (a, rest) = assertion(alloc, depth, rest)?;
-    match symbol(rest, &TokenKind::CloseParen) {
-        Ok((_, rest)) => Ok((a, rest)),
-        Err(refusal) => {
-            drop(a);
-            Err(refusal)
-        }
-    }
+    cursor.expect(&TokenKind::OpenParen)?;
+    let a = assertion(alloc, depth, cursor)?;
+    cursor.expect(&TokenKind::CloseParen)?;
+    Ok(a)
 }
 
 fn implication(alloc: Global, left: RawAssert, right: RawAssert) -> Result<RawAssert, AllocError>
@@ -89,128 +76,90 @@ fn implication(alloc: Global, left: RawAssert, right: RawAssert) -> Result<RawAs
     Ok(RawAssert::Implies(left, Box::new(alloc, right)?))
 }
 
-// The assertion behind a `->`.
+// The assertion after a `->`.
 #[cycle(assertions)]
-fn consequence(
-    alloc: Global,
-    depth: u32,
-    tokens: &[Token],
-) -> Result<(RawAssert, &[Token]), Refusal<'_>>
-    ensures { IsRead (λ x. (assertion_of x.0, x.1.now)) result (after_at Arrow (assertion_at depth) tokens.now) }
+fn consequence(alloc: Global, depth: u32, cursor: &mut Cursor) -> Result<RawAssert, Refusal>
+    ensures { IsRead assertion_of result cursor.new (after_at Arrow (assertion_at depth) cursor.old) }
 {
-    let (_, after) = symbol(tokens, &TokenKind::Arrow)?;
-    assertion(alloc, depth, after)
+    cursor.expect(&TokenKind::Arrow)?;
+    assertion(alloc, depth, cursor)
 }
 
-// What `->` opens behind `left`, where `depth` levels are left.
+// What `->` opens after `left`, where `depth` levels are left.
 #[cycle(assertions)]
 #[tactic(auto, unfolding(crate::specs::Reads::implied_by))]
 fn implied(
     alloc: Global,
     depth: u32,
     left: RawAssert,
-    tokens: &[Token],
-) -> Result<(RawAssert, &[Token]), Refusal<'_>>
-    ensures { IsRead (λ x. (assertion_of x.0, x.1.now)) result ((opens depth).implied (assertion_of left) tokens.now) }
+    cursor: &mut Cursor,
+) -> Result<RawAssert, Refusal>
+    ensures { IsRead assertion_of result cursor.new ((opens depth).implied (assertion_of left) cursor.old) }
 {
     if depth == 0 {
-        drop(left);
-        return Err(Refusal::Fault(FaultKind::TooDeep, tokens));
+        return Err(Refusal::Fault(FaultKind::TooDeep));
     }
-    match consequence(alloc, depth - 1, tokens) {
-        Ok((right, rest)) => Ok((implication(alloc, left, right)?, rest)),
-        Err(refusal) => {
-            drop(left);
-            Err(refusal)
-        }
-    }
+    let right = consequence(alloc, depth - 1, cursor)?;
+    Ok(implication(alloc, left, right)?)
 }
 
 #[cycle(assertions)]
 #[tactic(auto, unfolding(crate::specs::Reads::unit_by, crate::specs::Reads::truth_at, crate::specs::Reads::falsity_at))]
-fn unit(alloc: Global, depth: u32, tokens: &[Token]) -> Result<(RawAssert, &[Token]), Refusal<'_>>
-    ensures { IsRead (λ x. (assertion_of x.0, x.1.now)) result (unit_by (opens depth) tokens.now) }
+fn unit(alloc: Global, depth: u32, cursor: &mut Cursor) -> Result<RawAssert, Refusal>
+    ensures { IsRead assertion_of result cursor.new (unit_by (opens depth) cursor.old) }
 {
-    if starts(tokens, &TokenKind::Not) || starts(tokens, &TokenKind::OpenParen) {
-        return prefix(alloc, depth, tokens);
+    if cursor.is_at(&TokenKind::Not) || cursor.is_at(&TokenKind::OpenParen) {
+        return prefix(alloc, depth, cursor);
     }
-    if starts(tokens, &TokenKind::True) {
-        let (_, rest) = symbol(tokens, &TokenKind::True)?;
-        return Ok((RawAssert::True, rest));
+    if cursor.eat(&TokenKind::True) {
+        return Ok(RawAssert::True);
     }
-    if starts(tokens, &TokenKind::False) {
-        let (_, rest) = symbol(tokens, &TokenKind::False)?;
-        return Ok((RawAssert::False, rest));
+    if cursor.eat(&TokenKind::False) {
+        return Ok(RawAssert::False);
     }
-    comparison(alloc, tokens)
+    comparison(alloc, cursor)
 }
 
 #[cycle(assertions)]
 #[tactic(auto, unfolding(crate::specs::Reads::units_by))]
-fn units(
-    alloc: Global,
-    depth: u32,
-    tokens: &[Token],
-) -> Result<(Vec<RawAssert>, &[Token]), Refusal<'_>>
-    ensures { IsRead (λ x. (map assertion_of x.0.items, x.1.now)) result (units_by (opens depth) tokens.now) }
+fn units(alloc: Global, depth: u32, cursor: &mut Cursor) -> Result<Vec<RawAssert>, Refusal>
+    ensures { IsRead (λ all. map assertion_of all.items) result cursor.new (units_by (opens depth) cursor.old) }
 {
-    let (first, mut rest) = unit(alloc, depth, tokens)?;
     let mut all = Vec::new(alloc);
-    all.push(first)?;
-    'more: while starts(rest, &TokenKind::And) {
-        let (_, after) = symbol(rest, &TokenKind::And)?;
-        let (next, after) = unit(alloc, depth, after)?;
-        all.push(next)?;
-        rest = after;
+    all.push(unit(alloc, depth, cursor)?)?;
+    'more: while cursor.eat(&TokenKind::And) {
+        all.push(unit(alloc, depth, cursor)?)?;
     }
-    Ok((all, rest))
+    Ok(all)
 }
 
 #[cycle(assertions)]
 #[tactic(auto, unfolding(crate::specs::Reads::conjunction_by))]
-fn conjunction(
-    alloc: Global,
-    depth: u32,
-    tokens: &[Token],
-) -> Result<(RawAssert, &[Token]), Refusal<'_>>
-    ensures { IsRead (λ x. (assertion_of x.0, x.1.now)) result (conjunction_by (opens depth) tokens.now) }
+fn conjunction(alloc: Global, depth: u32, cursor: &mut Cursor) -> Result<RawAssert, Refusal>
+    ensures { IsRead assertion_of result cursor.new (conjunction_by (opens depth) cursor.old) }
 {
-    let (all, rest) = units(alloc, depth, tokens)?;
-    Ok((and_of(all), rest))
+    Ok(and_of(units(alloc, depth, cursor)?))
 }
 
 #[cycle(assertions)]
 #[tactic(auto, unfolding(crate::specs::Reads::conjunctions_by))]
-fn conjunctions(
-    alloc: Global,
-    depth: u32,
-    tokens: &[Token],
-) -> Result<(Vec<RawAssert>, &[Token]), Refusal<'_>>
-    ensures { IsRead (λ x. (map assertion_of x.0.items, x.1.now)) result (conjunctions_by (opens depth) tokens.now) }
+fn conjunctions(alloc: Global, depth: u32, cursor: &mut Cursor) -> Result<Vec<RawAssert>, Refusal>
+    ensures { IsRead (λ all. map assertion_of all.items) result cursor.new (conjunctions_by (opens depth) cursor.old) }
 {
-    let (first, mut rest) = conjunction(alloc, depth, tokens)?;
     let mut all = Vec::new(alloc);
-    all.push(first)?;
-    'more: while starts(rest, &TokenKind::Or) {
-        let (_, after) = symbol(rest, &TokenKind::Or)?;
-        let (next, after) = conjunction(alloc, depth, after)?;
-        all.push(next)?;
-        rest = after;
+    all.push(conjunction(alloc, depth, cursor)?)?;
+    'more: while cursor.eat(&TokenKind::Or) {
+        all.push(conjunction(alloc, depth, cursor)?)?;
     }
-    Ok((all, rest))
+    Ok(all)
 }
 
 #[cycle(assertions)]
 #[tactic(auto, unfolding(crate::specs::Reads::disjunction_by))]
-fn disjunction(
-    alloc: Global,
-    depth: u32,
-    tokens: &[Token],
-) -> Result<(RawAssert, &[Token]), Refusal<'_>>
-    ensures { IsRead (λ x. (assertion_of x.0, x.1.now)) result (disjunction_by (opens depth) tokens.now) }
+fn disjunction(alloc: Global, depth: u32, cursor: &mut Cursor) -> Result<RawAssert, Refusal>
+    ensures { IsRead assertion_of result cursor.new (disjunction_by (opens depth) cursor.old) }
 {
-    let (all, rest) = conjunctions(alloc, depth, tokens)?;
-    Ok((or_of(all), rest))
+    Ok(or_of(conjunctions(alloc, depth, cursor)?))
 }
 
 /// Reads an assertion with at most `depth` levels.
@@ -219,48 +168,39 @@ fn disjunction(
 pub(crate) fn assertion(
     alloc: Global,
     depth: u32,
-    tokens: &[Token],
-) -> Result<(RawAssert, &[Token]), Refusal<'_>>
-    ensures { IsRead (λ x. (assertion_of x.0, x.1.now)) result (assertion_at depth tokens.now) }
+    cursor: &mut Cursor,
+) -> Result<RawAssert, Refusal>
+    ensures { IsRead assertion_of result cursor.new (assertion_at depth cursor.old) }
 {
-    let (left, rest) = disjunction(alloc, depth, tokens)?;
-    if starts(rest, &TokenKind::Arrow) {
-        return implied(alloc, depth, left, rest);
+    let left = disjunction(alloc, depth, cursor)?;
+    if cursor.is_at(&TokenKind::Arrow) {
+        return implied(alloc, depth, left, cursor);
     }
-    Ok((left, rest))
+    Ok(left)
 }
 
-/// Reads an assertion and the symbol behind it.
+/// Reads an assertion and the symbol after it.
 #[tactic(auto, unfolding(crate::specs::Reads::test_at))]
-pub(crate) fn test<'a>(
+pub(crate) fn test(
     alloc: Global,
     depth: u32,
-    behind: &TokenKind,
-    tokens: &'a [Token],
-) -> Result<(RawAssert, &'a [Token]), Refusal<'a>>
-    ensures { IsRead (λ x. (assertion_of x.0, x.1.now)) result (test_at behind.now depth tokens.now) }
+    symbol: &TokenKind,
+    cursor: &mut Cursor,
+) -> Result<RawAssert, Refusal>
+    ensures { IsRead assertion_of result cursor.new (test_at symbol.now depth cursor.old) }
 {
-    let (a, rest) = assertion(alloc, depth, tokens)?;
-    match symbol(rest, behind) {
-        Ok((_, rest)) => Ok((a, rest)),
-        Err(refusal) => {
-            drop(a);
-            Err(refusal)
-        }
-    }
+    let a = assertion(alloc, depth, cursor)?;
+    cursor.expect(symbol)?;
+    Ok(a)
 }
 
 /// Reads an assertion in braces.
 #[tactic(auto, unfolding(crate::specs::Reads::note_at, crate::specs::Reads::braced_at))]
-pub(crate) fn note(
-    alloc: Global,
-    depth: u32,
-    tokens: &[Token],
-) -> Result<(RawNote, &[Token]), Refusal<'_>>
-    ensures { IsRead (λ x. (note_of x.0, x.1.now)) result (note_at depth tokens.now) }
+pub(crate) fn note(alloc: Global, depth: u32, cursor: &mut Cursor) -> Result<RawNote, Refusal>
+    ensures { IsRead note_of result cursor.new (note_at depth cursor.old) }
 {
-    let span = first_span(tokens);
-    let (_, rest) = symbol(tokens, &TokenKind::OpenBrace)?;
-    let (assertion, rest) = test(alloc, depth, &TokenKind::CloseBrace, rest)?;
-    Ok((RawNote { assertion, span }, rest))
+    let span = cursor.span();
+    cursor.expect(&TokenKind::OpenBrace)?;
+    let assertion = test(alloc, depth, &TokenKind::CloseBrace, cursor)?;
+    Ok(RawNote { assertion, span })
 }

@@ -3,71 +3,60 @@
 ghost use Rattle.std.specs.Prelude.{◌≡◌, map};
 ghost use Rattle.og_grammar.specs.Gives.{IsRead};
 ghost use Rattle.og_parse.specs.Trees.{basic_of, element_of};
-ghost use Rattle.og_parse.specs.Reads.{basic_at, element_at, separated_elements_at, elements_at, body_at};
+ghost use Rattle.og_parse.specs.Reads.{basic_at, element_at, separated_elements_at, body_at};
 
 use crate::raw::{RawBasic, RawElement};
 use crate::sum::sum;
 use crate::word::name;
-use og_grammar::{Refusal, first_span, starts, symbol};
-use og_text::{Token, TokenKind};
+use og_grammar::{Cursor, Refusal};
+use og_text::TokenKind;
 use std::alloc::Global;
 
 /// Reads a `skip` or an assignment.
 #[tactic(auto, unfolding(crate::specs::Reads::basic_at, crate::specs::Reads::skip_at, crate::specs::Reads::assignment_at))]
-pub(crate) fn basic(alloc: Global, tokens: &[Token]) -> Result<(RawBasic, &[Token]), Refusal<'_>>
-    ensures { IsRead (λ x. (basic_of x.0, x.1.now)) result (basic_at tokens.now) }
+pub(crate) fn basic(alloc: Global, cursor: &mut Cursor) -> Result<RawBasic, Refusal>
+    ensures { IsRead basic_of result cursor.new (basic_at cursor.old) }
 {
-    if starts(tokens, &TokenKind::Skip) {
-        let (_, rest) = symbol(tokens, &TokenKind::Skip)?;
-        return Ok((RawBasic::Skip, rest));
+    if cursor.eat(&TokenKind::Skip) {
+        return Ok(RawBasic::Skip);
     }
-    let (variable, rest) = name(alloc, tokens)?;
-    let (_, rest) = symbol(rest, &TokenKind::Assign)?;
-    let (value, rest) = sum(alloc, rest)?;
-    Ok((RawBasic::Assign(variable, value), rest))
+    let variable = name(alloc, cursor)?;
+    cursor.expect(&TokenKind::Assign)?;
+    Ok(RawBasic::Assign(variable, sum(alloc, cursor)?))
 }
 
 #[tactic(auto, unfolding(crate::specs::Reads::element_at))]
-fn element(alloc: Global, tokens: &[Token]) -> Result<(RawElement, &[Token]), Refusal<'_>>
-    ensures { IsRead (λ x. (element_of x.0, x.1.now)) result (element_at tokens.now) }
+fn element(alloc: Global, cursor: &mut Cursor) -> Result<RawElement, Refusal>
+    ensures { IsRead element_of result cursor.new (element_at cursor.old) }
 {
-    let span = first_span(tokens);
-    let (basic, rest) = basic(alloc, tokens)?;
-    Ok((RawElement { basic, span }, rest))
+    let span = cursor.span();
+    let basic = basic(alloc, cursor)?;
+    Ok(RawElement { basic, span })
 }
 
 #[tactic(auto, unfolding(crate::specs::Reads::separated_elements_at))]
-fn elements(alloc: Global, tokens: &[Token]) -> Result<(Vec<RawElement>, &[Token]), Refusal<'_>>
-    ensures { IsRead (λ x. (map element_of x.0.items, x.1.now)) result (separated_elements_at tokens.now) }
+fn elements(alloc: Global, cursor: &mut Cursor) -> Result<Vec<RawElement>, Refusal>
+    ensures { IsRead (λ all. map element_of all.items) result cursor.new (separated_elements_at cursor.old) }
 {
-    let (first, mut rest) = element(alloc, tokens)?;
     let mut all = Vec::new(alloc);
-    all.push(first)?;
-    'more: while starts(rest, &TokenKind::Semicolon) {
-        let (_, after) = symbol(rest, &TokenKind::Semicolon)?;
-        let (next, after) = element(alloc, after)?;
-        all.push(next)?;
-        rest = after;
+    all.push(element(alloc, cursor)?)?;
+    'more: while cursor.eat(&TokenKind::Semicolon) {
+        all.push(element(alloc, cursor)?)?;
     }
-    Ok((all, rest))
+    Ok(all)
 }
 
 /// Reads the body of an await: one statement, or several between `begin` and `end`.
 #[tactic(auto, unfolding(crate::specs::Reads::body_at, crate::specs::Reads::elements_at))]
-pub(crate) fn body(
-    alloc: Global,
-    tokens: &[Token],
-) -> Result<(Vec<RawElement>, &[Token]), Refusal<'_>>
-    ensures { IsRead (λ x. (map element_of x.0.items, x.1.now)) result (body_at tokens.now) }
+pub(crate) fn body(alloc: Global, cursor: &mut Cursor) -> Result<Vec<RawElement>, Refusal>
+    ensures { IsRead (λ all. map element_of all.items) result cursor.new (body_at cursor.old) }
 {
-    if starts(tokens, &TokenKind::Begin) {
-        let (_, rest) = symbol(tokens, &TokenKind::Begin)?;
-        let (all, rest) = elements(alloc, rest)?;
-        let (_, rest) = symbol(rest, &TokenKind::End)?;
-        return Ok((all, rest));
+    if cursor.eat(&TokenKind::Begin) {
+        let all = elements(alloc, cursor)?;
+        cursor.expect(&TokenKind::End)?;
+        return Ok(all);
     }
-    let (only, rest) = element(alloc, tokens)?;
     let mut all = Vec::new(alloc);
-    all.push(only)?;
-    Ok((all, rest))
+    all.push(element(alloc, cursor)?)?;
+    Ok(all)
 }

@@ -1,9 +1,9 @@
 //! Reading outlines.
 
-ghost use Rattle.std.specs.Prelude.{◌≡◌, true, map, option_map, unwrap_or, []};
-ghost use Rattle.og_text.specs.declared.token.TokenKind.TheVariants.{Var, Aux, Parallel};
+ghost use Rattle.std.specs.Prelude.{◌≡◌, option_map, unwrap_or, []};
+ghost use Rattle.og_text.specs.declared.token.TokenKind.TheVariants.{Var, Aux};
 ghost use Rattle.og_grammar.specs.Gives.{IsRead};
-ghost use Rattle.og_grammar.specs.Reading.{is_a, many_at, after_at, if_symbol_at, whole_at};
+ghost use Rattle.og_grammar.specs.Reading.{if_symbol_at, whole_at};
 ghost use Rattle.og_parse.specs.Trees.{note_of, seq_of, seqs_of, front_of, back_of, joined, tree_of};
 ghost use Rattle.og_parse.specs.Reads.{aux_at, names_at, auxes_at, listed_by, seq_at, main_at, processes_at, declarations_at, opening_at, front_at, cobegin_at, closing_at, back_at, outline_at};
 
@@ -12,8 +12,8 @@ use crate::raw::{Raw, RawAux, RawName, RawNote, RawProcesses, RawSeq};
 use crate::statements::{rest_of_block, sequence};
 use crate::sum::int;
 use crate::word::name;
-use og_grammar::{FaultKind, Refusal, starts, symbol};
-use og_text::{Span, Token, TokenKind};
+use og_grammar::{Cursor, FaultKind, Refusal};
+use og_text::{Span, TokenKind};
 use std::alloc::Global;
 
 // What stands before `cobegin`.
@@ -35,76 +35,63 @@ struct RawBack {
 }
 
 #[tactic(auto, unfolding(crate::specs::Reads::aux_at))]
-fn aux(alloc: Global, tokens: &[Token]) -> Result<(RawAux, &[Token]), Refusal<'_>>
-    ensures { IsRead (λ x. (x.0, x.1.now)) result (aux_at tokens.now) }
+fn aux(alloc: Global, cursor: &mut Cursor) -> Result<RawAux, Refusal>
+    ensures { IsRead (λ aux. aux) result cursor.new (aux_at cursor.old) }
 {
-    let (name, rest) = name(alloc, tokens)?;
-    let (_, rest) = symbol(rest, &TokenKind::Equal)?;
-    let (value, rest) = int(rest)?;
-    Ok((RawAux { name, value }, rest))
+    let name = name(alloc, cursor)?;
+    cursor.expect(&TokenKind::Equal)?;
+    let value = int(cursor)?;
+    Ok(RawAux { name, value })
 }
 
 #[tactic(auto, unfolding(crate::specs::Reads::names_at))]
-fn names(alloc: Global, tokens: &[Token]) -> Result<(Vec<RawName>, &[Token]), Refusal<'_>>
-    ensures { IsRead (λ x. (x.0.items, x.1.now)) result (names_at tokens.now) }
+fn names(alloc: Global, cursor: &mut Cursor) -> Result<Vec<RawName>, Refusal>
+    ensures { IsRead (λ all. all.items) result cursor.new (names_at cursor.old) }
 {
-    let (first, mut rest) = name(alloc, tokens)?;
     let mut all = Vec::new(alloc);
-    all.push(first)?;
-    'more: while starts(rest, &TokenKind::Comma) {
-        let (_, after) = symbol(rest, &TokenKind::Comma)?;
-        let (next, after) = name(alloc, after)?;
-        all.push(next)?;
-        rest = after;
+    all.push(name(alloc, cursor)?)?;
+    'more: while cursor.eat(&TokenKind::Comma) {
+        all.push(name(alloc, cursor)?)?;
     }
-    Ok((all, rest))
+    Ok(all)
 }
 
 #[tactic(auto, unfolding(crate::specs::Reads::auxes_at))]
-fn auxes(alloc: Global, tokens: &[Token]) -> Result<(Vec<RawAux>, &[Token]), Refusal<'_>>
-    ensures { IsRead (λ x. (x.0.items, x.1.now)) result (auxes_at tokens.now) }
+fn auxes(alloc: Global, cursor: &mut Cursor) -> Result<Vec<RawAux>, Refusal>
+    ensures { IsRead (λ all. all.items) result cursor.new (auxes_at cursor.old) }
 {
-    let (first, mut rest) = aux(alloc, tokens)?;
     let mut all = Vec::new(alloc);
-    all.push(first)?;
-    'more: while starts(rest, &TokenKind::Comma) {
-        let (_, after) = symbol(rest, &TokenKind::Comma)?;
-        let (next, after) = aux(alloc, after)?;
-        all.push(next)?;
-        rest = after;
+    all.push(aux(alloc, cursor)?)?;
+    'more: while cursor.eat(&TokenKind::Comma) {
+        all.push(aux(alloc, cursor)?)?;
     }
-    Ok((all, rest))
+    Ok(all)
 }
 
 // The variables after `var`, if there is one.
 #[tactic(auto, unfolding(crate::specs::Reads::listed_by))]
-fn var_part(
-    alloc: Global,
-    tokens: &[Token],
-) -> Result<(Option<Vec<RawName>>, &[Token]), Refusal<'_>>
-    ensures { IsRead (λ x. (option_map (λ v. v.items) x.0, x.1.now)) result (if_symbol_at Var (listed_by names_at) tokens.now) }
+fn var_part(alloc: Global, cursor: &mut Cursor) -> Result<Option<Vec<RawName>>, Refusal>
+    ensures { IsRead (option_map (λ all. all.items)) result cursor.new (if_symbol_at Var (listed_by names_at) cursor.old) }
 {
-    if starts(tokens, &TokenKind::Var) {
-        let (_, rest) = symbol(tokens, &TokenKind::Var)?;
-        let (all, rest) = names(alloc, rest)?;
-        let (_, rest) = symbol(rest, &TokenKind::Semicolon)?;
-        return Ok((Some(all), rest));
+    if !cursor.eat(&TokenKind::Var) {
+        return Ok(None);
     }
-    Ok((None, tokens))
+    let all = names(alloc, cursor)?;
+    cursor.expect(&TokenKind::Semicolon)?;
+    Ok(Some(all))
 }
 
 // The variables after `aux`, if there is one.
 #[tactic(auto, unfolding(crate::specs::Reads::listed_by))]
-fn aux_part(alloc: Global, tokens: &[Token]) -> Result<(Option<Vec<RawAux>>, &[Token]), Refusal<'_>>
-    ensures { IsRead (λ x. (option_map (λ v. v.items) x.0, x.1.now)) result (if_symbol_at Aux (listed_by auxes_at) tokens.now) }
+fn aux_part(alloc: Global, cursor: &mut Cursor) -> Result<Option<Vec<RawAux>>, Refusal>
+    ensures { IsRead (option_map (λ all. all.items)) result cursor.new (if_symbol_at Aux (listed_by auxes_at) cursor.old) }
 {
-    if starts(tokens, &TokenKind::Aux) {
-        let (_, rest) = symbol(tokens, &TokenKind::Aux)?;
-        let (all, rest) = auxes(alloc, rest)?;
-        let (_, rest) = symbol(rest, &TokenKind::Semicolon)?;
-        return Ok((Some(all), rest));
+    if !cursor.eat(&TokenKind::Aux) {
+        return Ok(None);
     }
-    Ok((None, tokens))
+    let all = auxes(alloc, cursor)?;
+    cursor.expect(&TokenKind::Semicolon)?;
+    Ok(Some(all))
 }
 
 // The list, or an empty one.
@@ -119,82 +106,35 @@ fn or_empty<T: Drop>(alloc: Global, list: Option<Vec<T>>) -> Vec<T>
 
 // The statements between `begin` and `end`, before or after the processes, if there are some.
 #[tactic(auto, unfolding(crate::specs::Reads::main_at))]
-fn main_part(
-    alloc: Global,
-    levels: u32,
-    tokens: &[Token],
-) -> Result<(Option<RawSeq>, &[Token]), Refusal<'_>>
-    ensures { IsRead (λ x. (option_map seq_of x.0, x.1.now)) result (main_at levels tokens.now) }
+fn main_part(alloc: Global, levels: u32, cursor: &mut Cursor) -> Result<Option<RawSeq>, Refusal>
+    ensures { IsRead (option_map seq_of) result cursor.new (main_at levels cursor.old) }
 {
-    if starts(tokens, &TokenKind::Begin) {
-        let (_, rest) = symbol(tokens, &TokenKind::Begin)?;
-        let (all, rest) = rest_of_block(alloc, levels, false, levels, rest)?;
-        return Ok((Some(all), rest));
+    if cursor.eat(&TokenKind::Begin) {
+        return Ok(Some(rest_of_block(alloc, levels, false, levels, cursor)?));
     }
-    Ok((None, tokens))
-}
-
-// The process behind a `//`.
-fn next_process(
-    alloc: Global,
-    levels: u32,
-    tokens: &[Token],
-) -> Result<(RawSeq, &[Token]), Refusal<'_>>
-    ensures { IsRead (λ x. (seq_of x.0, x.1.now)) result (after_at Parallel (seq_at levels true levels) tokens.now) }
-{
-    let (_, rest) = symbol(tokens, &TokenKind::Parallel)?;
-    sequence(alloc, levels, true, levels, rest)
-}
-
-// The processes behind the first one.
-fn other_processes(
-    alloc: Global,
-    levels: u32,
-    tokens: &[Token],
-) -> Result<(Vec<RawSeq>, &[Token]), Refusal<'_>>
-    ensures { IsRead (λ x. (map seq_of x.0.items, x.1.now)) result (many_at (is_a Parallel) (after_at Parallel (seq_at levels true levels)) tokens.now) }
-{
-    let mut others = Vec::new(alloc);
-    let mut rest = tokens;
-    'more: while starts(rest, &TokenKind::Parallel) {
-        let (next, after) = next_process(alloc, levels, rest)?;
-        others.push(next)?;
-        rest = after;
-    }
-    Ok((others, rest))
+    Ok(None)
 }
 
 #[tactic(auto, unfolding(crate::specs::Reads::processes_at))]
-fn processes(
-    alloc: Global,
-    levels: u32,
-    tokens: &[Token],
-) -> Result<(RawProcesses, &[Token]), Refusal<'_>>
-    ensures { IsRead (λ x. (seqs_of x.0, x.1.now)) result (processes_at levels tokens.now) }
+fn processes(alloc: Global, levels: u32, cursor: &mut Cursor) -> Result<RawProcesses, Refusal>
+    ensures { IsRead seqs_of result cursor.new (processes_at levels cursor.old) }
 {
-    let (first, rest) = sequence(alloc, levels, true, levels, tokens)?;
-    match other_processes(alloc, levels, rest) {
-        Ok((others, rest)) => Ok((RawProcesses { first, others }, rest)),
-        Err(refusal) => {
-            drop(first);
-            Err(refusal)
-        }
+    let first = sequence(alloc, levels, true, levels, cursor)?;
+    let mut others = Vec::new(alloc);
+    'more: while cursor.eat(&TokenKind::Parallel) {
+        others.push(sequence(alloc, levels, true, levels, cursor)?)?;
     }
+    Ok(RawProcesses { first, others })
 }
 
 // What is declared.
 #[tactic(auto, unfolding(crate::specs::Reads::declarations_at))]
-fn declarations(
-    alloc: Global,
-    tokens: &[Token],
-) -> Result<((Vec<RawName>, Vec<RawAux>), &[Token]), Refusal<'_>>
-    ensures { IsRead (λ x. ((x.0.0.items, x.0.1.items), x.1.now)) result (declarations_at tokens.now) }
+fn declarations(alloc: Global, cursor: &mut Cursor) -> Result<(Vec<RawName>, Vec<RawAux>), Refusal>
+    ensures { IsRead (λ x. (x.0.items, x.1.items)) result cursor.new (declarations_at cursor.old) }
 {
-    let (vars, rest) = var_part(alloc, tokens)?;
-    let vars = or_empty(alloc, vars);
-    let (auxes, rest) = aux_part(alloc, rest)?;
-    let auxes = or_empty(alloc, auxes);
-    Ok(((vars, auxes), rest))
+    let vars = or_empty(alloc, var_part(alloc, cursor)?);
+    let auxes = or_empty(alloc, aux_part(alloc, cursor)?);
+    Ok((vars, auxes))
 }
 
 // The assertion and the statements before the processes.
@@ -202,101 +142,66 @@ fn declarations(
 fn opening(
     alloc: Global,
     levels: u32,
-    tokens: &[Token],
-) -> Result<((RawNote, Option<RawSeq>), &[Token]), Refusal<'_>>
-    ensures { IsRead (λ x. ((note_of x.0.0, option_map seq_of x.0.1), x.1.now)) result (opening_at levels tokens.now) }
+    cursor: &mut Cursor,
+) -> Result<(RawNote, Option<RawSeq>), Refusal>
+    ensures { IsRead (λ x. (note_of x.0, option_map seq_of x.1)) result cursor.new (opening_at levels cursor.old) }
 {
-    let (pre, rest) = note(alloc, levels, tokens)?;
-    match main_part(alloc, levels, rest) {
-        Ok((prologue, rest)) => Ok(((pre, prologue), rest)),
-        Err(refusal) => {
-            drop(pre);
-            Err(refusal)
-        }
-    }
+    let pre = note(alloc, levels, cursor)?;
+    let prologue = main_part(alloc, levels, cursor)?;
+    Ok((pre, prologue))
 }
 
 #[tactic(auto, unfolding(crate::specs::Reads::front_at))]
-fn front(alloc: Global, levels: u32, tokens: &[Token]) -> Result<(RawFront, &[Token]), Refusal<'_>>
-    ensures { IsRead (λ x. (front_of x.0, x.1.now)) result (front_at levels tokens.now) }
+fn front(alloc: Global, levels: u32, cursor: &mut Cursor) -> Result<RawFront, Refusal>
+    ensures { IsRead front_of result cursor.new (front_at levels cursor.old) }
 {
-    let (declared, rest) = declarations(alloc, tokens)?;
-    match opening(alloc, levels, rest) {
-        Ok(((pre, prologue), rest)) => Ok((
-            RawFront {
-                vars: declared.0,
-                auxes: declared.1,
-                pre,
-                prologue,
-            },
-            rest,
-        )),
-        Err(refusal) => {
-            drop(declared);
-            Err(refusal)
-        }
-    }
+    let (vars, auxes) = declarations(alloc, cursor)?;
+    let (pre, prologue) = opening(alloc, levels, cursor)?;
+    Ok(RawFront {
+        vars,
+        auxes,
+        pre,
+        prologue,
+    })
 }
 
 // The place of `cobegin`, and the processes up to `coend`.
 #[tactic(auto, unfolding(crate::specs::Reads::cobegin_at))]
-fn cobegin(
-    alloc: Global,
-    levels: u32,
-    tokens: &[Token],
-) -> Result<((Span, RawProcesses), &[Token]), Refusal<'_>>
-    ensures { IsRead (λ x. ((x.0.0, seqs_of x.0.1), x.1.now)) result (cobegin_at levels tokens.now) }
+fn cobegin(alloc: Global, levels: u32, cursor: &mut Cursor) -> Result<(Span, RawProcesses), Refusal>
+    ensures { IsRead (λ x. (x.0, seqs_of x.1)) result cursor.new (cobegin_at levels cursor.old) }
 {
-    let (cobegin, rest) = symbol(tokens, &TokenKind::Cobegin)?;
-    let (processes, rest) = processes(alloc, levels, rest)?;
-    match symbol(rest, &TokenKind::Coend) {
-        Ok((_, rest)) => Ok(((cobegin, processes), rest)),
-        Err(refusal) => {
-            drop(processes);
-            Err(refusal)
-        }
-    }
+    let cobegin = cursor.expect(&TokenKind::Cobegin)?;
+    let processes = processes(alloc, levels, cursor)?;
+    cursor.expect(&TokenKind::Coend)?;
+    Ok((cobegin, processes))
 }
 
-// The statements and the assertion behind the processes.
+// The statements and the assertion after the processes.
 #[tactic(auto, unfolding(crate::specs::Reads::closing_at))]
 fn closing(
     alloc: Global,
     levels: u32,
-    tokens: &[Token],
-) -> Result<((Option<RawSeq>, RawNote), &[Token]), Refusal<'_>>
-    ensures { IsRead (λ x. ((option_map seq_of x.0.0, note_of x.0.1), x.1.now)) result (closing_at levels tokens.now) }
+    cursor: &mut Cursor,
+) -> Result<(Option<RawSeq>, RawNote), Refusal>
+    ensures { IsRead (λ x. (option_map seq_of x.0, note_of x.1)) result cursor.new (closing_at levels cursor.old) }
 {
-    let (epilogue, rest) = main_part(alloc, levels, tokens)?;
-    match note(alloc, levels, rest) {
-        Ok((post, rest)) => Ok(((epilogue, post), rest)),
-        Err(refusal) => {
-            drop(epilogue);
-            Err(refusal)
-        }
-    }
+    let epilogue = main_part(alloc, levels, cursor)?;
+    let post = note(alloc, levels, cursor)?;
+    Ok((epilogue, post))
 }
 
 #[tactic(auto, unfolding(crate::specs::Reads::back_at))]
-fn back(alloc: Global, levels: u32, tokens: &[Token]) -> Result<(RawBack, &[Token]), Refusal<'_>>
-    ensures { IsRead (λ x. (back_of x.0, x.1.now)) result (back_at levels tokens.now) }
+fn back(alloc: Global, levels: u32, cursor: &mut Cursor) -> Result<RawBack, Refusal>
+    ensures { IsRead back_of result cursor.new (back_at levels cursor.old) }
 {
-    let (middle, rest) = cobegin(alloc, levels, tokens)?;
-    match closing(alloc, levels, rest) {
-        Ok(((epilogue, post), rest)) => Ok((
-            RawBack {
-                cobegin: middle.0,
-                processes: middle.1,
-                epilogue,
-                post,
-            },
-            rest,
-        )),
-        Err(refusal) => {
-            drop(middle);
-            Err(refusal)
-        }
-    }
+    let (cobegin, processes) = cobegin(alloc, levels, cursor)?;
+    let (epilogue, post) = closing(alloc, levels, cursor)?;
+    Ok(RawBack {
+        cobegin,
+        processes,
+        epilogue,
+        post,
+    })
 }
 
 fn joined(front: RawFront, back: RawBack) -> Raw
@@ -315,34 +220,22 @@ fn joined(front: RawFront, back: RawBack) -> Raw
 }
 
 #[tactic(auto, unfolding(crate::specs::Reads::outline_at))]
-fn outline(alloc: Global, levels: u32, tokens: &[Token]) -> Result<(Raw, &[Token]), Refusal<'_>>
-    ensures { IsRead (λ x. (tree_of x.0, x.1.now)) result (outline_at levels tokens.now) }
+fn outline(alloc: Global, levels: u32, cursor: &mut Cursor) -> Result<Raw, Refusal>
+    ensures { IsRead tree_of result cursor.new (outline_at levels cursor.old) }
 {
-    let (front, rest) = front(alloc, levels, tokens)?;
-    match back(alloc, levels, rest) {
-        Ok((back, rest)) => Ok((joined(front, back), rest)),
-        Err(refusal) => {
-            drop(front);
-            Err(refusal)
-        }
-    }
+    let front = front(alloc, levels, cursor)?;
+    let back = back(alloc, levels, cursor)?;
+    Ok(joined(front, back))
 }
 
 /// Reads all of the tokens as an outline, with at most `levels` levels of assertions and of
 /// statements.
-pub(crate) fn whole(
-    alloc: Global,
-    levels: u32,
-    tokens: &[Token],
-) -> Result<(Raw, &[Token]), Refusal<'_>>
-    ensures { IsRead (λ x. (tree_of x.0, x.1.now)) result (whole_at (outline_at levels) tokens.now) }
+pub(crate) fn whole(alloc: Global, levels: u32, cursor: &mut Cursor) -> Result<Raw, Refusal>
+    ensures { IsRead tree_of result cursor.new (whole_at (outline_at levels) cursor.old) }
 {
-    let (raw, rest) = outline(alloc, levels, tokens)?;
-    match rest {
-        [] => Ok((raw, rest)),
-        [_, ..] => {
-            drop(raw);
-            Err(Refusal::Fault(FaultKind::Expected, rest))
-        }
+    let raw = outline(alloc, levels, cursor)?;
+    match cursor.peek() {
+        None => Ok(raw),
+        Some(_) => Err(Refusal::Fault(FaultKind::Expected)),
     }
 }

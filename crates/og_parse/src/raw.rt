@@ -30,7 +30,7 @@ pub struct Raw {
 #[derive(Debug, Drop)]
 pub struct RawProcesses {
     pub first: RawSeq,
-    /// Those behind a `//`.
+    /// Those after a `//`.
     pub others: Vec<RawSeq>,
 }
 
@@ -145,7 +145,7 @@ pub enum RawStmt {
     Await(RawAssert, Vec<RawElement>),
 }
 
-/// A statement behind the assertion before it. The span is that of the statement's first token.
+/// A statement after the assertion before it. The span is that of the statement's first token.
 #[cycle(sequence)]
 #[derive(Debug, Drop)]
 pub struct RawItem {

@@ -10,11 +10,11 @@ ghost use Rattle.og_parse.specs.Reads.{a_stmt, await_at, rest_of_block_by, block
 use crate::assertions::{note, test};
 use crate::basic::{basic, body};
 use crate::raw::{RawAssert, RawItem, RawNote, RawSeq, RawStmt};
-use og_grammar::{FaultKind, Refusal, first_span, starts, symbol};
-use og_text::{Span, Token, TokenKind};
+use og_grammar::{Cursor, FaultKind, Refusal};
+use og_text::{Span, TokenKind};
 use std::alloc::Global;
 
-// A statement with its place, and the assertion behind it.
+// A statement with its place, and the assertion after it.
 #[derive(Drop)]
 struct RawStep {
     stmt: RawStmt,
@@ -22,82 +22,65 @@ struct RawStep {
     after: RawNote,
 }
 
-// Whether the first token begins a statement.
-fn starts_stmt(tokens: &[Token]) -> bool
-    ensures { result ≡ starts a_stmt tokens.now }
+// Whether the next token begins a statement.
+fn is_at_stmt(cursor: &Cursor) -> bool
+    ensures { result ≡ starts a_stmt cursor.now }
 {
-    match tokens {
-        [] => false,
-        [token, ..] => matches!(
-            token.kind,
+    matches!(
+        cursor.peek(),
+        Some(
             TokenKind::Name(_)
                 | TokenKind::Skip
                 | TokenKind::If
                 | TokenKind::While
                 | TokenKind::Await
-        ),
-    }
+        )
+    )
 }
 
 #[tactic(auto, unfolding(crate::specs::Reads::await_at))]
-fn await_stmt(
-    alloc: Global,
-    levels: u32,
-    tokens: &[Token],
-) -> Result<(RawStmt, &[Token]), Refusal<'_>>
-    ensures { IsRead (λ x. (stmt_of x.0, x.1.now)) result (await_at levels tokens.now) }
+fn await_stmt(alloc: Global, levels: u32, cursor: &mut Cursor) -> Result<RawStmt, Refusal>
+    ensures { IsRead stmt_of result cursor.new (await_at levels cursor.old) }
 {
-    let (_, rest) = symbol(tokens, &TokenKind::Await)?;
-    let (guard, rest) = test(alloc, levels, &TokenKind::Then, rest)?;
-    match body(alloc, rest) {
-        Ok((body, rest)) => Ok((RawStmt::Await(guard, body), rest)),
-        Err(refusal) => {
-            drop(guard);
-            Err(refusal)
-        }
-    }
+    cursor.expect(&TokenKind::Await)?;
+    let guard = test(alloc, levels, &TokenKind::Then, cursor)?;
+    let body = body(alloc, cursor)?;
+    Ok(RawStmt::Await(guard, body))
 }
 
-// A test, the word behind it, and a block.
+// A test, the word after it, and a block.
 #[cycle(statements)]
 #[tactic(auto, unfolding(crate::specs::Reads::tested_by))]
-fn tested<'a>(
+fn tested(
     alloc: Global,
     levels: u32,
     awaits: bool,
     depth: u32,
-    behind: &TokenKind,
-    tokens: &'a [Token],
-) -> Result<((RawAssert, RawSeq), &'a [Token]), Refusal<'a>>
-    ensures { IsRead (λ x. ((assertion_of x.0.0, seq_of x.0.1), x.1.now)) result (tested_by behind.now levels (seq_at levels awaits depth) tokens.now) }
+    symbol: &TokenKind,
+    cursor: &mut Cursor,
+) -> Result<(RawAssert, RawSeq), Refusal>
+    ensures { IsRead (λ x. (assertion_of x.0, seq_of x.1)) result cursor.new (tested_by symbol.now levels (seq_at levels awaits depth) cursor.old) }
 {
-    let (test, rest) = test(alloc, levels, behind, tokens)?;
-    match block(alloc, levels, awaits, depth, rest) {
-        Ok((all, rest)) => Ok(((test, all), rest)),
-        Err(refusal) => {
-            drop(test);
-            Err(refusal)
-        }
-    }
+    let test = test(alloc, levels, symbol, cursor)?;
+    let all = block(alloc, levels, awaits, depth, cursor)?;
+    Ok((test, all))
 }
 
-// The block behind `else`, if there is one.
+// The block after `else`, if there is one.
 #[cycle(statements)]
 fn else_part(
     alloc: Global,
     levels: u32,
     awaits: bool,
     depth: u32,
-    tokens: &[Token],
-) -> Result<(Option<RawSeq>, &[Token]), Refusal<'_>>
-    ensures { IsRead (λ x. (option_map seq_of x.0, x.1.now)) result (if_symbol_at Else (block_by (seq_at levels awaits depth)) tokens.now) }
+    cursor: &mut Cursor,
+) -> Result<Option<RawSeq>, Refusal>
+    ensures { IsRead (option_map seq_of) result cursor.new (if_symbol_at Else (block_by (seq_at levels awaits depth)) cursor.old) }
 {
-    if starts(tokens, &TokenKind::Else) {
-        let (_, rest) = symbol(tokens, &TokenKind::Else)?;
-        let (other, rest) = block(alloc, levels, awaits, depth, rest)?;
-        return Ok((Some(other), rest));
+    if cursor.eat(&TokenKind::Else) {
+        return Ok(Some(block(alloc, levels, awaits, depth, cursor)?));
     }
-    Ok((None, tokens))
+    Ok(None)
 }
 
 #[cycle(statements)]
@@ -107,19 +90,14 @@ fn if_stmt(
     levels: u32,
     awaits: bool,
     depth: u32,
-    tokens: &[Token],
-) -> Result<(RawStmt, &[Token]), Refusal<'_>>
-    ensures { IsRead (λ x. (stmt_of x.0, x.1.now)) result (if_by levels (seq_at levels awaits depth) tokens.now) }
+    cursor: &mut Cursor,
+) -> Result<RawStmt, Refusal>
+    ensures { IsRead stmt_of result cursor.new (if_by levels (seq_at levels awaits depth) cursor.old) }
 {
-    let (_, rest) = symbol(tokens, &TokenKind::If)?;
-    let (tested, rest) = tested(alloc, levels, awaits, depth, &TokenKind::Then, rest)?;
-    match else_part(alloc, levels, awaits, depth, rest) {
-        Ok((other, rest)) => Ok((RawStmt::If(tested.0, tested.1, other), rest)),
-        Err(refusal) => {
-            drop(tested);
-            Err(refusal)
-        }
-    }
+    cursor.expect(&TokenKind::If)?;
+    let (test, branch) = tested(alloc, levels, awaits, depth, &TokenKind::Then, cursor)?;
+    let other = else_part(alloc, levels, awaits, depth, cursor)?;
+    Ok(RawStmt::If(test, branch, other))
 }
 
 #[cycle(statements)]
@@ -129,13 +107,13 @@ fn while_stmt(
     levels: u32,
     awaits: bool,
     depth: u32,
-    tokens: &[Token],
-) -> Result<(RawStmt, &[Token]), Refusal<'_>>
-    ensures { IsRead (λ x. (stmt_of x.0, x.1.now)) result (while_by levels (seq_at levels awaits depth) tokens.now) }
+    cursor: &mut Cursor,
+) -> Result<RawStmt, Refusal>
+    ensures { IsRead stmt_of result cursor.new (while_by levels (seq_at levels awaits depth) cursor.old) }
 {
-    let (_, rest) = symbol(tokens, &TokenKind::While)?;
-    let ((test, body), rest) = tested(alloc, levels, awaits, depth, &TokenKind::Do, rest)?;
-    Ok((RawStmt::While(test, body), rest))
+    cursor.expect(&TokenKind::While)?;
+    let (test, body) = tested(alloc, levels, awaits, depth, &TokenKind::Do, cursor)?;
+    Ok(RawStmt::While(test, body))
 }
 
 // A statement that opens a level, where `depth` levels are left.
@@ -146,17 +124,17 @@ fn compound(
     levels: u32,
     awaits: bool,
     depth: u32,
-    tokens: &[Token],
-) -> Result<(RawStmt, &[Token]), Refusal<'_>>
-    ensures { IsRead (λ x. (stmt_of x.0, x.1.now)) result (compound_at levels awaits depth tokens.now) }
+    cursor: &mut Cursor,
+) -> Result<RawStmt, Refusal>
+    ensures { IsRead stmt_of result cursor.new (compound_at levels awaits depth cursor.old) }
 {
     if depth == 0 {
-        return Err(Refusal::Fault(FaultKind::TooDeep, tokens));
+        return Err(Refusal::Fault(FaultKind::TooDeep));
     }
-    if starts(tokens, &TokenKind::If) {
-        return if_stmt(alloc, levels, awaits, depth - 1, tokens);
+    if cursor.is_at(&TokenKind::If) {
+        return if_stmt(alloc, levels, awaits, depth - 1, cursor);
     }
-    while_stmt(alloc, levels, awaits, depth - 1, tokens)
+    while_stmt(alloc, levels, awaits, depth - 1, cursor)
 }
 
 #[cycle(statements)]
@@ -166,18 +144,17 @@ fn statement(
     levels: u32,
     awaits: bool,
     depth: u32,
-    tokens: &[Token],
-) -> Result<(RawStmt, &[Token]), Refusal<'_>>
-    ensures { IsRead (λ x. (stmt_of x.0, x.1.now)) result (stmt_by levels awaits (compound_at levels awaits depth) tokens.now) }
+    cursor: &mut Cursor,
+) -> Result<RawStmt, Refusal>
+    ensures { IsRead stmt_of result cursor.new (stmt_by levels awaits (compound_at levels awaits depth) cursor.old) }
 {
-    if starts(tokens, &TokenKind::If) || starts(tokens, &TokenKind::While) {
-        return compound(alloc, levels, awaits, depth, tokens);
+    if cursor.is_at(&TokenKind::If) || cursor.is_at(&TokenKind::While) {
+        return compound(alloc, levels, awaits, depth, cursor);
     }
-    if awaits && starts(tokens, &TokenKind::Await) {
-        return await_stmt(alloc, levels, tokens);
+    if awaits && cursor.is_at(&TokenKind::Await) {
+        return await_stmt(alloc, levels, cursor);
     }
-    let (basic, rest) = basic(alloc, tokens)?;
-    Ok((RawStmt::Basic(basic), rest))
+    Ok(RawStmt::Basic(basic(alloc, cursor)?))
 }
 
 #[cycle(statements)]
@@ -187,19 +164,14 @@ fn step(
     levels: u32,
     awaits: bool,
     depth: u32,
-    tokens: &[Token],
-) -> Result<(RawStep, &[Token]), Refusal<'_>>
-    ensures { IsRead (λ x. (step_of x.0.span (stmt_of x.0.stmt) (note_of x.0.after), x.1.now)) result (step_by levels awaits (compound_at levels awaits depth) tokens.now) }
+    cursor: &mut Cursor,
+) -> Result<RawStep, Refusal>
+    ensures { IsRead (λ x. step_of x.span (stmt_of x.stmt) (note_of x.after)) result cursor.new (step_by levels awaits (compound_at levels awaits depth) cursor.old) }
 {
-    let span = first_span(tokens);
-    let (stmt, rest) = statement(alloc, levels, awaits, depth, tokens)?;
-    match note(alloc, levels, rest) {
-        Ok((after, rest)) => Ok((RawStep { stmt, span, after }, rest)),
-        Err(refusal) => {
-            drop(stmt);
-            Err(refusal)
-        }
-    }
+    let span = cursor.span();
+    let stmt = statement(alloc, levels, awaits, depth, cursor)?;
+    let after = note(alloc, levels, cursor)?;
+    Ok(RawStep { stmt, span, after })
 }
 
 /// Reads statements with their assertions, with at most `levels` levels of assertions and `depth`
@@ -211,12 +183,12 @@ pub(crate) fn sequence(
     levels: u32,
     awaits: bool,
     depth: u32,
-    tokens: &[Token],
-) -> Result<(RawSeq, &[Token]), Refusal<'_>>
-    ensures { IsRead (λ x. (seq_of x.0, x.1.now)) result (seq_at levels awaits depth tokens.now) }
+    cursor: &mut Cursor,
+) -> Result<RawSeq, Refusal>
+    ensures { IsRead seq_of result cursor.new (seq_at levels awaits depth cursor.old) }
 {
-    let (first, rest) = note(alloc, levels, tokens)?;
-    let (next, mut rest) = step(alloc, levels, awaits, depth, rest)?;
+    let first = note(alloc, levels, cursor)?;
+    let next = step(alloc, levels, awaits, depth, cursor)?;
     let mut items = Vec::new(alloc);
     items.push(RawItem {
         before: first,
@@ -224,26 +196,22 @@ pub(crate) fn sequence(
         span: next.span,
     })?;
     let mut before = next.after;
-    'more: while starts_stmt(rest) {
-        let (next, after) = step(alloc, levels, awaits, depth, rest)?;
+    'more: while is_at_stmt(cursor) {
+        let next = step(alloc, levels, awaits, depth, cursor)?;
         items.push(RawItem {
             before,
             stmt: next.stmt,
             span: next.span,
         })?;
         before = next.after;
-        rest = after;
     }
-    Ok((
-        RawSeq {
-            items,
-            last: before,
-        },
-        rest,
-    ))
+    Ok(RawSeq {
+        items,
+        last: before,
+    })
 }
 
-/// Reads a sequence and the `end` behind it.
+/// Reads a sequence and the `end` after it.
 #[cycle(statements)]
 #[tactic(auto, unfolding(crate::specs::Reads::rest_of_block_by))]
 pub(crate) fn rest_of_block(
@@ -251,18 +219,13 @@ pub(crate) fn rest_of_block(
     levels: u32,
     awaits: bool,
     depth: u32,
-    tokens: &[Token],
-) -> Result<(RawSeq, &[Token]), Refusal<'_>>
-    ensures { IsRead (λ x. (seq_of x.0, x.1.now)) result (rest_of_block_by (seq_at levels awaits depth) tokens.now) }
+    cursor: &mut Cursor,
+) -> Result<RawSeq, Refusal>
+    ensures { IsRead seq_of result cursor.new (rest_of_block_by (seq_at levels awaits depth) cursor.old) }
 {
-    let (all, rest) = sequence(alloc, levels, awaits, depth, tokens)?;
-    match symbol(rest, &TokenKind::End) {
-        Ok((_, rest)) => Ok((all, rest)),
-        Err(refusal) => {
-            drop(all);
-            Err(refusal)
-        }
-    }
+    let all = sequence(alloc, levels, awaits, depth, cursor)?;
+    cursor.expect(&TokenKind::End)?;
+    Ok(all)
 }
 
 #[cycle(statements)]
@@ -272,10 +235,10 @@ fn block(
     levels: u32,
     awaits: bool,
     depth: u32,
-    tokens: &[Token],
-) -> Result<(RawSeq, &[Token]), Refusal<'_>>
-    ensures { IsRead (λ x. (seq_of x.0, x.1.now)) result (block_by (seq_at levels awaits depth) tokens.now) }
+    cursor: &mut Cursor,
+) -> Result<RawSeq, Refusal>
+    ensures { IsRead seq_of result cursor.new (block_by (seq_at levels awaits depth) cursor.old) }
 {
-    let (_, rest) = symbol(tokens, &TokenKind::Begin)?;
-    rest_of_block(alloc, levels, awaits, depth, rest)
+    cursor.expect(&TokenKind::Begin)?;
+    rest_of_block(alloc, levels, awaits, depth, cursor)
 }

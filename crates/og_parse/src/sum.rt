@@ -1,108 +1,100 @@
 //! Reading sums, initial values and comparisons.
 
-ghost use Rattle.std.specs.Prelude.{◌≡◌};
+ghost use Rattle.std.specs.Prelude.{◌≡◌, Ok};
 ghost use Rattle.og_grammar.specs.Gives.{IsRead};
 ghost use Rattle.og_parse.specs.Trees.{sum_of, assertion_of};
-ghost use Rattle.og_parse.specs.Reads.{leading_at, product_at, factor_at, term_after_at, terms_at, sum_at, signed_at, int_at, comparison_at};
+ghost use Rattle.og_parse.specs.Reads.{leading_at, product_at, factor_at, term_after_at, terms_at, sum_at, int_at, comparison_at};
 
 use crate::raw::{RawAssert, RawFactor, RawInt, RawSum, RawTerm, Sign};
-use crate::word::{name, number, relation, sign, starts_name, starts_sign};
-use og_grammar::{Refusal, first_span, starts, symbol};
-use og_text::{Token, TokenKind};
+use crate::word::{is_at_name, is_at_sign, name, number, relation, sign};
+use og_grammar::{Cursor, Refusal};
+use og_text::TokenKind;
 use std::alloc::Global;
 
 // The sign in front of a sum: a `-`, or no token.
 #[tactic(auto, unfolding(crate::specs::Reads::leading_at))]
-fn leading(tokens: &[Token]) -> Result<(Sign, &[Token]), Refusal<'_>>
-    ensures { IsRead (λ x. (x.0, x.1.now)) result (leading_at tokens.now) }
+fn leading(cursor: &mut Cursor) -> Sign
+    ensures { leading_at cursor.old ≡ Ok (result, cursor.new) }
 {
-    if starts(tokens, &TokenKind::Minus) {
-        let (_, rest) = symbol(tokens, &TokenKind::Minus)?;
-        return Ok((Sign::Minus, rest));
+    if cursor.eat(&TokenKind::Minus) {
+        Sign::Minus
+    } else {
+        Sign::Plus
     }
-    Ok((Sign::Plus, tokens))
 }
 
 #[tactic(auto, unfolding(crate::specs::Reads::product_at))]
-fn product(alloc: Global, tokens: &[Token]) -> Result<(RawFactor, &[Token]), Refusal<'_>>
-    ensures { IsRead (λ x. (x.0, x.1.now)) result (product_at tokens.now) }
+fn product(alloc: Global, cursor: &mut Cursor) -> Result<RawFactor, Refusal>
+    ensures { IsRead (λ factor. factor) result cursor.new (product_at cursor.old) }
 {
-    let (n, rest) = number(tokens)?;
-    if starts(rest, &TokenKind::Star) {
-        let (_, rest) = symbol(rest, &TokenKind::Star)?;
-        let (variable, rest) = name(alloc, rest)?;
-        return Ok((RawFactor::Product(n, variable), rest));
+    let n = number(cursor)?;
+    if cursor.eat(&TokenKind::Star) {
+        return Ok(RawFactor::Product(n, name(alloc, cursor)?));
     }
-    Ok((RawFactor::Number(n), rest))
+    Ok(RawFactor::Number(n))
 }
 
 #[tactic(auto, unfolding(crate::specs::Reads::factor_at))]
-fn factor(alloc: Global, tokens: &[Token]) -> Result<(RawFactor, &[Token]), Refusal<'_>>
-    ensures { IsRead (λ x. (x.0, x.1.now)) result (factor_at tokens.now) }
+fn factor(alloc: Global, cursor: &mut Cursor) -> Result<RawFactor, Refusal>
+    ensures { IsRead (λ factor. factor) result cursor.new (factor_at cursor.old) }
 {
-    if starts_name(tokens) {
-        let (variable, rest) = name(alloc, tokens)?;
-        return Ok((RawFactor::Variable(variable), rest));
+    if is_at_name(cursor) {
+        return Ok(RawFactor::Variable(name(alloc, cursor)?));
     }
-    product(alloc, tokens)
+    product(alloc, cursor)
 }
 
 #[tactic(auto, unfolding(crate::specs::Reads::term_after_at))]
-fn term_after(alloc: Global, tokens: &[Token]) -> Result<(RawTerm, &[Token]), Refusal<'_>>
-    ensures { IsRead (λ x. (x.0, x.1.now)) result (term_after_at tokens.now) }
+fn term_after(alloc: Global, cursor: &mut Cursor) -> Result<RawTerm, Refusal>
+    ensures { IsRead (λ term. term) result cursor.new (term_after_at cursor.old) }
 {
-    let (sign, rest) = sign(tokens)?;
-    let (factor, rest) = factor(alloc, rest)?;
-    Ok((RawTerm { sign, factor }, rest))
+    let sign = sign(cursor)?;
+    let factor = factor(alloc, cursor)?;
+    Ok(RawTerm { sign, factor })
 }
 
 #[tactic(auto, unfolding(crate::specs::Reads::terms_at))]
-fn terms(alloc: Global, tokens: &[Token]) -> Result<(Vec<RawTerm>, &[Token]), Refusal<'_>>
-    ensures { IsRead (λ x. (x.0.items, x.1.now)) result (terms_at tokens.now) }
+fn terms(alloc: Global, cursor: &mut Cursor) -> Result<Vec<RawTerm>, Refusal>
+    ensures { IsRead (λ terms. terms.items) result cursor.new (terms_at cursor.old) }
 {
-    let (sign, rest) = leading(tokens)?;
-    let (factor, mut rest) = factor(alloc, rest)?;
+    let sign = leading(cursor);
+    let factor = factor(alloc, cursor)?;
     let mut all = Vec::new(alloc);
     all.push(RawTerm { sign, factor })?;
-    'more: while starts_sign(rest) {
-        let (next, after) = term_after(alloc, rest)?;
-        all.push(next)?;
-        rest = after;
+    'more: while is_at_sign(cursor) {
+        all.push(term_after(alloc, cursor)?)?;
     }
-    Ok((all, rest))
+    Ok(all)
 }
 
 /// Reads a sum.
 #[tactic(auto, unfolding(crate::specs::Reads::sum_at))]
-pub(crate) fn sum(alloc: Global, tokens: &[Token]) -> Result<(RawSum, &[Token]), Refusal<'_>>
-    ensures { IsRead (λ x. (sum_of x.0, x.1.now)) result (sum_at tokens.now) }
+pub(crate) fn sum(alloc: Global, cursor: &mut Cursor) -> Result<RawSum, Refusal>
+    ensures { IsRead sum_of result cursor.new (sum_at cursor.old) }
 {
-    let span = first_span(tokens);
-    let (terms, rest) = terms(alloc, tokens)?;
-    Ok((RawSum { terms, span }, rest))
+    let span = cursor.span();
+    let terms = terms(alloc, cursor)?;
+    Ok(RawSum { terms, span })
 }
 
 /// Reads an initial value.
 #[tactic(auto, unfolding(crate::specs::Reads::int_at, crate::specs::Reads::signed_at))]
-pub(crate) fn int(tokens: &[Token]) -> Result<(RawInt, &[Token]), Refusal<'_>>
-    ensures { IsRead (λ x. (x.0, x.1.now)) result (int_at tokens.now) }
+pub(crate) fn int(cursor: &mut Cursor) -> Result<RawInt, Refusal>
+    ensures { IsRead (λ int. int) result cursor.new (int_at cursor.old) }
 {
-    let span = first_span(tokens);
-    let (sign, rest) = leading(tokens)?;
-    let (number, rest) = number(rest)?;
-    Ok((RawInt { sign, number, span }, rest))
+    let span = cursor.span();
+    let sign = leading(cursor);
+    let number = number(cursor)?;
+    Ok(RawInt { sign, number, span })
 }
 
 /// Reads two sums with a relation between them.
 #[tactic(auto, unfolding(crate::specs::Reads::comparison_at))]
-pub(crate) fn comparison(
-    alloc: Global,
-    tokens: &[Token],
-) -> Result<(RawAssert, &[Token]), Refusal<'_>>
-    ensures { IsRead (λ x. (assertion_of x.0, x.1.now)) result (comparison_at tokens.now) }
+pub(crate) fn comparison(alloc: Global, cursor: &mut Cursor) -> Result<RawAssert, Refusal>
+    ensures { IsRead assertion_of result cursor.new (comparison_at cursor.old) }
 {
-    let (left, rest) = sum(alloc, tokens)?;
-    let (by, rest) = relation(rest)?;
-    let (right, rest) = sum(alloc, rest)?;
-    Ok((RawAssert::Compare(left, by, right), rest))
+    let left = sum(alloc, cursor)?;
+    let by = relation(cursor)?;
+    let right = sum(alloc, cursor)?;
+    Ok(RawAssert::Compare(left, by, right))
 }

@@ -11,7 +11,7 @@ ghost use Rattle.og_parse.specs.Answers.{IsExcess, error_of, excess_error};
 use crate::fault::{ParseError, ParseFault};
 use crate::outline::whole;
 use crate::raw::Raw;
-use og_grammar::{FaultKind, Refusal};
+use og_grammar::{Cursor, FaultKind, Refusal};
 use og_text::{Span, Token, TokenKind};
 use std::alloc::Global;
 
@@ -19,7 +19,7 @@ const LEVELS: u32 = 100;
 
 const STATEMENTS: usize = 4096;
 
-// Whether a statement begins with this token, behind a `}` or not.
+// Whether a statement begins with this token, after a `}` or not.
 fn begins_statement(closed: bool, kind: &TokenKind) -> bool
     ensures { result ≡ (closed && begins_statement kind.now) }
 {
@@ -75,31 +75,31 @@ fn place(tokens: &[Token], rest: &[Token]) -> Span
     }
 }
 
-// The error, where there are not too many statements.
-fn error(tokens: &[Token], refusal: Refusal) -> ParseError
-    ensures { result ≡ error_of tokens.now refusal.entry }
+// The error, where there are not too many statements and these tokens are left.
+fn error(tokens: &[Token], refusal: Refusal, rest: &[Token]) -> ParseError
+    ensures { result ≡ error_of tokens.now refusal rest.now }
 {
     match refusal {
         Refusal::Memory => ParseError::Memory,
-        Refusal::Fault(FaultKind::Expected, rest) => {
+        Refusal::Fault(FaultKind::Expected) => {
             ParseError::Fault(ParseFault::Expected(place(tokens, rest)))
         }
-        Refusal::Fault(FaultKind::TooDeep, rest) => {
+        Refusal::Fault(FaultKind::TooDeep) => {
             ParseError::Fault(ParseFault::TooDeep(place(tokens, rest)))
         }
     }
 }
 
-// The error, where the last of the tokens that were read begins a statement too many, at `span`.
-fn excess_error(refusal: Refusal, span: Span) -> ParseError
-    ensures { result ≡ excess_error refusal.entry span }
+// The error, where these tokens are left and the last one begins a statement too many, at `span`.
+fn excess_error(refusal: Refusal, rest: &[Token], span: Span) -> ParseError
+    ensures { result ≡ excess_error refusal rest.now span }
 {
-    match refusal {
-        Refusal::Memory => ParseError::Memory,
-        Refusal::Fault(FaultKind::Expected, [token, ..]) => {
+    match (refusal, rest) {
+        (Refusal::Memory, _) => ParseError::Memory,
+        (Refusal::Fault(FaultKind::Expected), [token, ..]) => {
             ParseError::Fault(ParseFault::Expected(token.span))
         }
-        Refusal::Fault(FaultKind::TooDeep, [token, _, ..]) => {
+        (Refusal::Fault(FaultKind::TooDeep), [token, _, ..]) => {
             ParseError::Fault(ParseFault::TooDeep(token.span))
         }
         _ => ParseError::Fault(ParseFault::TooManyStatements(span)),
@@ -110,12 +110,13 @@ fn excess_error(refusal: Refusal, span: Span) -> ParseError
 fn parse_excess(alloc: Global, front: &[Token], span: Span) -> ParseError
     ensures { (tokens : List Token) → IsExcess statement_limit tokens front.now span → IsParsed level_limit statement_limit tokens (Err result) }
 {
-    match whole(alloc, LEVELS, front) {
-        Ok((raw, _)) => {
+    let mut cursor = Cursor::new(front);
+    match whole(alloc, LEVELS, &mut cursor) {
+        Ok(raw) => {
             drop(raw);
             ParseError::Fault(ParseFault::TooManyStatements(span))
         }
-        Err(refusal) => excess_error(refusal, span),
+        Err(refusal) => excess_error(refusal, cursor.rest(), span),
     }
 }
 
@@ -131,9 +132,10 @@ pub fn parse(alloc: Global, tokens: &[Token]) -> Result<Raw, ParseError>
     if let Some((front, span)) = excess(tokens, STATEMENTS) {
         return Err(parse_excess(alloc, front, span));
     }
-    match whole(alloc, LEVELS, tokens) {
-        Ok((raw, _)) => Ok(raw),
-        Err(refusal) => Err(error(tokens, refusal)),
+    let mut cursor = Cursor::new(tokens);
+    match whole(alloc, LEVELS, &mut cursor) {
+        Ok(raw) => Ok(raw),
+        Err(refusal) => Err(error(tokens, refusal, cursor.rest())),
     }
 }
 

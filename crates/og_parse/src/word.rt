@@ -7,28 +7,22 @@ ghost use Rattle.og_parse.specs.Words.{name_of, value_of, sign_of, relation_of};
 ghost use Rattle.og_parse.specs.Reads.{a_name, a_sign};
 
 use crate::raw::{RawName, Relation, Sign};
-use og_grammar::{FaultKind, Refusal};
-use og_text::{Name, Span, Token, TokenKind};
+use og_grammar::{Cursor, FaultKind, Refusal};
+use og_text::{Name, Span, TokenKind};
 use std::alloc::{AllocError, Global};
 
-/// Whether the first token is a name.
-pub(crate) fn starts_name(tokens: &[Token]) -> bool
-    ensures { result ≡ starts a_name tokens.now }
+/// Whether the next token is a name.
+pub(crate) fn is_at_name(cursor: &Cursor) -> bool
+    ensures { result ≡ starts a_name cursor.now }
 {
-    match tokens {
-        [] => false,
-        [token, ..] => matches!(token.kind, TokenKind::Name(_)),
-    }
+    matches!(cursor.peek(), Some(TokenKind::Name(_)))
 }
 
-/// Whether the first token stands between two terms.
-pub(crate) fn starts_sign(tokens: &[Token]) -> bool
-    ensures { result ≡ starts a_sign tokens.now }
+/// Whether the next token stands between two terms.
+pub(crate) fn is_at_sign(cursor: &Cursor) -> bool
+    ensures { result ≡ starts a_sign cursor.now }
 {
-    match tokens {
-        [] => false,
-        [token, ..] => matches!(token.kind, TokenKind::Plus | TokenKind::Minus),
-    }
+    matches!(cursor.peek(), Some(TokenKind::Plus | TokenKind::Minus))
 }
 
 // A copy of the name, with its place.
@@ -42,59 +36,55 @@ fn copied(alloc: Global, name: &Name, span: Span) -> Result<RawName, AllocError>
     })
 }
 
-pub(crate) fn name(alloc: Global, tokens: &[Token]) -> Result<(RawName, &[Token]), Refusal<'_>>
-    ensures { IsRead (λ x. (x.0, x.1.now)) result (token_at name_of tokens.now) }
+pub(crate) fn name(alloc: Global, cursor: &mut Cursor) -> Result<RawName, Refusal>
+    ensures { IsRead (λ name. name) result cursor.new (token_at name_of cursor.old) }
 {
-    match tokens {
-        [] => Err(Refusal::Fault(FaultKind::Expected, tokens)),
-        [token, rest @ ..] => match &token.kind {
-            TokenKind::Name(name) => {
-                let name = copied(alloc, name, token.span)?;
-                Ok((name, rest))
-            }
-            _ => Err(Refusal::Fault(FaultKind::Expected, tokens)),
-        },
+    match cursor.peek() {
+        Some(TokenKind::Name(name)) => {
+            let name = copied(alloc, name, cursor.span())?;
+            cursor.advance();
+            Ok(name)
+        }
+        _ => Err(Refusal::Fault(FaultKind::Expected)),
     }
 }
 
-pub(crate) fn number(tokens: &[Token]) -> Result<(u64, &[Token]), Refusal<'_>>
-    ensures { IsRead (λ x. (x.0, x.1.now)) result (token_at value_of tokens.now) }
+pub(crate) fn number(cursor: &mut Cursor) -> Result<u64, Refusal>
+    ensures { IsRead (λ n. n) result cursor.new (token_at value_of cursor.old) }
 {
-    match tokens {
-        [] => Err(Refusal::Fault(FaultKind::Expected, tokens)),
-        [token, rest @ ..] => match &token.kind {
-            TokenKind::Number(n) => Ok((*n, rest)),
-            _ => Err(Refusal::Fault(FaultKind::Expected, tokens)),
-        },
+    match cursor.peek() {
+        Some(TokenKind::Number(n)) => {
+            cursor.advance();
+            Ok(*n)
+        }
+        _ => Err(Refusal::Fault(FaultKind::Expected)),
     }
 }
 
-pub(crate) fn sign(tokens: &[Token]) -> Result<(Sign, &[Token]), Refusal<'_>>
-    ensures { IsRead (λ x. (x.0, x.1.now)) result (token_at sign_of tokens.now) }
+pub(crate) fn sign(cursor: &mut Cursor) -> Result<Sign, Refusal>
+    ensures { IsRead (λ sign. sign) result cursor.new (token_at sign_of cursor.old) }
 {
-    match tokens {
-        [] => Err(Refusal::Fault(FaultKind::Expected, tokens)),
-        [token, rest @ ..] => match &token.kind {
-            TokenKind::Plus => Ok((Sign::Plus, rest)),
-            TokenKind::Minus => Ok((Sign::Minus, rest)),
-            _ => Err(Refusal::Fault(FaultKind::Expected, tokens)),
-        },
-    }
+    let sign = match cursor.peek() {
+        Some(TokenKind::Plus) => Sign::Plus,
+        Some(TokenKind::Minus) => Sign::Minus,
+        _ => return Err(Refusal::Fault(FaultKind::Expected)),
+    };
+    cursor.advance();
+    Ok(sign)
 }
 
-pub(crate) fn relation(tokens: &[Token]) -> Result<(Relation, &[Token]), Refusal<'_>>
-    ensures { IsRead (λ x. (x.0, x.1.now)) result (token_at relation_of tokens.now) }
+pub(crate) fn relation(cursor: &mut Cursor) -> Result<Relation, Refusal>
+    ensures { IsRead (λ relation. relation) result cursor.new (token_at relation_of cursor.old) }
 {
-    match tokens {
-        [] => Err(Refusal::Fault(FaultKind::Expected, tokens)),
-        [token, rest @ ..] => match &token.kind {
-            TokenKind::LessEqual => Ok((Relation::LessEqual, rest)),
-            TokenKind::Less => Ok((Relation::Less, rest)),
-            TokenKind::GreaterEqual => Ok((Relation::GreaterEqual, rest)),
-            TokenKind::Greater => Ok((Relation::Greater, rest)),
-            TokenKind::Equal => Ok((Relation::Equal, rest)),
-            TokenKind::NotEqual => Ok((Relation::NotEqual, rest)),
-            _ => Err(Refusal::Fault(FaultKind::Expected, tokens)),
-        },
-    }
+    let relation = match cursor.peek() {
+        Some(TokenKind::LessEqual) => Relation::LessEqual,
+        Some(TokenKind::Less) => Relation::Less,
+        Some(TokenKind::GreaterEqual) => Relation::GreaterEqual,
+        Some(TokenKind::Greater) => Relation::Greater,
+        Some(TokenKind::Equal) => Relation::Equal,
+        Some(TokenKind::NotEqual) => Relation::NotEqual,
+        _ => return Err(Refusal::Fault(FaultKind::Expected)),
+    };
+    cursor.advance();
+    Ok(relation)
 }

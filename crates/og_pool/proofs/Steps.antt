@@ -1,5 +1,5 @@
 -- Each step of the draw word keeps the rule.
-use Rattle.std.proofs.Common.{◌≡◌, ◌≢◌, ◌⊎◌, ℕ, zero, suc, ◌+◌, ◌-◌, ◌/◌, ◌%◌, ◌^◌, ◌<◌, ◌≤◌, Bool, true, false, leb, eqb, List, [], ◌∷◌, ◌++◌, set, get_or, refl, sym, ap, inl, inr, ◌↔◌, true≢false, ◌∙◌, subst, ⊎_elim, arith, length-set, get_or-set_same, mod-eq_of_lt, div-le_self, if◌then◌else◌, ◌==◌, nat_le}
+use Rattle.std.proofs.Common.{◌≡◌, ◌≢◌, ◌⊎◌, ℕ, zero, suc, ◌+◌, ◌-◌, ◌%◌, ◌^◌, ◌<◌, ◌≤◌, Bool, true, false, leb, eqb, List, [], ◌∷◌, ◌++◌, set, get_or, refl, sym, ap, inl, inr, ◌↔◌, true≢false, ◌∙◌, subst, ⊎_elim, arith, length-set, get_or-set_same, mod-eq_of_lt, if◌then◌else◌, ◌==◌, nat_le}
 use Rattle.std.proofs.lemmas.Bool.Decides.{leb_tells, eqb_tells, nat_tests}
 use mathlib.Core.Option.{some, none, some-ne-none, some-injective}
 use lib.ListN.{get_elem?}
@@ -136,17 +136,17 @@ draws_keep p slots id me few_tasks few_workers none_past some_worker s r wide at
     one_more : past p.count me.0.drawn ≡ 0 → 0 < me.0.workers → (w : ℕ) → past p.count (me.0.drawn ++ w ∷ []) ≤ me.0.workers
     one_more none_past some_worker w = let a = weigh-append (λ y. if nat_le p.count y then 1 else 0) me.0.drawn (w ∷ []) in grind (arith, nat_tests)
 
-pub splits_keep : (p : Plan) (id : ℕ) (v : Hand) → 2 ≤ v.workers → v.drawn ≡ [] → Splits (EachOnce p) id v (hand (v.workers - v.workers / 2) v.drawn) (hand (v.workers / 2) [])
-splits_keep p id v several fresh s r at =
-    let l : Hand = hand (v.workers - v.workers / 2) v.drawn in
-    let g : Hand = hand (v.workers / 2) [] in
-    let half : v.workers / 2 ≤ v.workers = div-le_self v.workers 2 in record {
+-- a few of the workers are handed on
+pub splits_keep : (p : Plan) (id : ℕ) (v : Hand) (few : ℕ) → few ≤ v.workers → v.drawn ≡ [] → Splits (EachOnce p) id v (hand (v.workers - few) v.drawn) (hand few [])
+splits_keep p id v few within fresh s r at =
+    let l : Hand = hand (v.workers - few) v.drawn in
+    let g : Hand = hand few [] in record {
       one_word = r.one_word;
       workers = let t = total_set (λ u. u.workers) s.views id v l at in let a = total-append (λ u. u.workers) (set s.views id l) (g ∷ []) in omega (arith, r.workers);
       once = λ x. let t = total_set (λ u. times x u.drawn) s.views id v l at in let a = total-append (λ u. times x u.drawn) (set s.views id l) (g ∷ []) in omega (arith, r.once x);
       few = λ j u e. ⊎_elim
           (λ (b : get_elem? (set s.views id l) j ≡ some u). ⊎_elim
-          (λ (t : (j ≡ id) × (l ≡ u)). subst (λ (z : Hand). past p.count z.drawn ≤ z.workers) t.1 (subst (λ (xs : List ℕ). past p.count xs ≤ v.workers - v.workers / 2) (sym fresh) (omega arith)))
+          (λ (t : (j ≡ id) × (l ≡ u)). subst (λ (z : Hand). past p.count z.drawn ≤ z.workers) t.1 (subst (λ (xs : List ℕ). past p.count xs ≤ v.workers - few) (sym fresh) (omega arith)))
           (λ (t : (j ≢ id) × (get_elem? s.views j ≡ some u)). r.few j u t.1)
           (at_set s.views id j l u b))
           (λ (b : g ≡ u). subst (λ (z : Hand). past p.count z.drawn ≤ z.workers) b (omega arith))

@@ -1,14 +1,14 @@
 -- Lists of tasks with their statuses.
-use Rattle.std.proofs.Common.{◌≡◌, ℕ, zero, suc, max, ◌+◌, ◌-◌, ◌<◌, ◌≤◌, List, [], ◌∷◌, ◌++◌, Some, refl, sym, ap, subst, ⊎_elim, arith, eq-or-lt_of_le, eqb, true, false, if◌then◌else◌, ◌==◌, ◌≢◌, nat_le}
+use Rattle.std.proofs.Common.{◌≡◌, ℕ, zero, suc, max, ◌+◌, ◌-◌, ◌<◌, ◌≤◌, List, [], length, ◌∷◌, ◌++◌, Some, refl, sym, ap, subst, ⊎_elim, arith, eq-or-lt_of_le, eqb, true, false, if◌then◌else◌, ◌==◌, ◌≢◌, nat_le}
 use Rattle.std.proofs.lemmas.Bool.Decides.{eqb_tells, nat_tests}
 use Rattle.std.specs.Prelude.{slice_get}
 use Rattle.og_pool.specs.declared.told.Told.{Told}
-use Rattle.std.proofs.lemmas.List.Elements.{All-append}
+use Rattle.std.proofs.lemmas.List.Elements.{All-append, All-nil, All-cons}
+use Rattle.std.specs.List.{All, AllZip}
 use Rattle.og_pool.specs.Drawing.{times}
 use Rattle.og_pool.proofs.Steps.{weigh-append}
 use Rattle.og_pool.specs.declared.status.Status.{Status}
-use Rattle.og_pool.specs.Drawing.{Source, Part}
-use Rattle.og_pool.specs.Telling.{Tells, IsRight, DrawsDone, PartDone}
+use Rattle.og_pool.specs.Telling.{Tells, IsRight, DrawsDone}
 
 slice_get_front : (xs ys : List Told) (k : ℕ) (t : Told) → slice_get xs k ≡ Some t → slice_get (xs ++ ys) k ≡ Some t
 slice_get_front [] ys k t e = absurd (cc)
@@ -65,10 +65,9 @@ both_draws count status xs ys zs told more all drawn is f g = rw (drawn, is) (
       (eq-or-lt_of_le {n = 0} {m = times x xs} (omega arith)),
 )
 
--- two parts that were joined
-pub both_parts : (s : Source) (low high : ℕ) (status : ℕ → Status) (a b r : Part) (told more all : List Told)
-    → PartDone s high status a told → PartDone s low status b more
-    → (r.source ≡ s) × (r.workers ≡ a.workers + b.workers) × (r.drawn ≡ a.drawn ++ b.drawn)
-    → all ≡ told ++ more → PartDone s (low + high) status r all
-both_parts s low high status a b r told more all f g j is =
-    (j.0, omega (arith, f.1, g.1, j.1), both_draws s.count status a.drawn b.drawn r.drawn told more all j.2 is f.2 g.2)
+-- what is owed of each part holds of each gain
+pub each_gain : {A B : Type 0} (P : B → Type 0) (xs : List A) (ys : List B) → AllZip (λ _ y. P y) xs ys → (length ys ≡ length xs) × All P ys
+each_gain P [] [] h = (refl, All-nil P)
+each_gain P [] (y ∷ ys) h = absurd h
+each_gain P (x ∷ xs) [] h = absurd h
+each_gain P (x ∷ xs) (y ∷ ys) h = let rest = each_gain P xs ys h.1 in (ap suc rest.0, All-cons P y ys h.0 rest.1)

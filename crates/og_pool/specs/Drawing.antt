@@ -57,10 +57,6 @@ pub record Part : Type 0 where
   pub workers : ℕ
   pub drawn : List ℕ
 
--- no draw word
-abbrev pub no_source : Source
-no_source = record {
-  table = record { words = 0; slots = 0; views_name = 0; atom = 0; block = 0; offset = 0; slot_names = [] };
-  count = 0;
-  workers = 0;
-}
+-- one worker, which has drawn nothing yet
+abbrev pub IsOne : Source → Part → Type 0
+IsOne source part = (part.source ≡ source) × (part.workers ≡ 1) × (part.drawn ≡ [])

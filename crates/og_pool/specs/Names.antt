@@ -2,6 +2,8 @@
 use Rattle.std.specs.Prelude.{ℕ, List, Option, Some, None, codes}
 use Rattle.og_pool.specs.declared.fault.PoolFault.{PoolFault}
 use Rattle.og_pool.specs.declared.fault.PoolFault.TheVariants as faults
+use Rattle.og_threads.specs.declared.fault.ThreadFault.{ThreadFault}
+use Rattle.og_threads.specs.declared.fault.ThreadFault.TheVariants as threads
 
 -- want of memory has no number
 abbrev pub number_of_fault : PoolFault → Option ℕ
@@ -11,3 +13,7 @@ number_of_fault faults.Spawn = Some 40
 abbrev pub name_of_fault : PoolFault → List ℕ
 name_of_fault faults.Memory = codes "Memory"
 name_of_fault faults.Spawn = codes "Spawn"
+
+abbrev pub fault_of_threads : ThreadFault → PoolFault
+fault_of_threads threads.Memory = faults.Memory
+fault_of_threads threads.Spawn = faults.Spawn

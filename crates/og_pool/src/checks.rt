@@ -13,14 +13,14 @@ use crate::fault::PoolFault;
 use crate::gate::Gate;
 use crate::status::Status;
 use crate::told::{Told, in_order};
-use crate::workers::{Numbered, part};
+use crate::workers::{Numbered, Workers};
 use og_cert::{ReplayError, replay};
 use og_cert_text::{Cert, CertFile};
 use og_cond::Condition;
 use og_facts::{FactList, FactsError, facts, facts_with};
 use og_subst::{Action, ActionMap};
-use std::alloc::Global;
-use std::marker::{Brand, PhantomData};
+use og_threads::ThreadFault;
+use std::alloc::{AllocError, Global};
 use std::sync::Wait;
 use std::thread::Threads;
 
@@ -39,12 +39,12 @@ pub(crate) struct Checks<'a, 'c> {
 }
 
 // The status by the certificate's replay.
-fn replayed(alloc: Global, list: &FactList, cert: &Cert) -> Result<Status, PoolFault>
+fn replayed(alloc: Global, list: &FactList, cert: &Cert) -> Result<Status, AllocError>
     ensures { IfOk result (λ s. s ≡ by_fault (first_fault list.now.variables list.now.facts (plain_cert cert.now))) }
 {
     match replay(alloc, list, cert) {
         Ok(()) => Ok(Status::Proved),
-        Err(ReplayError::Memory) => Err(PoolFault::Memory),
+        Err(ReplayError::Memory) => Err(AllocError),
         Err(ReplayError::Fault(fault)) => Ok(Status::Failed(fault)),
     }
 }
@@ -96,7 +96,7 @@ impl<'a, 'c> Checks<'a, 'c> {
         alloc: Global,
         number: u32,
         last: &mut Option<Last>,
-    ) -> Result<Status, PoolFault>
+    ) -> Result<Status, AllocError>
         requires within { (0 < number) × (number ≤ length self.now.conditions.now) }
         requires keeps { Keeps self.now.conditions.now last.old }
         ensures status { IfOk result (λ s. s ≡ status_of self.now.conditions.now self.now.certs.now number) }
@@ -108,7 +108,7 @@ impl<'a, 'c> Checks<'a, 'c> {
         match self.facts(alloc, number as usize - 1, last) {
             Ok(list) => replayed(alloc, &list, cert),
             Err(FactsError::Fault(_)) => Ok(Status::TooLarge),
-            Err(FactsError::Memory) => Err(PoolFault::Memory),
+            Err(FactsError::Memory) => Err(AllocError),
         }
     }
 }
@@ -127,7 +127,7 @@ impl<'a, 'c> Numbered for Checks<'a, 'c> {
         draws: &Draws,
         mut drawer: Drawer,
         gate: &G,
-    ) -> Result<(Drawer, Vec<Told>), PoolFault> {
+    ) -> Result<(Drawer, Vec<Told>), ThreadFault> {
         let mut told = Vec::new(alloc);
         let mut last = None;
         while let Some(number) = draws.draw(&mut drawer) {
@@ -167,16 +167,14 @@ pub fn check_all<G: Gate, R: Threads + Wait + Sync>(
     let count = conditions.len() as u32;
     let checks = Checks { conditions, certs };
     let (draws, drawer) = Draws::new(alloc, count, workers)?;
-    let (drawer, told) = part(
-        rt,
+    let drawers = draws.one_each(alloc, drawer, workers)?;
+    let shared = Workers {
         alloc,
-        &draws,
-        drawer,
-        &checks,
-        workers,
+        checks: &checks,
+        draws: &draws,
         gate,
-        PhantomData::<Brand>,
-    )?;
+    };
+    let (drawer, told) = shared.draw_all(rt, drawers)?;
     draws.close(drawer);
     Ok(in_order(alloc, &checks, told.as_slice(), count)?)
 }

@@ -1,7 +1,8 @@
-ghost use Rattle.std.specs.Prelude.{◌≡◌, ℕ, ◌+◌, ◌-◌, ◌/◌, ◌^◌, ◌<◌, ◌≤◌, [], ◌∷◌, ◌++◌, ◌⊎◌, IfOk, IfSome, IfNone, IsSome, MatchOption};
-ghost use Rattle.og_pool.specs.Drawing.{past, times};
+ghost use Rattle.std.specs.Prelude.{◌≡◌, ℕ, ◌+◌, ◌-◌, ◌/◌, ◌^◌, ◌<◌, ◌≤◌, [], ◌∷◌, ◌++◌, ◌⊎◌, vec_len, IfOk, IfSome, IfNone, IsSome, MatchOption};
+ghost use Rattle.std.specs.List.{All};
+ghost use Rattle.og_pool.specs.Drawing.{past, times, IsOne};
 
-use crate::rule::{DrawOne, Halves, Hand, Numbers, Plan, Together};
+use crate::rule::{DrawOne, Halves, Hand, Numbers, OneOff, Plan, Together};
 use atomic_table::{Seat, Table};
 use std::alloc::{AllocError, Global};
 use std::marker::Model;
@@ -77,23 +78,41 @@ impl Draws {
         }
     }
 
-    /// Hands one of so many workers on: half of them, of which all but one come back.
-    pub(crate) fn split_one(&self, drawer: &mut Drawer, several: u32) -> Drawer
+    // Hands one worker on.
+    fn split_one(&self, drawer: &mut Drawer) -> Drawer
         requires own { drawer.old.source ≡ self.now }
-        requires several { (2 ≤ several) × (drawer.old.workers ≡ several) }
+        requires several { 2 ≤ drawer.old.workers }
         requires fresh { drawer.old.drawn ≡ [] }
-        ensures kept { (drawer.new.source ≡ self.now) × (drawer.new.workers + 1 ≡ several) × (drawer.new.drawn ≡ []) }
-        ensures given { (result.source ≡ self.now) × (result.workers ≡ 1) × (result.drawn ≡ []) }
+        ensures kept { (drawer.new.source ≡ self.now) × (drawer.new.workers + 1 ≡ drawer.old.workers) × (drawer.new.drawn ≡ []) }
+        ensures given { IsOne self.now result }
     {
-        let mut part = self.split(drawer);
-        let mut count = several / 2;
-        while count > 1 {
-            let half = self.split(&mut part);
-            self.join(drawer, part);
-            part = half;
-            count /= 2;
+        let seat = self.table.shared.split_seat::<OneOff>(&mut drawer.seat);
+        let plan = drawer.plan;
+        Drawer {
+            seat,
+            plan,
+            done: false,
         }
-        part
+    }
+
+    /// A drawer for each worker.
+    pub(crate) fn one_each(
+        &self,
+        alloc: Global,
+        mut drawer: Drawer,
+        workers: u32,
+    ) -> Result<Vec<Drawer>, AllocError>
+        requires own { (drawer.source ≡ self.now) × (drawer.workers ≡ workers) }
+        requires some { 0 < workers }
+        requires fresh { drawer.drawn ≡ [] }
+        ensures { IfOk result (λ v. (vec_len v ≡ workers) × All (IsOne self.now) v.items) }
+    {
+        let mut drawers = Vec::with_capacity(alloc, workers as usize)?;
+        for _ in 1..workers {
+            drawers.push(self.split_one(&mut drawer))?;
+        }
+        drawers.push(drawer)?;
+        Ok(drawers)
     }
 
     /// The next task, counted from 1. It answers `None` once a number past the tasks was drawn.

@@ -1,10 +1,11 @@
 //! Why there are no statuses.
 
 ghost use Rattle.std.specs.Prelude.{◌≡◌};
-ghost use Rattle.og_pool.specs.Names.{number_of_fault, name_of_fault};
+ghost use Rattle.og_pool.specs.Names.{number_of_fault, name_of_fault, fault_of_threads};
 ghost use Rattle.og_pool.specs.declared.fault.PoolFault.TheVariants.{Memory};
 
-use std::alloc::{AllocError, AllocFailed};
+use og_threads::ThreadFault;
+use std::alloc::AllocError;
 use thiserror::Error;
 
 /// Why there are no statuses.
@@ -48,10 +49,13 @@ impl From<AllocError> for PoolFault {
     }
 }
 
-impl<T: Drop> From<AllocFailed<T>> for PoolFault {
-    ghost from_gives = { λ _ e. e ≡ Memory };
+impl From<ThreadFault> for PoolFault {
+    ghost from_gives = { λ e r. r ≡ fault_of_threads e };
 
-    fn from(_: AllocFailed<T>) -> PoolFault {
-        PoolFault::Memory
+    fn from(fault: ThreadFault) -> PoolFault {
+        match fault {
+            ThreadFault::Memory => PoolFault::Memory,
+            ThreadFault::Spawn => PoolFault::Spawn,
+        }
     }
 }

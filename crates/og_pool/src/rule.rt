@@ -45,6 +45,17 @@ impl Split<Hand> for Halves {
     ghost right = { λ v. hand (v.workers / 2) [] };
 }
 
+pub(crate) struct OneOff;
+
+impl Split<Hand> for OneOff {
+    ghost use Rattle.std.specs.Prelude.{◌-◌, []};
+    ghost use Rattle.og_pool.specs.Drawing.{hand};
+
+    ghost left = { λ v. hand (v.workers - 1) v.drawn };
+
+    ghost right = { λ v. hand 1 [] };
+}
+
 pub(crate) struct Together;
 
 impl Join<Hand> for Together {

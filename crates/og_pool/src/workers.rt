@@ -1,18 +1,18 @@
 //! Workers that draw conditions, each in a thread.
 
-ghost use Rattle.std.specs.Prelude.{◌≡◌, ℕ, [], ◌+◌, ◌-◌, ◌/◌, ◌<◌, IfOk};
-ghost use denote.Param.Send.{IsSync};
+ghost use Rattle.std.specs.Prelude.{◌≡◌, ℕ, ◌<◌, [], IfOk, vec_len};
+ghost use Rattle.std.specs.List.{All};
+ghost use Rattle.og_pool.specs.Drawing.{IsOne};
 ghost use Rattle.og_pool.specs.Telling.{PartDone};
 
 use crate::draws::{Drawer, Draws};
 use crate::fault::PoolFault;
 use crate::gate::Gate;
 use crate::told::Told;
-use std::alloc::Global;
-use std::marker::{Brand, PhantomData};
+use og_threads::{Job, ThreadFault, in_threads};
+use std::alloc::{AllocError, Global};
 use std::sync::Wait;
-use std::thread;
-use std::thread::{Promise, Threads};
+use std::thread::Threads;
 
 /// Conditions, each with a status.
 pub(crate) trait Numbered: Sync {
@@ -32,106 +32,74 @@ pub(crate) trait Numbered: Sync {
         draws: &Draws,
         drawer: Drawer,
         gate: &G,
-    ) -> Result<(Drawer, Vec<Told>), PoolFault>
+    ) -> Result<(Drawer, Vec<Told>), ThreadFault>
         requires own { drawer.source ≡ draws.now }
         requires fresh { drawer.drawn ≡ [] }
         requires each { draws.now.count ≡ count self.now }
         ensures { IfOk result (λ r. PartDone draws.now drawer.workers (status self.now) r.0 r.1.items) };
 }
 
-/// Names the draw word, and the statuses of the conditions that the workers look at.
-pub(crate) trait WorkName {
-    ghost use Rattle.std.specs.Prelude.{ℕ};
-    ghost use Rattle.og_pool.specs.Drawing.{Source};
-    ghost use Rattle.og_pool.specs.declared.status.Status.{Status};
-
-    ghost source: { Source };
-
-    ghost statuses: { ℕ → Status };
+/// What the workers share.
+#[derive(Clone, Copy)]
+pub(crate) struct Workers<'a, C, G> {
+    pub(crate) alloc: Global,
+    pub(crate) checks: &'a C,
+    pub(crate) draws: &'a Draws,
+    pub(crate) gate: &'a G,
 }
 
-impl WorkName for Brand {
-    ghost use Rattle.og_pool.specs.Drawing.{no_source};
-    ghost use Rattle.og_pool.specs.declared.status.Status.TheVariants.{Missing};
-
-    ghost source = { no_source };
-
-    ghost statuses = { λ _. Missing };
-}
-
-// What a part of the workers owes: so many of them have drawn to the end.
-#[derive(Drop)]
-struct Share<K: WorkName> {
-    several: u32,
-    name: PhantomData<K>,
-}
-
-impl<K: WorkName> Promise<Result<(Drawer, Vec<Told>), PoolFault>> for Share<K> {
-    ghost use Rattle.std.specs.Prelude.{IfOk};
+impl<'a, C: Numbered, G: Gate> Job for Workers<'a, C, G> {
+    ghost use Rattle.std.specs.Prelude.{◌≡◌};
+    ghost use Rattle.og_pool.specs.Drawing.{IsOne};
     ghost use Rattle.og_pool.specs.Telling.{PartDone};
 
-    ghost kept_by = { λ p r. IfOk r (λ r. PartDone K.source p.several K.statuses r.0 r.1.items) };
+    type Part = Drawer;
+
+    type Gain = (Drawer, Vec<Told>);
+
+    ghost can = { λ w d. IsOne w.draws.now d × (w.draws.now.count ≡ C.count w.checks.now) };
+
+    ghost owes = { λ w _ r. PartDone w.draws.now 1 (C.status w.checks.now) r.0 r.1.items };
+
+    fn work<R: Wait>(&self, _rt: &R, drawer: Drawer) -> Result<(Drawer, Vec<Told>), ThreadFault> {
+        self.checks.work(self.alloc, self.draws, drawer, self.gate)
+    }
+
+    fn give_up<R: Wait>(&self, _rt: &R) {}
 }
 
-/// A part of the workers, `several` of them: one in a thread of its own, and the others as a part
-/// in this one. So one thread starts all others.
-#[cycle(part)]
-pub(crate) fn part<K: WorkName + Send + Sync, C: Numbered, G: Gate, R: Threads + Wait + Sync>(
-    rt: &R,
-    alloc: Global,
-    draws: &Draws,
-    mut drawer: Drawer,
-    conditions: &C,
-    several: u32,
-    gate: &G,
-    name: PhantomData<K>,
-) -> Result<(Drawer, Vec<Told>), PoolFault>
-    requires name { (draws.now ≡ K.source) × (C.status conditions.now ≡ K.statuses) }
-    requires own { (drawer.source ≡ draws.now) × (drawer.workers ≡ several) }
-    requires some { 0 < several }
-    requires fresh { drawer.drawn ≡ [] }
-    requires each { draws.now.count ≡ C.count conditions.now }
-    ensures { IfOk result (λ r. PartDone K.source several K.statuses r.0 r.1.items) }
-{
-    if several == 1 {
-        return conditions.work(alloc, draws, drawer, gate);
-    }
-    let one = 1;
-    let rest = several - one;
-    let other = draws.split_one(&mut drawer, several);
-    thread::scope(
-        thread::scope_env(),
-        rt,
-        |scope| -> Result<(Drawer, Vec<Told>), PoolFault>
-            requires { IsSync R.row × IsSync G.row × IsSync C.row
-                × (draws.now ≡ K.source) × (C.status conditions.now ≡ K.statuses) × (draws.now.count ≡ C.count conditions.now)
-                × (other.source ≡ draws.now) × (other.workers ≡ one) × (0 < one) × (other.drawn ≡ [])
-                × (drawer.source ≡ draws.now) × (drawer.workers ≡ rest) × (0 < rest) × (drawer.drawn ≡ []) }
-            ensures { IfOk result (λ r. PartDone K.source (one + rest) K.statuses r.0 r.1.items) }
-        {
-            let share = Share::<K> {
-                several: one,
-                name: PhantomData,
-            };
-            let started = scope.spawn_with(
-                share,
-                move || -> Result<(Drawer, Vec<Told>), PoolFault>
-                    requires { IsSync R.row × IsSync G.row × IsSync C.row
-                        × (draws.now ≡ K.source) × (C.status conditions.now ≡ K.statuses) × (draws.now.count ≡ C.count conditions.now)
-                        × (other.source ≡ draws.now) × (other.workers ≡ one) × (0 < one) × (other.drawn ≡ []) }
-                    ensures { IfOk result (λ r. PartDone K.source one K.statuses r.0 r.1.items) }
-                { part(rt, alloc, draws, other, conditions, one, gate, name) },
-            );
-            let Ok(thread) = started else {
-                return Err(PoolFault::Spawn);
-            };
-            let mine = part(rt, alloc, draws, drawer, conditions, rest, gate, name);
-            let theirs = thread.join(rt);
-            let (mut drawer, mut told) = mine?;
-            let (other, mut more) = theirs?;
-            draws.join(&mut drawer, other);
+impl<'a, C: Numbered, G: Gate> Workers<'a, C, G> {
+    // What all workers drew and told, together.
+    fn together(
+        &self,
+        mut gains: Vec<(Drawer, Vec<Told>)>,
+    ) -> Result<(Drawer, Vec<Told>), AllocError>
+        requires some { 0 < vec_len gains }
+        requires each { All (λ r. PartDone self.now.draws.now 1 (C.status self.now.checks.now) r.0 r.1.items) gains.items }
+        ensures { IfOk result (λ r. PartDone self.now.draws.now (vec_len gains) (C.status self.now.checks.now) r.0 r.1.items) }
+    {
+        let Some((mut drawer, mut told)) = gains.pop() else {
+            unreachable!()
+        };
+        while let Some((other, mut more)) = gains.pop() {
+            self.draws.join(&mut drawer, other);
             told.append(&mut more)?;
-            Ok((drawer, told))
-        },
-    )
+        }
+        Ok((drawer, told))
+    }
+
+    /// Each worker draws until nothing is left, in a thread of its own but one.
+    pub(crate) fn draw_all<R: Threads + Wait + Sync>(
+        &self,
+        rt: &R,
+        drawers: Vec<Drawer>,
+    ) -> Result<(Drawer, Vec<Told>), PoolFault>
+        requires some { 0 < vec_len drawers }
+        requires each { All (IsOne self.now.draws.now) drawers.items }
+        requires count { self.now.draws.now.count ≡ C.count self.now.checks.now }
+        ensures { IfOk result (λ r. PartDone self.now.draws.now (vec_len drawers) (C.status self.now.checks.now) r.0 r.1.items) }
+    {
+        let gains = in_threads(rt, self.alloc, self, drawers)?;
+        Ok(self.together(gains)?)
+    }
 }

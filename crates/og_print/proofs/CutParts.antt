@@ -15,16 +15,16 @@ good_right : (ks js : List TokenKind) → AreGood (ks ++ js) → AreGood js
 good_right [] js h = h
 good_right (k ∷ ks) js h = good_right ks js h.1
 
--- what may stand behind any lexeme
+-- what may stand after any lexeme
 pub record Ready (text : List ℕ) (ks : List TokenKind) : Type 0 where
   pub cuts : Cuts text ks
   pub apart : is_apart (first_of text) ≡ true
 
--- bytes that are cut into these lexemes before what may stand behind any
+-- bytes that are cut into these lexemes before what may stand after any
 pub record Fits (bytes : List ℕ) (ks : List TokenKind) : Type 0 where
   pub run : AreGood ks → (text : List ℕ) (js : List TokenKind) → Ready text js → Cuts (bytes ++ text) (ks ++ js)
 
--- such bytes that may stand behind any lexeme themselves
+-- such bytes that may stand after any lexeme themselves
 pub record Tail (bytes : List ℕ) (ks : List TokenKind) : Type 0 where
   pub run : AreGood ks → (text : List ℕ) (js : List TokenKind) → Ready text js → Ready (bytes ++ text) (ks ++ js)
 
@@ -77,7 +77,7 @@ tail_nil = record { run = λ g text js r. r }
 pub tail_blank : {y : List ℕ} {ky : List TokenKind} → Fits y ky → Tail (32 ∷ y) ky
 tail_blank {y} {ky} fy = record { run = λ g text js r. record { cuts = cuts_white 32 refl (fy.run g text js r); apart = refl } }
 
--- a `,` or the like directly behind a lexeme
+-- a `,` or the like directly after a lexeme
 pub tail_close : {y : List ℕ} {ky : List TokenKind} (kind : TokenKind) → ((text : List ℕ) → is_apart (first_of (spelling kind ++ text)) ≡ true) → Tail y ky → Tail (spelling kind ++ y) (kind ∷ ky)
 tail_close {y} {ky} kind apart ty = record {
   run = λ g text js r.

@@ -90,7 +90,7 @@ small_spelling (kinds.Number n) is = is
 small_spelling kinds.Var is = omega arith
 small_spelling kind is = omega arith
 
--- ---- what may stand behind a lexeme
+-- ---- what may stand after a lexeme
 
 abbrev pub first_of : List ℕ → ℕ
 first_of [] = 10
@@ -125,7 +125,7 @@ apart_61 b h = grind (arith, nat_tests)
 pub apart_62 : (b : ℕ) → is_apart b ≡ true → eqb b 62 ≡ false
 apart_62 b h = grind (arith, nat_tests)
 
--- what may stand behind a lexeme of this kind
+-- what may stand after a lexeme of this kind
 abbrev pub Ends : TokenKind → List ℕ → Type 0
 Ends kinds.Minus text = eqb (first_of text) 62 ≡ false
 Ends kinds.OpenParen text = Unit {0}

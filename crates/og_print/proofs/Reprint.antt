@@ -152,7 +152,7 @@ prints_word {A} {B} {first'} {second'} {v} {tokens} d {second} {plain} {b} kind 
       (is, (rest nowhere).good (good_back d.front d.back g));
 }
 
--- a keyword or symbol behind all else
+-- a keyword or symbol after all else
 pub prints_end : {B : Type 0} {plain : B → B} {tokens : List Token} {b : B} (f : Span → B) (kind : TokenKind) → IsGood kind → ((at : Span) → plain (f at) ≡ plain b) → Prints (Then (Symbol kind) (λ at. Gives (f at))) plain tokens (kind ∷ []) b
 prints_end {B} {plain} {tokens} {b} f kind is same = record {
   again = λ others k.

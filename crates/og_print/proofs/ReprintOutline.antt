@@ -43,7 +43,7 @@ module _ {X : Type 0} (each : Language X) (plain_x : X → X) (printed : X → L
       (prints_then d (joined printed later d.head) (kinds.Semicolon ∷ []) (prints_separated kinds.Comma tt each each plain_x printed part later none some d.head d.front d.is_first)
       (λ ys es. prints_end (λ end. ys) kinds.Semicolon tt (λ end. es)))
 
-  -- the list behind a word has an element
+  -- the list after a word has an element
   listed_some : (kind : TokenKind) (o : Option (List X)) (tokens : List Token) → IfSymbol kind (IsListed each) o tokens → o ≡ Some [] → ⊥
   listed_some kind o tokens (inl d) e =
       let l = d.is_first.is_second in

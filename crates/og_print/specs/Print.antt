@@ -21,7 +21,7 @@ infixr 30 ◌&◌
 abbrev pub ◌&◌ : {A : Type 0} → List A → List A → List A
 xs & ys = xs ++ ys
 
--- What is put down for a lexeme, for the blank between two lexemes, for a line behind its indentation, and for
+-- What is put down for a lexeme, for the blank between two lexemes, for a line after its indentation, and for
 -- an indentation that is one level deeper.
 pub record Medium (A : Type 0) : Type 0 where
   pub word : TokenKind → List A
@@ -66,7 +66,7 @@ module _ {A : Type 0} (m : Medium A) where
   factor_in (factors.Variable x) = name_in x
   factor_in (factors.Product n x) = m.word (kinds.Number n) & m.word kinds.Star & name_in x
 
-  -- the terms behind the first: ` + ` and ` - ` between them
+  -- the terms after the first: ` + ` and ` - ` between them
   abbrev pub later_terms_in : List RawTerm → List A
   later_terms_in [] = []
   later_terms_in (t ∷ ts) = m.blank & m.word (sign_word t.sign) & m.blank & factor_in t.factor & later_terms_in ts
@@ -96,7 +96,7 @@ module _ {A : Type 0} (m : Medium A) where
     joined_in between limit none = []
     joined_in between limit (more a others) = fitted_in limit a (assertion_in a) & later_in between limit others
 
-    -- those behind the first
+    -- those after the first
     pub later_in : TokenKind → ℕ → Assertions → List A
     later_in between limit none = []
     later_in between limit (more a others) = m.blank & m.word between & m.blank & fitted_in limit a (assertion_in a) & later_in between limit others
@@ -183,7 +183,7 @@ module _ {A : Type 0} (m : Medium A) where
     main_in None = []
     main_in (Some s) = m.line [] (m.word kinds.Begin) & seq_in notes (m.deeper []) s & m.line [] (m.word kinds.End)
 
-    -- the processes behind the first, each behind a line `//`
+    -- the processes after the first, each after a line `//`
     abbrev pub later_processes_in : List Seq → List A
     later_processes_in [] = []
     later_processes_in (s ∷ ss) = m.line [] (m.word kinds.Parallel) & seq_in notes (m.deeper []) s & later_processes_in ss

@@ -7,7 +7,7 @@ use Rattle.og_cond.specs.declared.kind.Kind.{Kind}
 use Rattle.og_pool.specs.declared.status.Status.{Status}
 use Rattle.og_pool.specs.declared.status.Status.TheVariants as status
 use Rattle.og_judge.specs.declared.entry.Entry.{Entry}
-use Rattle.og_judge.specs.Report.{is_proved}
+use Rattle.og_judge.specs.Entries.{is_proved}
 use Rattle.og_report.specs.Json.{entry_data, unproved_data, report_data}
 
 entry_with : Kind → ℕ → Option ℕ → Status → Entry

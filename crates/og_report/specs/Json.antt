@@ -9,7 +9,7 @@ use Rattle.og_text.specs.Place.{line_at, column_at}
 use Rattle.og_pool.specs.declared.status.Status.{Status}
 use Rattle.og_pool.specs.declared.status.Status.TheVariants as status
 use Rattle.og_judge.specs.declared.entry.Entry.{Entry}
-use Rattle.og_judge.specs.Report.{is_proved, is_safe, is_unblocked}
+use Rattle.og_judge.specs.Entries.{is_proved, is_safe, is_unblocked}
 
 abbrev pub natural : ℕ → Data
 natural n = number (unsigned n)

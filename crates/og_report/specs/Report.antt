@@ -7,7 +7,7 @@ use Rattle.og_pool.specs.declared.status.Status.{Status}
 use Rattle.og_pool.specs.declared.status.Status.TheVariants as status
 use Rattle.og_listing.specs.Places.{◌&◌, position_of, position_text, with_text}
 use Rattle.og_judge.specs.declared.entry.Entry.{Entry}
-use Rattle.og_judge.specs.Report.{is_proved, is_safe, is_unblocked}
+use Rattle.og_judge.specs.Entries.{is_proved, is_safe, is_unblocked}
 
 abbrev pub status_text : Status → List ℕ
 status_text status.Missing = codes "missing"

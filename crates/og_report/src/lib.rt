@@ -1,6 +1,7 @@
 //! The printed texts of a judgement and of a refusal.
 //!
-//! specs/Report.antt, specs/Json.antt and specs/Refusal.antt define the texts.
+//! specs/Report.antt and specs/Json.antt define the texts of a judgement, and og_answer's
+//! specs/Line.antt that of a refusal.
 #![tactic(auto)]
 
 mod members;

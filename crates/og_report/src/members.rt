@@ -1,18 +1,19 @@
 //! The report as JSON.
 
-ghost use Rattle.std.specs.Prelude.{◌≡◌, ◌≤◌, ◌^◌, length, map, codes, false, IfOk};
-ghost use Rattle.serde_json.specs.Data.{object, member, no_members, string, boolean, array};
-ghost use Rattle.serde_json.specs.View.{view, items_view};
+ghost use Rattle.std.specs.Prelude.{◌≡◌, ◌≤◌, ◌^◌, [], length, map, codes, false, IfOk, OnOk};
+ghost use Rattle.serde_json.specs.Data.{object, member, no_members, string, boolean, array, put as with_member};
+ghost use Rattle.serde_json.specs.View.{view, items_view, members_view};
 ghost use Rattle.serde_json.specs.Written.{compact_text, has_float};
+ghost use Rattle.og_cond.specs.Names.{name_of_kind};
 ghost use Rattle.og_judge.specs.Shown.{entries_of};
 ghost use Rattle.og_listing.specs.Places.{position_of};
 ghost use Rattle.og_report.specs.Json.{natural, status_word, entry_data, unproved_data, report_data, json_text};
 
 use crate::report::count_proved;
 use og_judge::{Entry, Judgement};
-use og_listing::{Places, Position};
+use og_listing::Places;
 use og_pool::Status;
-use serde_json::{Value, json};
+use serde_json::{Map, Value, json, put};
 use std::alloc::{AllocError, Global};
 
 // The word for what was found.
@@ -27,112 +28,78 @@ fn word_of(status: Status) -> &'static str
     }
 }
 
-// A condition that is no interference and did not fail.
-fn plain_value(
+// Sets a member to a text.
+fn put_text(
+    members: &mut Map<String, Value>,
     alloc: Global,
-    condition: u64,
-    place: Position,
-    kind: &str,
-    status: &str,
-) -> Result<Value, AllocError>
-    ensures { IfOk result (λ v. view v ≡ object
-        (member (codes "column") (natural place.column)
-        (member (codes "condition") (natural condition)
-        (member (codes "kind") (string kind.now)
-        (member (codes "line") (natural place.line)
-        (member (codes "status") (string status.now) no_members)))))) }
+    key: &str,
+    text: &str,
+) -> Result<(), AllocError>
+    ensures { OnOk result (members_view members.new.entries
+        ≡ with_member key.now (string text.now) (members_view members.old.entries)) }
 {
-    let column = place.column as u64;
-    let line = place.line as u64;
-    json!(in alloc; {
-        "column": column, "condition": condition, "kind": kind, "line": line, "status": status
-    })
+    put(members, alloc, key, Value::try_from_str(alloc, text)?)
 }
 
-// An interference that did not fail.
-fn action_value(
+// Sets a member to a number.
+fn put_number(
+    members: &mut Map<String, Value>,
     alloc: Global,
-    condition: u64,
-    place: Position,
-    action: Position,
-    kind: &str,
-    status: &str,
-) -> Result<Value, AllocError>
-    ensures { IfOk result (λ v. view v ≡ object
-        (member (codes "action_column") (natural action.column)
-        (member (codes "action_line") (natural action.line)
-        (member (codes "column") (natural place.column)
-        (member (codes "condition") (natural condition)
-        (member (codes "kind") (string kind.now)
-        (member (codes "line") (natural place.line)
-        (member (codes "status") (string status.now) no_members)))))))) }
+    key: &str,
+    number: u64,
+) -> Result<(), AllocError>
+    ensures { OnOk result (members_view members.new.entries
+        ≡ with_member key.now (natural number) (members_view members.old.entries)) }
 {
-    let column = place.column as u64;
-    let line = place.line as u64;
-    let action_column = action.column as u64;
-    let action_line = action.line as u64;
-    json!(in alloc; {
-        "action_column": action_column, "action_line": action_line,
-        "column": column, "condition": condition, "kind": kind, "line": line, "status": status
-    })
+    put(members, alloc, key, Value::from(number))
 }
 
-// A condition that is no interference and failed.
-fn failed_value(
+// Sets the members that every condition has.
+fn put_common(
+    members: &mut Map<String, Value>,
     alloc: Global,
-    condition: u64,
-    place: Position,
-    kind: &str,
-    fault: &str,
-    step: u64,
-) -> Result<Value, AllocError>
-    ensures { IfOk result (λ v. view v ≡ object
-        (member (codes "column") (natural place.column)
-        (member (codes "condition") (natural condition)
-        (member (codes "fault") (string fault.now)
-        (member (codes "kind") (string kind.now)
-        (member (codes "line") (natural place.line)
-        (member (codes "status") (string (codes "failed"))
-        (member (codes "step") (natural step) no_members)))))))) }
+    places: &Places,
+    number: u64,
+    entry: &Entry,
+) -> Result<(), AllocError>
+    requires { members.old.entries ≡ [] }
+    ensures { OnOk result (members_view members.new.entries
+        ≡ member (codes "column") (natural (position_of places.now entry.now.at).column)
+        (member (codes "condition") (natural number)
+        (member (codes "kind") (string (name_of_kind entry.now.kind))
+        (member (codes "line") (natural (position_of places.now entry.now.at).line)
+        (member (codes "status") (string (status_word entry.now.status)) no_members))))) }
 {
-    let column = place.column as u64;
-    let line = place.line as u64;
-    json!(in alloc; {
-        "column": column, "condition": condition, "fault": fault,
-        "kind": kind, "line": line, "status": "failed", "step": step
-    })
+    let place = places.position(entry.at);
+    put_number(members, alloc, "condition", number)?;
+    put_text(members, alloc, "kind", entry.kind.name())?;
+    put_number(members, alloc, "line", place.line as u64)?;
+    put_number(members, alloc, "column", place.column as u64)?;
+    put_text(members, alloc, "status", word_of(entry.status))
 }
 
-// An interference that failed.
-fn failed_action_value(
+// Sets the members of a condition: one of interference tells its action, a failed one its fault.
+fn put_entry(
+    members: &mut Map<String, Value>,
     alloc: Global,
-    condition: u64,
-    place: Position,
-    action: Position,
-    kind: &str,
-    fault: &str,
-    step: u64,
-) -> Result<Value, AllocError>
-    ensures { IfOk result (λ v. view v ≡ object
-        (member (codes "action_column") (natural action.column)
-        (member (codes "action_line") (natural action.line)
-        (member (codes "column") (natural place.column)
-        (member (codes "condition") (natural condition)
-        (member (codes "fault") (string fault.now)
-        (member (codes "kind") (string kind.now)
-        (member (codes "line") (natural place.line)
-        (member (codes "status") (string (codes "failed"))
-        (member (codes "step") (natural step) no_members)))))))))) }
+    places: &Places,
+    number: u64,
+    entry: &Entry,
+) -> Result<(), AllocError>
+    requires { members.old.entries ≡ [] }
+    ensures { OnOk result (object (members_view members.new.entries) ≡ entry_data places.now number entry.now) }
 {
-    let column = place.column as u64;
-    let line = place.line as u64;
-    let action_column = action.column as u64;
-    let action_line = action.line as u64;
-    json!(in alloc; {
-        "action_column": action_column, "action_line": action_line,
-        "column": column, "condition": condition, "fault": fault,
-        "kind": kind, "line": line, "status": "failed", "step": step
-    })
+    put_common(members, alloc, places, number, entry)?;
+    if let Some(at) = entry.action_at {
+        let action = places.position(at);
+        put_number(members, alloc, "action_line", action.line as u64)?;
+        put_number(members, alloc, "action_column", action.column as u64)?;
+    }
+    if let Status::Failed(fault) = entry.status {
+        put_text(members, alloc, "fault", fault.name())?;
+        put_number(members, alloc, "step", fault.step)?;
+    }
+    Ok(())
 }
 
 // The value of a condition.
@@ -144,22 +111,9 @@ fn entry_value(
 ) -> Result<Value, AllocError>
     ensures { IfOk result (λ v. view v ≡ entry_data places.now number entry.now) }
 {
-    let place = places.position(entry.at);
-    let kind = entry.kind.name();
-    match (entry.action_at, entry.status) {
-        (None, Status::Failed(fault)) => {
-            failed_value(alloc, number, place, kind, fault.name(), fault.step)
-        }
-        (Some(at), Status::Failed(fault)) => {
-            let action = places.position(at);
-            failed_action_value(alloc, number, place, action, kind, fault.name(), fault.step)
-        }
-        (None, status) => plain_value(alloc, number, place, kind, word_of(status)),
-        (Some(at), status) => {
-            let action = places.position(at);
-            action_value(alloc, number, place, action, kind, word_of(status))
-        }
-    }
+    let mut members = Map::new(alloc);
+    put_entry(&mut members, alloc, places, number, entry)?;
+    Ok(Value::Object(members))
 }
 
 // The values of the conditions that are not proved, numbered from 1.

@@ -1,7 +1,7 @@
 //! The report as text.
 
 ghost use Rattle.std.specs.Prelude.{◌≡◌, ◌++◌, ◌≤◌, ◌^◌, length, count_by, IfOk, OnOk};
-ghost use Rattle.og_judge.specs.Report.{is_proved};
+ghost use Rattle.og_judge.specs.Entries.{is_proved};
 ghost use Rattle.og_judge.specs.Shown.{entries_of};
 ghost use Rattle.og_report.specs.Report.{status_text, rest_text, numbered_text, line_text, unproved_lines, count_text, answer_text, totals_text, report_text};
 
@@ -27,7 +27,7 @@ fn put_status(text: &mut Vec<u8>, status: Status) -> Result<(), AllocError>
     }
 }
 
-// What stands behind the number of a condition.
+// What stands after the number of a condition.
 fn put_rest(text: &mut Vec<u8>, places: &Places, entry: &Entry) -> Result<(), AllocError>
     ensures { OnOk result (text.new.items ≡ text.old.items ++ rest_text places.now entry.now) }
 {
@@ -38,7 +38,7 @@ fn put_rest(text: &mut Vec<u8>, places: &Places, entry: &Entry) -> Result<(), Al
     text.extend_from_slice(b"\n")
 }
 
-// What stands behind the place of a condition.
+// What stands after the place of a condition.
 fn put_numbered(
     text: &mut Vec<u8>,
     places: &Places,

@@ -1,17 +1,17 @@
 //! The conditions of outlines.
 
-use crate::outlines::{outline_of, place};
-use crate::sources::{
-    AUXILIARY_LOOP, EACH_WAITS, EQUAL_ADD, NESTED, ONE_SKIP, SKIP_AND_ASSIGN, TOLD_ADD, TWO_ADD,
-    WITH_MAIN, add_times, equal_processes,
-};
+use crate::outlines::place;
 use og_cond::{Condition, ConditionsError, Kind, conditions};
+use og_samples::{
+    AUXILIARY_LOOP, EACH_WAITS, EQUAL_ADD, NESTED, ONE_SKIP, SKIP_AND_ASSIGN, TOLD_ADD, TWO_ADD,
+    WITH_MAIN, alike, equal_processes, outline_of,
+};
 use og_typed::Outline;
 use std::alloc::{AllocError, Global};
 use std::process::Abort;
 use std::test::Fail;
 
-// Kind and place, and the place of the action behind `with`.
+// Kind and place, and the place of the action after `with`.
 fn told(alloc: Global, source: &str, condition: &Condition) -> Result<String, AllocError> {
     let name = condition.kind.name();
     let (line, column) = place(source, condition.at);
@@ -153,23 +153,8 @@ fn counts(alloc: Global, source: &str) -> Result<String, Fail> {
     Ok(told?)
 }
 
-// Equal processes of so many assignments and then so many skips, every assertion `x >= 0`.
-fn alike(alloc: Global, assigns: u32, skips: u32, others: u32) -> Result<String, AllocError> {
-    let mut process = String::new(alloc);
-    add_times(&mut process, "{x >= 0} x := 1\n", assigns)?;
-    add_times(&mut process, "{x >= 0} skip\n", skips)?;
-    process.push_str("{x >= 0}\n")?;
-    equal_processes(
-        alloc,
-        "var x;\n{x >= 0}\ncobegin\n",
-        process.as_str(),
-        others,
-        "coend\n{x >= 0}\n",
-    )
-}
-
-// The assignments, the skips, the processes behind the first, and what is told of the conditions.
-const COUNTS: &[(u32, u32, u32, &str)] = &[
+// The assignments, the skips, the processes after the first, and what is told of the conditions.
+const COUNTS: &[(usize, usize, usize, &str)] = &[
     (2, 38, 7, "8 4592 1 of 4938"),
     (64, 0, 11, "12 549120 1 of 550670"),
     (64, 0, 63, "18 TooManyConditions"),
@@ -204,13 +189,13 @@ fn counts_of_skips(rt: HostRuntime) -> Result<(), Fail> {
 
 // Two processes, one of assignments and one of skips. With a assignments and s skips there are
 // (a + 1) * (s + 3) + 1 conditions.
-fn two_sides(alloc: Global, assigns: u32, skips: u32) -> Result<String, AllocError> {
-    let mut source = String::from_str(alloc, "var x;\n{x >= 0}\ncobegin\n")?;
-    add_times(&mut source, "{x >= 0} x := 1\n", assigns)?;
-    source.push_str("{x >= 0}\n//\n")?;
-    add_times(&mut source, "{x >= 0} skip\n", skips)?;
-    source.push_str("{x >= 0}\ncoend\n{x >= 0}\n")?;
-    Ok(source)
+fn two_sides(alloc: Global, assigns: usize, skips: usize) -> Result<String, AllocError> {
+    let assigns = "{x >= 0} x := 1\n".repeat(alloc, assigns)?;
+    let skips = "{x >= 0} skip\n".repeat(alloc, skips)?;
+    let head = "var x;\n{x >= 0}\ncobegin\n";
+    let between = "{x >= 0}\n//\n";
+    let tail = "{x >= 0}\ncoend\n{x >= 0}\n";
+    [head, assigns.as_str(), between, skips.as_str(), tail].concat(alloc)
 }
 
 // 2000 * 2000 + 1 conditions, one more than there may be.

@@ -1,8 +1,8 @@
 //! Programs of source texts: outlines without their auxiliary variables, as they are printed.
 
-use crate::outlines::outline_of;
 use og_erase::{Program, erase};
 use og_print::{print_outline, print_program};
+use og_samples::outline_of;
 use og_typed::Outline;
 use std::alloc::Global;
 use std::process::Abort;

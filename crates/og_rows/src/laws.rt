@@ -1,6 +1,6 @@
 //! The theorem over all interleavings, as calls: there is nothing to run.
 
-use og_judge::{erased_soundness, progress, soundness};
+use og_theorem::{erased_soundness, progress, soundness};
 
 #[test]
 fn laws(_rt: HostRuntime) {

@@ -17,8 +17,6 @@ mod outlines;
 #[cfg(test)]
 mod resolving;
 #[cfg(test)]
-mod sources;
-#[cfg(test)]
 mod steps;
 #[cfg(test)]
 mod truth;

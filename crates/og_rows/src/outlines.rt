@@ -1,18 +1,10 @@
-//! Outlines of source texts, and the places of their parts.
+//! The places of the parts of outlines.
 
-use crate::sources::NESTED;
-use og_parse::parse;
-use og_text::{lex, line_col};
-use og_typed::{Outline, Seq, Stmt, resolve};
+use og_samples::{NESTED, outline_of};
+use og_text::line_col;
+use og_typed::{Outline, Seq, Stmt};
 use std::alloc::{AllocError, Global};
 use std::test::Fail;
-
-// The outline of a source.
-pub(crate) fn outline_of(alloc: Global, source: &str) -> Result<Outline, Fail> {
-    let tokens = lex(alloc, source.as_bytes())?;
-    let raw = parse(alloc, tokens.as_slice())?;
-    Ok(resolve(alloc, raw)?)
-}
 
 // The line and the column of a byte offset, or 0 and 0 where it lies beyond the text.
 pub(crate) fn place(source: &str, at: u32) -> (u32, u32) {

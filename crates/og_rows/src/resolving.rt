@@ -130,7 +130,7 @@ const AWAITS: &str = "{true} cobegin {true} await true then begin skip";
 
 const PROCESSES: &str = "{true} cobegin {true} skip {true}";
 
-// What stands before, what is repeated, how often, what stands behind, and the answer.
+// What stands before, what is repeated, how often, what stands after, and the answer.
 const LISTS: &[(&str, &str, u32, &str, &str)] = &[
     (AWAITS, "; skip", 63, " end {true} coend {true}", ""),
     (

@@ -1,8 +1,9 @@
 //! Starts and steps of outlines.
 
-use crate::outlines::outline_of;
-use crate::sources::{AUXILIARY_LOOP, EACH_WAITS, ONE_BELOW, TWO_ADD, UP_AND_DOWN, WITH_MAIN};
 use og_linear::State;
+use og_samples::{
+    AUXILIARY_LOOP, EACH_WAITS, ONE_BELOW, TWO_ADD, UP_AND_DOWN, WITH_MAIN, outline_of,
+};
 use og_step::{Moment, StartError, start};
 use og_typed::Outline;
 use std::alloc::{AllocError, Global};

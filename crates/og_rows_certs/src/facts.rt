@@ -1,10 +1,9 @@
 //! The facts of conditions.
 
-use crate::outlines::outline_of;
-use crate::sources::{ONE_SKIP, SKIP_AND_ASSIGN, TOLD_ADD, TWO_ADD};
 use og_cond::{Condition, Goal, Hypothesis, Kind, conditions};
 use og_facts::{Fact, FactList, FactsError, facts, facts_with};
 use og_linear::{Form, FormError};
+use og_samples::{ONE_SKIP, SKIP_AND_ASSIGN, TOLD_ADD, TWO_ADD, outline_of};
 use og_subst::Action;
 use og_typed::{Basic, Outline};
 use std::alloc::{AllocError, Global};
@@ -13,7 +12,7 @@ use std::test::Fail;
 
 const NAMES: [&str; 3] = ["x", "y", "z"];
 
-// A coefficient and its variable behind what is there.
+// A coefficient and its variable after what is there.
 fn add_term(
     out: &mut String,
     alloc: Global,

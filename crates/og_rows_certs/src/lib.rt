@@ -6,12 +6,10 @@
 #[cfg(test)]
 mod facts;
 #[cfg(test)]
-mod outlines;
+mod lines;
 #[cfg(test)]
 mod reading;
 #[cfg(test)]
 mod replay;
-#[cfg(test)]
-mod sources;
 #[cfg(test)]
 mod texts;

@@ -1,6 +1,6 @@
 //! Texts of certificates that are read, refused and written again.
 
-use crate::sources::{add_times, with_lines};
+use crate::lines::with_lines;
 use og_cert_read::{read_certs, write_certs_2};
 use og_cert_text::{CertFile, CertTextError, write_certs};
 use std::alloc::{AllocError, Global};
@@ -171,7 +171,7 @@ const NUMBERS: &[(&str, &str)] = &[
     ("og-cert 1|cond 999999999|close 1*1|", "read"),
 ];
 
-// A certificate whose first line is this one, and what stands behind it.
+// A certificate whose first line is this one, and what stands after it.
 fn expect_line(
     rt: &impl Abort,
     alloc: Global,
@@ -208,9 +208,9 @@ fn parts_of_lines(rt: HostRuntime) -> Result<(), Fail> {
 fn depth_is_limited(rt: HostRuntime) -> Result<(), Fail> {
     let alloc = rt.alloc();
     let mut text = String::from_str(alloc, "og-cert 1|cond 1|")?;
-    add_times(&mut text, "branch 0|", 200)?;
+    text.push_str("branch 0|".repeat(alloc, 200)?.as_str())?;
     let mut deep = text.clone()?;
-    add_times(&mut text, "close 1*1|", 201)?;
+    text.push_str("close 1*1|".repeat(alloc, 201)?.as_str())?;
     deep.push_str("branch 0|")?;
     let mut split = deep.clone()?;
     split.push_str("split 1 0|")?;

@@ -1,15 +1,14 @@
 //! Certificates replayed over the conditions of outlines.
 
-use crate::outlines::outline_of;
-use crate::sources::{
-    EACH_WAITS, EQUAL_ADD, ONE_BELOW, ONE_SKIP, SKIP_AND_ASSIGN, TWO_ADD, UP_AND_DOWN, add_times,
-    with_lines,
-};
+use crate::lines::with_lines;
 use og_cert::{Cert, ReplayError, replay};
 use og_cert_read::read_certs;
 use og_cert_text::CertFile;
 use og_cond::{Condition, conditions};
 use og_facts::{FactList, FactsError, facts};
+use og_samples::{
+    EACH_WAITS, EQUAL_ADD, ONE_BELOW, ONE_SKIP, SKIP_AND_ASSIGN, TWO_ADD, UP_AND_DOWN, outline_of,
+};
 use og_typed::Outline;
 use std::alloc::{AllocError, Global};
 use std::process::Abort;
@@ -201,7 +200,7 @@ const BOTH_SIDES: &str = "split 3 2|close 1*2 1*4|close 1*1 1*4|";
 const AT_THE_LIMIT: &str =
     "var x;\n{x = 9223372036854775807}\ncobegin\n{x = 9223372036854775807} x := x + 1 {true}\ncoend\n{true}\n";
 
-// A variable's own bound says nothing of its value behind the assignment.
+// A variable's own bound says nothing of its value after the assignment.
 const WITH_BOUND: &str = "split 3 2|close 1*2 1*4|close 1*4 1*u0|";
 
 const RANGES: &[Row] = &[
@@ -372,11 +371,9 @@ fn faults_and_their_steps(rt: HostRuntime) -> Result<(), Fail> {
 }
 
 // So many sums, and a line that closes.
-fn sums(alloc: Global, count: u32) -> Result<String, AllocError> {
-    let mut lines = String::new(alloc);
-    add_times(&mut lines, "sum 1*1|", count)?;
-    lines.push_str("close 1*1|")?;
-    Ok(lines)
+fn sums(alloc: Global, count: usize) -> Result<String, AllocError> {
+    let sums = "sum 1*1|".repeat(alloc, count)?;
+    [sums.as_str(), "close 1*1|"].concat(alloc)
 }
 
 #[test]

@@ -30,7 +30,7 @@ impl<'a> Case<'a> {
     }
 }
 
-// The first example of a text and those behind it. An example is a line with its name, and then three
+// The first example of a text and those after it. An example is a line with its name, and then three
 // parts, each of which ends at `@` and a line end.
 fn next_case(text: &str) -> Option<(Case<'_>, &str)> {
     let (name, rest) = text.split_once('\n')?;

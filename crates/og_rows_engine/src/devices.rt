@@ -5,6 +5,7 @@ use crate::not_safe::NOT_SAFE;
 use crate::refused::REFUSED;
 use crate::safe::SAFE;
 use og_engine::{EngineFault, Options, engine, engine_joined};
+use og_limits::Workers;
 use og_pool::OpenGate;
 use std::alloc::Global;
 use std::io::{Error, ErrorKind, Read, Write};
@@ -14,7 +15,7 @@ use std::test::Fail;
 use std::thread::Threads;
 
 const OPTIONS: Options = Options {
-    workers: 1,
+    workers: Workers::ONE,
     json: false,
 };
 
@@ -194,7 +195,7 @@ fn expect_failed_joined_reads<R: Threads + Wait + Sync + Abort>(
     Ok(())
 }
 
-// Nothing is written where a reader fails, at any read up to the one behind the last byte.
+// Nothing is written where a reader fails, at any read up to the one after the last byte.
 #[test]
 fn failing_readers(rt: HostRuntime) -> Result<(), Fail> {
     expect_failed_reads(&rt, rt.alloc());
@@ -220,7 +221,7 @@ fn expect_failed_writes<R: Threads + Wait + Sync + Abort>(rt: &R, alloc: Global)
     assert!(rt; write_to(rt, &mut paper) == Err(EngineFault::WriteFailed));
 }
 
-// A writer that fails behind the last byte is not asked for more.
+// A writer that fails after the last byte is not asked for more.
 #[test]
 fn failing_writers(rt: HostRuntime) {
     expect_failed_writes(&rt, rt.alloc());

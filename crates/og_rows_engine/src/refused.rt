@@ -280,7 +280,7 @@ og-cert 1
 @
 refused: 10 Undeclared at 1:2
 @
-2 an auxiliary in the postcondition behind an epilogue
+2 an auxiliary in the postcondition after an epilogue
 aux a = 0; {true} cobegin {true} skip {true} coend begin {a = 0} skip {a = 0} end {a = 0}@
 og-cert 1
 @

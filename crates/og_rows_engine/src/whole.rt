@@ -6,6 +6,7 @@ use crate::printed::{ERASED, IN_JSON, LISTED, MIGRATED};
 use crate::refused::REFUSED;
 use crate::safe::SAFE;
 use og_engine::{Options, checked, erased, found, listed, migrated};
+use og_limits::{Budget, Workers};
 use og_pool::OpenGate;
 use std::alloc::Global;
 use std::process::Abort;
@@ -21,12 +22,13 @@ fn expect_report<R: Threads + Wait + Sync + Abort>(
     json: bool,
 ) -> Result<(), Fail> {
     let (source, certs) = (case.source.as_bytes(), case.certs.as_bytes());
-    for workers in [1, 2, 64] {
+    for count in [1, 2, 64] {
+        let workers = Workers::new(count).expect(rt, "from 1 to 64");
         let options = Options { workers, json };
         let answer = checked(rt, alloc, source, certs, options, &OpenGate)?;
         assert!(rt;
             case.prints(&answer.text, answer.status),
-            "{} by {workers}",
+            "{} by {count}",
             case.name
         );
     }
@@ -61,7 +63,7 @@ fn expect_migrated_reports<R: Threads + Wait + Sync + Abort>(
     cases: Vec<Case<'_>>,
 ) -> Result<(), Fail> {
     let options = Options {
-        workers: 1,
+        workers: Workers::ONE,
         json: false,
     };
     for case in cases {
@@ -107,10 +109,11 @@ fn expect_found<R: Threads + Wait + Sync + Abort>(
     report: &str,
     status: u8,
 ) -> Result<(), Fail> {
-    let certs = found(alloc, source.as_bytes(), 100_000)?;
+    let budget = Budget::new(100_000).expect(rt, "within its limit");
+    let certs = found(alloc, source.as_bytes(), budget)?;
     assert_eq!(rt; certs.status, status);
     let options = Options {
-        workers: 2,
+        workers: Workers::new(2).expect(rt, "from 1 to 64"),
         json: false,
     };
     let answer = checked(

@@ -4,8 +4,6 @@
 #![tactic(auto)]
 
 #[cfg(test)]
-mod outlines;
-#[cfg(test)]
 mod searching;
 #[cfg(test)]
 mod sources;

@@ -1,12 +1,10 @@
 //! What the finder tells of the conditions of outlines.
 
-use crate::outlines::outline_of;
-use crate::sources::{
-    EQUAL_ADD, LARGE, NESTED, NO_FACTS, NOT_EVEN, TOLD_ADD, TWO_ADD, alike, deep, many, multiplied,
-};
+use crate::sources::{LARGE, NO_FACTS, NOT_EVEN, deep, many, multiplied};
 use og_cert_text::{CertFile, write_certs};
 use og_cond::{Condition, conditions};
 use og_find::{Verdict, examine, find, find_all, has_all};
+use og_samples::{EQUAL_ADD, NESTED, TOLD_ADD, TWO_ADD, alike, outline_of};
 use og_typed::Outline;
 use std::alloc::{AllocError, Global};
 use std::process::Abort;
@@ -169,7 +167,7 @@ fn certified(alloc: Global, outline: &Outline) -> Result<(usize, bool), Fail> {
 #[test]
 fn many_conditions(rt: HostRuntime) -> Result<(), Fail> {
     let alloc = rt.alloc();
-    let source = alike(alloc)?;
+    let source = alike(alloc, 2, 38, 7)?;
     let outline = outline_of(alloc, source.as_str())?;
     let told = certified(alloc, &outline);
     drop(outline);

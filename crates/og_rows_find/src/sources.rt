@@ -2,22 +2,6 @@
 
 use std::alloc::{AllocError, Global};
 
-// Two awaits that add 1 and 2.
-pub(crate) const TWO_ADD: &str =
-    "var x;\n{x = 0}\ncobegin\n{x = 0 or x = 2}\nawait true then x := x + 1\n{x = 1 or x = 3}\n//\n{x = 0 or x = 1}\nawait true then x := x + 2\n{x = 2 or x = 3}\ncoend\n{x = 3}\n";
-
-// Two awaits that each add 1.
-pub(crate) const EQUAL_ADD: &str =
-    "var x;\n{x = 0}\ncobegin\n{x = 0 or x = 1}\nawait true then x := x + 1\n{x = 1 or x = 2}\n//\n{x = 0 or x = 1}\nawait true then x := x + 1\n{x = 1 or x = 2}\ncoend\n{x = 2}\n";
-
-// The same with auxiliaries that tell who has added.
-pub(crate) const TOLD_ADD: &str =
-    "var x; aux a = 0, b = 0;\n{x = 0}\ncobegin\n{x = a + b and a = 0 and b <= 1}\nawait true then begin x := x + 1; a := 1 end\n{x = a + b and a = 1 and b <= 1}\n//\n{x = a + b and b = 0 and a <= 1}\nawait true then begin x := x + 1; b := 1 end\n{x = a + b and b = 1 and a <= 1}\ncoend\n{x = 2}\n";
-
-// An `if` in a `while`, and a process that assigns what both rest on.
-pub(crate) const NESTED: &str =
-    "var x, y;\n{x = 0 and y = 0}\ncobegin\n{x = 0}\nwhile y = 0 do begin\n  {x = 0}\n  if x = 0 then begin\n    {x = 0}\n    skip\n    {x = 0}\n  end\n  {x = 0}\nend\n{true}\n//\n{true}\nx := 1\n{true}\ncoend\n{true}\n";
-
 pub(crate) const NOT_EVEN: &str =
     "var x, y;\n{2*x = 2*y + 1}\ncobegin\n{false} skip {false}\ncoend\n{false}\n";
 
@@ -27,23 +11,6 @@ pub(crate) const LARGE: &str =
 
 // A condition that has no facts at all: it is false.
 pub(crate) const NO_FACTS: &str = "{false}\ncobegin\n{true} skip {false}\ncoend\n{false}\n";
-
-// Eight equal processes of two assignments and then 38 skips, every assertion `x >= 0`.
-pub(crate) fn alike(alloc: Global) -> Result<String, AllocError> {
-    let assigns = "{x >= 0} x := 1\n".repeat(alloc, 2)?;
-    let skips = "{x >= 0} skip\n".repeat(alloc, 38)?;
-    let process = [assigns.as_str(), skips.as_str(), "{x >= 0}\n"].concat(alloc)?;
-    let other = ["//\n", process.as_str()].concat(alloc)?;
-    let others = other.as_str().repeat(alloc, 7)?;
-    let begin = "var x;\n{x >= 0}\ncobegin\n";
-    [
-        begin,
-        process.as_str(),
-        others.as_str(),
-        "coend\n{x >= 0}\n",
-    ]
-    .concat(alloc)
-}
 
 // A process that multiplies x so often by 2^31.
 pub(crate) fn multiplied(alloc: Global, times: usize) -> Result<String, AllocError> {

@@ -4,8 +4,4 @@
 #![tactic(auto)]
 
 #[cfg(test)]
-mod outlines;
-#[cfg(test)]
-mod sources;
-#[cfg(test)]
 mod workers;

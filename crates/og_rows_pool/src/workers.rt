@@ -2,13 +2,12 @@
 
 ghost use Rattle.std.specs.Prelude.{◌<◌, ◌≤◌, ◌^◌, length};
 
-use crate::outlines::outline_of;
-use crate::sources::{UP_AND_DOWN, add_times, equal_processes};
 use og_cert::{FaultKind, ReplayError, ReplayFault, replay};
 use og_cert_text::{Cert, CertFile, Finish, Source, Term};
 use og_cond::{Condition, conditions};
 use og_facts::{FactList, FactsError, facts};
 use og_pool::{Draws, Gate, OpenGate, Status, check_all};
+use og_samples::{UP_AND_DOWN, alike, outline_of};
 use og_typed::Outline;
 use std::alloc::{AllocError, Global};
 use std::process::Abort;
@@ -110,21 +109,6 @@ fn statuses_alone(
     Ok(statuses)
 }
 
-// Eight processes of two assignments and 38 skips, and every assertion `x >= 0`.
-fn eight(alloc: Global) -> Result<String, AllocError> {
-    let mut process = String::new(alloc);
-    add_times(&mut process, "{x >= 0} x := 1\n", 2)?;
-    add_times(&mut process, "{x >= 0} skip\n", 38)?;
-    process.push_str("{x >= 0}\n")?;
-    equal_processes(
-        alloc,
-        "var x;\n{x >= 0}\ncobegin\n",
-        process.as_str(),
-        7,
-        "coend\n{x >= 0}\n",
-    )
-}
-
 // Each number of workers gives the statuses that are found with none.
 fn expect_one_answer<R: Threads + Wait + Sync + Abort>(
     rt: &R,
@@ -156,10 +140,10 @@ fn expect_one_answer_of_most<R: Threads + Wait + Sync + Abort>(
 
 // The outline of eight processes.
 fn outline_of_eight(alloc: Global) -> Result<Outline, Fail> {
-    let source = eight(alloc)?;
+    let source = alike(alloc, 2, 38, 7)?;
     let told = outline_of(alloc, source.as_str());
     drop(source);
-    told
+    Ok(told?)
 }
 
 fn expect_one_answer_of_outline<R: Threads + Wait + Sync + Abort>(
@@ -182,12 +166,14 @@ fn one_answer_for_all_workers(rt: HostRuntime) -> Result<(), Fail> {
 }
 
 // An await in which x is multiplied by 2147483648, and so many times again.
-fn growing(alloc: Global, again: u32) -> Result<String, AllocError> {
+fn growing(alloc: Global, again: usize) -> Result<String, AllocError> {
     let mut source = String::from_str(
         alloc,
         "var x; {true} cobegin {true} await true then begin x := 2147483648*x",
     )?;
-    add_times(&mut source, "; x := 2147483648*x", again)?;
+    for _ in 0..again {
+        source.push_str("; x := 2147483648*x")?;
+    }
     source.push_str(" end {true} coend {true}")?;
     Ok(source)
 }

@@ -2,9 +2,10 @@
 
 ghost use Rattle.std.specs.Prelude.{◌≡◌, []};
 
-use crate::outlines::{outline_of, state_of};
 use crate::sources::{ONE_OVERFLOWS, ONE_WAITS};
+use crate::states::state_of;
 use og_run::{Arena, ArenaName, Blank, Board, RunTurn, Seat};
+use og_samples::outline_of;
 use og_typed::Outline;
 use std::alloc::{AllocError, Global};
 use std::marker::Brand;

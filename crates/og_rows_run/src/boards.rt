@@ -1,8 +1,9 @@
 //! Boards that step.
 
-use crate::outlines::{outline_of, state_of};
-use crate::sources::{ONE_OVERFLOWS, TWO_ADD, WITH_MAIN};
+use crate::sources::ONE_OVERFLOWS;
+use crate::states::state_of;
 use og_run::{Board, RunTurn};
+use og_samples::{TWO_ADD, WITH_MAIN, outline_of};
 use og_typed::Outline;
 use std::alloc::Global;
 use std::process::Abort;

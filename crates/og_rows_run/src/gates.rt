@@ -1,8 +1,8 @@
 //! Gates that hold a thread of a run, or count what they are told.
 
 use crate::runs::{outcome_of_source, told_of};
-use crate::sources::{TWO_ADD, WITH_MAIN, equal_processes};
 use og_run::{Finish, Gate, Outcome};
+use og_samples::{TWO_ADD, WITH_MAIN, alike};
 use std::process::Abort;
 use std::sync::atomic::{AtomicU64, Ordering};
 use std::test::Fail;
@@ -79,7 +79,7 @@ fn expect_second_first<R: Abort>(rt: &R, outcome: &Outcome) {
 #[test]
 fn threads_really_move(rt: HostRuntime) -> Result<(), Fail> {
     let alloc = rt.alloc();
-    let source = equal_processes(alloc, 8, "x := 1", 2, 38)?;
+    let source = alike(alloc, 2, 38, 7)?;
     let gate = Holds::new(1, 2);
     let outcome = outcome_of_source(&rt, alloc, source.as_str(), &gate)?;
     assert!(rt; !gate.has_missed());

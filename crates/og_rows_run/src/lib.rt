@@ -11,12 +11,12 @@ mod boards;
 #[cfg(test)]
 mod gates;
 #[cfg(test)]
-mod outlines;
-#[cfg(test)]
 mod proved;
 #[cfg(test)]
 mod runs;
 #[cfg(test)]
 mod sources;
+#[cfg(test)]
+mod states;
 #[cfg(test)]
 mod texts;

@@ -1,13 +1,13 @@
 //! Programs that run, each process in a thread of its own.
 
-use crate::outlines::{outline_of, state_of};
-use crate::sources::{
-    AUXILIARY_LOOP, EACH_WAITS, NO_START, ONE_OVERFLOWS, ONE_SKIP, ONE_WAITS, TWO_ADD, UP_AND_DOWN,
-    WITH_MAIN, equal_processes,
-};
+use crate::sources::{NO_START, ONE_OVERFLOWS, ONE_WAITS};
+use crate::states::state_of;
 use crate::texts::text_of;
 use og_erase::erase;
 use og_run::{Finish, Gate, OpenGate, Outcome, RunFault, run};
+use og_samples::{
+    AUXILIARY_LOOP, EACH_WAITS, ONE_SKIP, TWO_ADD, UP_AND_DOWN, WITH_MAIN, alike, outline_of,
+};
 use og_typed::Outline;
 use std::alloc::Global;
 use std::process::Abort;
@@ -180,7 +180,7 @@ fn expect_many<R: Abort>(rt: &R, outcome: &Outcome) {
 #[test]
 fn many_processes(rt: HostRuntime) -> Result<(), Fail> {
     let alloc = rt.alloc();
-    let source = equal_processes(alloc, 64, "x := 1", 2, 61)?;
+    let source = alike(alloc, 2, 61, 63)?;
     let outcome = outcome_of_source(&rt, alloc, source.as_str(), &OpenGate)?;
     expect_many(&rt, &outcome);
     Ok(())

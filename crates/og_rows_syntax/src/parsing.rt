@@ -109,7 +109,7 @@ fn tells_the_first_fault(rt: HostRuntime) -> Result<(), Fail> {
 
 const BODY: &str = "} cobegin {true} skip {true} coend {true}";
 
-// What stands before, what is repeated, how often, what stands behind, and the answer.
+// What stands before, what is repeated, how often, what stands after, and the answer.
 const LEVELS: &[(&str, &str, u32, &str, &str)] = &[
     ("var ", "a", 64, "", "7 Expected 68..68"),
     ("{", "(", 100, "", "7 Expected 101..101"),
@@ -258,7 +258,7 @@ fn expect_end(
     Ok(())
 }
 
-// More is expected behind each token.
+// More is expected after each token.
 fn expect_ends(rt: &impl Abort, alloc: Global, tokens: &[Token]) -> Result<(), AllocError> {
     let mut end = 0;
     for (i, token) in tokens.iter().enumerate() {

@@ -10,26 +10,29 @@ const JOBS: &[(&str, &str)] = &[
     ("", "Joined"),
     (
         "check a b",
-        "Check { source: \"a\", certs: \"b\", workers: 1, json: false }",
+        "Check { source: \"a\", certs: \"b\", workers: Workers { count: 1 }, json: false }",
     ),
     (
         "check - b --workers 64 --json",
-        "Check { source: \"-\", certs: \"b\", workers: 64, json: true }",
+        "Check { source: \"-\", certs: \"b\", workers: Workers { count: 64 }, json: true }",
     ),
     ("conditions a", "Conditions { source: \"a\" }"),
-    ("find a", "Find { source: \"a\", budget: 100000 }"),
+    (
+        "find a",
+        "Find { source: \"a\", budget: Budget { facts: 100000 } }",
+    ),
     (
         "find a --budget 1000000000",
-        "Find { source: \"a\", budget: 1000000000 }",
+        "Find { source: \"a\", budget: Budget { facts: 1000000000 } }",
     ),
     ("erase a", "Erase { source: \"a\" }"),
     (
         "run a x=1 y=-2 --limit 0",
-        "Run { source: \"a\", limit: 0, erased: false, certs: None, values: [\"x=1\", \"y=-2\"] }",
+        "Run { source: \"a\", limit: RunLimit { steps: 0 }, erased: false, certs: None, values: [\"x=1\", \"y=-2\"] }",
     ),
     (
         "run a --certs f",
-        "Run { source: \"a\", limit: 1000, erased: false, certs: Some(\"f\"), values: [] }",
+        "Run { source: \"a\", limit: RunLimit { steps: 1000 }, erased: false, certs: Some(\"f\"), values: [] }",
     ),
     ("migrate c", "Migrate { certs: \"c\" }"),
 ];

@@ -1,6 +1,7 @@
 -- Seats that come back at the end.
 use Rattle.std.proofs.Common.{◌≡◌, ◌⊎◌, ℕ, zero, suc, ◌+◌, ◌<◌, ◌≤◌, Bool, true, false, List, [], ◌∷◌, ◌++◌, length, refl, sym, ap, ◌∙◌, subst, ⊎_elim, inl, inr, arith, length-append, append_assoc, leb, Some}
 use Rattle.std.specs.Prelude.{slice_get}
+use Rattle.std.specs.List.{AllZip}
 use Rattle.std.proofs.lemmas.Option.{slice_get_within}
 use Rattle.std.proofs.lemmas.Bool.Decides.{leb_tells}
 use Rattle.og_run.specs.declared.rule.Card.{Card}
@@ -8,26 +9,20 @@ use Rattle.og_board.specs.Runs.{Given, process_count, IsRun}
 use Rattle.og_board.specs.declared.turn.RunTurn.{RunTurn}
 use Rattle.og_board.specs.declared.turn.RunTurn.TheVariants.{Overflow, Done, Stuck, Limit}
 use Rattle.og_board.specs.Turns.{IsTurn, SomeOverflows, after_turn, is_overflow}
-use Rattle.og_run.specs.Cards.{Place, Acts, CardFits, EndOf, Ended, SeatsFor}
+use Rattle.og_run.specs.Cards.{Place, Acts, CardFits, EndOf, CameBack, SeatsFor}
 use Rattle.og_board.specs.Ends.{OverAt}
 use Rattle.og_run.proofs.Steps.{off}
 use Rattle.og_board.proofs.Staying.{stays_done, stays_stuck}
 
-pub Ended-append : (xs ys us vs : List Place) → Ended xs us → Ended ys vs → Ended (xs ++ ys) (us ++ vs)
-Ended-append [] ys [] vs f g = g
-Ended-append [] ys (u ∷ us) vs f g = absurd f
-Ended-append (x ∷ xs) ys [] vs f g = absurd f
-Ended-append (x ∷ xs) ys (u ∷ us) vs f g = (f.0, f.1, f.2, Ended-append xs ys us vs f.3 g)
-
 -- each seat came back, at its end
-pub ended_at : (xs us : List Place) (k : ℕ) (s : Place) → Ended xs us → slice_get xs k ≡ Some s → (e : Place) × (slice_get us k ≡ Some e) × (e.process ≡ s.process) × (e.card.given ≡ s.card.given) × EndOf e
+pub ended_at : (xs us : List Place) (k : ℕ) (s : Place) → AllZip CameBack xs us → slice_get xs k ≡ Some s → (e : Place) × (slice_get us k ≡ Some e) × (e.process ≡ s.process) × (e.card.given ≡ s.card.given) × EndOf e
 ended_at [] us k s f at = absurd (cc)
 ended_at (x ∷ xs) [] k s f at = absurd f
-ended_at (x ∷ xs) (u ∷ us) zero s f at = let same : x ≡ s = some_place x s at in (u, refl, f.0 ∙ ap (λ z. z.process) same, f.1 ∙ ap (λ z. z.card.given) same, f.2)
+ended_at (x ∷ xs) (u ∷ us) zero s f at = let same : x ≡ s = some_place x s at in (u, refl, f.0.0 ∙ ap (λ z. z.process) same, f.0.1 ∙ ap (λ z. z.card.given) same, f.0.2)
   where
     some_place : (a b : Place) → Some a ≡ Some b → a ≡ b
     some_place a b e = cc
-ended_at (x ∷ xs) (u ∷ us) (suc k) s f at = ended_at xs us k s f.3 at
+ended_at (x ∷ xs) (u ∷ us) (suc k) s f at = ended_at xs us k s f.1 at
 
 -- what has come to an end stays at its end
 pub over_at : (given : Given) (h : List ℕ) (halted : Bool) (e : Place) → IsRun given h → CardFits given h halted e.process e.card → EndOf e → OverAt given h halted e.process
@@ -74,7 +69,7 @@ place_there (x ∷ xs) zero h = (x, refl)
 place_there (x ∷ xs) (suc k) h = place_there xs k (omega arith)
 
 -- the seat of each process came back, with a card of this given that fits the end
-pub back_at : (given final : Given) (h : List ℕ) (halted : Bool) (seats ends : List Place) (p : ℕ) → SeatsFor given seats → Ended seats ends → p < process_count given.outline
+pub back_at : (given final : Given) (h : List ℕ) (halted : Bool) (seats ends : List Place) (p : ℕ) → SeatsFor given seats → AllZip CameBack seats ends → p < process_count given.outline
     → ((k : ℕ) (s : Place) → slice_get ends k ≡ Some s → CardFits final h halted s.process s.card)
     → (e : Place) × (e.process ≡ p) × (given ≡ final) × CardFits final h halted e.process e.card × EndOf e
 back_at given final h halted seats ends p for_all ended less fits =

@@ -1,5 +1,5 @@
 -- What the seats of an arena know.
-use Rattle.std.specs.Prelude.{◌≡◌, ℕ, ◌≤◌, Bool, true, false, List, [], ◌∷◌, ◌++◌, ◌⊎◌, length, replicate, slice_get, slice_set, Some, None, Option}
+use Rattle.std.specs.Prelude.{◌≡◌, ℕ, ◌≤◌, Bool, true, false, List, [], ◌++◌, ◌⊎◌, length, replicate, slice_get, slice_set, Some, None, Option}
 use mathlib.Core.Option.{some}
 use lib.ListN.{get_elem?}
 use Rattle.atomic_table.specs.Table.{State, Me, Step}
@@ -149,9 +149,6 @@ abbrev pub EndOf : Place → Type 0
 EndOf s =
     (s.card.halted ≡ true) ⊎ IsTurn s.card.given s.card.heard s.process Done ⊎ IsTurn s.card.given s.card.heard s.process Stuck ⊎ IsTurn s.card.given s.card.heard s.process Limit
 
--- the seats come back in order, and each one's process has come to an end
-abbrev pub Ended : List Place → List Place → Type 0
-Ended [] [] = Unit {0}
-Ended [] (e ∷ es) = ⊥
-Ended (s ∷ ss) [] = ⊥
-Ended (s ∷ ss) (e ∷ es) = (e.process ≡ s.process) × (e.card.given ≡ s.card.given) × EndOf e × Ended ss es
+-- the seat came back, and its process has come to an end
+abbrev pub CameBack : Place → Place → Type 0
+CameBack s e = (e.process ≡ s.process) × (e.card.given ≡ s.card.given) × EndOf e

@@ -8,8 +8,8 @@ use Rattle.og_run.specs.declared.fault.RunFault.{RunFault}
 use Rattle.og_run.specs.declared.fault.RunFault.TheVariants as faults
 use Rattle.og_run.specs.declared.fault.RunError.{RunError}
 use Rattle.og_run.specs.declared.fault.RunError.TheVariants as errors
-use Rattle.og_run.specs.declared.fault.ThreadFault.{ThreadFault}
-use Rattle.og_run.specs.declared.fault.ThreadFault.TheVariants as threads
+use Rattle.og_threads.specs.declared.fault.ThreadFault.{ThreadFault}
+use Rattle.og_threads.specs.declared.fault.ThreadFault.TheVariants as threads
 
 -- the number under which a refusal is printed
 abbrev pub number_of_fault : RunFault → ℕ

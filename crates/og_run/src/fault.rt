@@ -1,11 +1,11 @@
 //! Why a program does not run.
 
 ghost use Rattle.std.specs.Prelude.{◌≡◌};
-ghost use Rattle.og_run.specs.declared.fault.ThreadFault.TheVariants as threads;
 ghost use Rattle.og_run.specs.Faults.{number_of_fault, name_of_fault, error_of_start, error_of_thread};
 
 use og_step::{StartError, StartFault};
-use std::alloc::{AllocError, AllocFailed};
+use og_threads::ThreadFault;
+use std::alloc::AllocError;
 use thiserror::Error;
 
 /// Why a program does not run.
@@ -55,31 +55,6 @@ pub enum RunError {
     /// The program does not run.
     #[error(transparent)]
     Fault(RunFault),
-}
-
-/// Why the threads did not run.
-#[derive(Clone, Copy, Debug, Drop, PartialEq, Eq)]
-pub(crate) enum ThreadFault {
-    /// An allocation was refused.
-    Memory,
-    /// A thread could not be started.
-    Spawn,
-}
-
-impl From<AllocError> for ThreadFault {
-    ghost from_gives = { λ _ e. e ≡ threads.Memory };
-
-    fn from(_: AllocError) -> ThreadFault {
-        ThreadFault::Memory
-    }
-}
-
-impl<T: Drop> From<AllocFailed<T>> for ThreadFault {
-    ghost from_gives = { λ _ e. e ≡ threads.Memory };
-
-    fn from(_: AllocFailed<T>) -> ThreadFault {
-        ThreadFault::Memory
-    }
 }
 
 impl From<AllocError> for RunError {

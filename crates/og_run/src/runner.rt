@@ -5,12 +5,13 @@ ghost use Rattle.og_board.specs.Runs.{process_count};
 ghost use Rattle.og_board.specs.Ends.{OverAt};
 ghost use Rattle.og_run.specs.Outcomes.{Runs, IsProvedOutcome};
 
-use crate::fault::{RunError, ThreadFault};
+use crate::fault::RunError;
 use crate::threads::run_board;
 use og_board::{Board, Outcome, ProvedBoard};
-use og_judge::Proved;
 use og_linear::State;
 use og_pool::Gate;
+use og_theorem::Proved;
+use og_threads::ThreadFault;
 use og_typed::Outline;
 use std::alloc::Global;
 use std::sync::Wait;

@@ -1,22 +1,19 @@
 //! The threads of a run: one for each process.
 
-ghost use Rattle.std.specs.Prelude.{◌≡◌, ℕ, ◌<◌, ◌++◌, false, [], slice_get, Some, vec_len, IfOk};
-ghost use denote.Param.Send.{IsSend, IsSync};
+ghost use Rattle.std.specs.Prelude.{◌≡◌, ℕ, ◌<◌, false, [], slice_get, Some, IfOk};
 ghost use Rattle.og_board.specs.Runs.{IsRun, process_count};
-ghost use Rattle.og_run.specs.Cards.{CardFits, EndOf, Ended, Place};
+ghost use Rattle.og_run.specs.Cards.{CardFits, Place};
 ghost use Rattle.og_board.specs.Ends.{OverAt};
 
 use crate::arena::{Arena, Blank, Seat};
-use crate::fault::ThreadFault;
 use crate::rule::ArenaName;
 use og_board::{Machine, RunTurn};
 use og_pool::Gate;
+use og_threads::{Job, ThreadFault, in_threads};
 use std::alloc::Global;
 use std::marker::Brand;
-use std::snapshot::Snapshot;
 use std::sync::{Condvar, Mutex, Wait};
-use std::thread;
-use std::thread::{Promise, Threads};
+use std::thread::Threads;
 
 #[derive(Clone, Copy)]
 struct Started {
@@ -70,114 +67,49 @@ fn gate_number(process: u32, main: u32) -> u32 {
     }
 }
 
-// Runs one process to its end.
-fn drive<K: ArenaName, B: Machine, G: Gate, R: Wait>(
-    rt: &R,
-    arena: &Arena<K, B>,
-    mut seat: Seat<K>,
-    main: u32,
-    gate: &G,
-) -> Seat<K>
-    ensures same { (result.process ≡ seat.process) × (result.card.given ≡ seat.card.given) }
-    ensures ended { EndOf result }
-{
-    let number = gate_number(seat.process(), main);
-    for _ in rt.forever() {
-        gate.before(number);
-        match arena.act(rt, &mut seat) {
-            RunTurn::Moved => gate.after(number),
-            RunTurn::Waits | RunTurn::Early => arena.wait_change(rt, &seat),
-            RunTurn::Done | RunTurn::Stuck | RunTurn::Limit | RunTurn::Overflow => return seat,
-        }
-    }
-    unreachable!()
-}
-
-// What a part of the processes gives back.
+// What the threads of a run share.
 #[derive(Drop)]
-struct Ends<K: ArenaName> {
-    seats: Snapshot<Vec<Seat<K>>>,
-}
-
-impl<K: ArenaName> Promise<Result<Vec<Seat<K>>, ThreadFault>> for Ends<K> {
-    ghost use Rattle.std.specs.Prelude.{IfOk};
-    ghost use Rattle.og_run.specs.Cards.{Ended};
-
-    ghost kept_by = { λ p r. IfOk r (λ v. Ended p.seats.value.items v.items) };
-}
-
-// Runs these processes, each in a thread of its own.
-#[cycle(part)]
-fn part<K: ArenaName + Send + Sync, B: Machine + Send, G: Gate, R: Threads + Wait + Sync>(
-    rt: &R,
-    arena: &Arena<K, B>,
-    mut seats: Vec<Seat<K>>,
-    start: &Start,
+struct Run<'a, K: ArenaName, B: Machine, G> {
+    arena: &'a Arena<K, B>,
+    start: &'a Start,
     main: u32,
-    gate: &G,
-) -> Result<Vec<Seat<K>>, ThreadFault>
-    requires { 0 < vec_len seats }
-    ensures { IfOk result (λ v. Ended seats.items v.items) }
-{
-    if seats.len() == 1 {
-        return alone(rt, arena, seats, start, main, gate);
-    }
-    let Ok(others) = seats.split_off(seats.len() / 2) else {
-        start.fail(rt);
-        return Err(ThreadFault::Memory);
-    };
-    thread::scope(
-        thread::scope_env(),
-        rt,
-        |scope| -> Result<Vec<Seat<K>>, ThreadFault>
-            requires { IsSync R.row × IsSync G.row × IsSend K.row × IsSync K.row × IsSend B.row × (0 < vec_len seats) × (0 < vec_len others) }
-            ensures { IfOk result (λ v. Ended (seats.items ++ others.items) v.items) }
-        {
-            let promise = Ends {
-                seats: Snapshot::of(&others),
-            };
-            let started = scope.spawn_with(
-                promise,
-                move || -> Result<Vec<Seat<K>>, ThreadFault>
-                    requires { IsSync R.row × IsSync G.row × IsSend K.row × IsSync K.row × IsSend B.row × (0 < vec_len others) }
-                    ensures { IfOk result (λ v. Ended others.items v.items) }
-                { part(rt, arena, others, start, main, gate) },
-            );
-            let Ok(thread) = started else {
-                start.fail(rt);
-                return Err(ThreadFault::Spawn);
-            };
-            let mine = part(rt, arena, seats, start, main, gate);
-            let theirs = thread.join(rt);
-            let mut all = mine?;
-            let mut more = theirs?;
-            all.append(&mut more)?;
-            Ok(all)
-        },
-    )
+    gate: &'a G,
 }
 
-fn alone<K: ArenaName, B: Machine, G: Gate, R: Wait>(
-    rt: &R,
-    arena: &Arena<K, B>,
-    mut seats: Vec<Seat<K>>,
-    start: &Start,
-    main: u32,
-    gate: &G,
-) -> Result<Vec<Seat<K>>, ThreadFault>
-    requires { vec_len seats ≡ 1 }
-    ensures { IfOk result (λ v. Ended seats.items v.items) }
-{
-    let Some(seat) = seats.pop() else {
+impl<'a, K: ArenaName + Send + Sync, B: Machine + Send, G: Gate> Job for Run<'a, K, B, G> {
+    ghost use Rattle.std.specs.Prelude.{⊤};
+    ghost use Rattle.og_run.specs.Cards.{CameBack};
+
+    type Part = Seat<K>;
+
+    type Gain = Seat<K>;
+
+    ghost can = { λ _ _. ⊤ };
+
+    ghost owes = { λ _. CameBack };
+
+    // Runs one process to its end.
+    fn work<R: Wait>(&self, rt: &R, mut seat: Seat<K>) -> Result<Seat<K>, ThreadFault> {
+        if !self.start.arrive(rt) {
+            return Err(ThreadFault::Spawn);
+        }
+        let number = gate_number(seat.process(), self.main);
+        for _ in rt.forever() {
+            self.gate.before(number);
+            match self.arena.act(rt, &mut seat) {
+                RunTurn::Moved => self.gate.after(number),
+                RunTurn::Waits | RunTurn::Early => self.arena.wait_change(rt, &seat),
+                RunTurn::Done | RunTurn::Stuck | RunTurn::Limit | RunTurn::Overflow => {
+                    return Ok(seat);
+                }
+            }
+        }
         unreachable!()
-    };
-    if !start.arrive(rt) {
-        return Err(ThreadFault::Spawn);
     }
-    if seats.push(drive(rt, arena, seat, main, gate)).is_err() {
-        return Err(ThreadFault::Memory);
+
+    fn give_up<R: Wait>(&self, rt: &R) {
+        self.start.fail(rt);
     }
-    Ok(seats)
 }
 
 // Takes all seats in. Each card fits the machine as it is at the end.
@@ -209,7 +141,13 @@ pub(crate) fn run_named<
 {
     let (arena, seats) = Arena::<K, B>::new(alloc, blank, machine)?;
     let start = Start::new(seats.len());
-    let seats = part(rt, &arena, seats, &start, main, gate)?;
+    let run = Run {
+        arena: &arena,
+        start: &start,
+        main,
+        gate,
+    };
+    let seats = in_threads(rt, alloc, &run, seats)?;
     let machine = settle(arena, seats);
     let _all = machine.steps();
     Ok(machine)

@@ -1,17 +1,9 @@
 -- From the parts of an answer to the whole.
 use Rattle.std.proofs.Common.{◌≡◌, ◌∙◌, ◌⊎◌, inl, inr, sym, ap, subst, ℕ, ℤ, Bool, true, false, List, Result, Ok, Err, IfOk, IfErr, refl, codes}
 use Rattle.std.specs.Prelude.{⊤}
-use Rattle.og_text.specs.declared.token.Token.{Token}
-use Rattle.og_text.proofs.OneCut.{one_tokens}
-use Rattle.og_parse.specs.Faults.{level_limit}
-use Rattle.og_parse.specs.Grammar.{IsOutline}
-use Rattle.og_parse.proofs.Parsing.{one_outline}
 use Rattle.og_typed.specs.Syntax.{Program}
-use Rattle.og_typed.specs.Resolved.{resolved}
-use Rattle.og_typed.proofs.Below.{ok_same}
 use Rattle.og_judge.specs.declared.entry.Entry.{Entry}
-use Rattle.og_judge.specs.declared.refusal.Refusal.{Refusal}
-use Rattle.og_judge.specs.Report.{IsSource, IsReport, IsRefused, is_safe, is_unblocked}
+use Rattle.og_judge.specs.Entries.{AreEntries, AreRefused, is_safe, is_unblocked}
 use Rattle.og_step.specs.declared.fault.StartFault.TheVariants as starts
 use Rattle.og_board.specs.Runs.{Given}
 use Rattle.og_board.specs.declared.outcome.Outcome.{Outcome}
@@ -19,24 +11,26 @@ use Rattle.og_run.specs.Outcomes.{Runs, IsProvedOutcome}
 use Rattle.og_run.specs.declared.fault.RunFault.TheVariants as faults
 use Rattle.og_run.specs.declared.fault.RunError.{RunError}
 use Rattle.og_run.specs.declared.fault.RunError.TheVariants as errors
-use Rattle.og_engine.specs.Answers.{IsTold}
-use Rattle.og_engine.specs.declared.answer.Answer.{Answer}
-use Rattle.og_engine.specs.declared.fault.EngineFault.{EngineFault}
+use Rattle.og_pool.specs.declared.fault.PoolFault.{PoolFault}
+use Rattle.og_source.specs.Source.{IsSource}
+use Rattle.og_answer.specs.Told.{Says, IsTold}
+use Rattle.og_answer.specs.declared.answer.Answer.{Answer}
+use Rattle.og_answer.specs.declared.fault.InputFault.{InputFault}
 use Rattle.og_running.specs.Words.{Give}
 use Rattle.og_running.specs.Texts.{outcome_text, finish_status}
-use Rattle.og_running.specs.Running.{given, IsText, IsFaultTold, StartsNot, EndsAs, Tells, TellsProved, TellsJudged, IsRefusedOrJudged, Goes}
+use Rattle.og_running.specs.Running.{given, IsFaultTold, StartsNot, EndsAs, Tells, TellsProved, TellsJudged, IsRefusedOrJudged, Goes}
 use Rattle.og_running.specs.declared.reply.Reply.TheVariants as replies
 
 -- ---- what came of a run
 
 -- the two parts of the contract of `of_run`
-abbrev IsOutcomeTold : Given → Result Outcome RunError → Result Answer EngineFault → Type 0
-IsOutcomeTold g ended r = IfOk ended (λ o. IfOk r (IsText (outcome_text g.outline o) (finish_status o.finish)))
+abbrev IsOutcomeTold : Given → Result Outcome RunError → Result Answer PoolFault → Type 0
+IsOutcomeTold g ended r = IfOk ended (λ o. IfOk r (Says (outcome_text g.outline o) (finish_status o.finish)))
 
-abbrev IsErrorTold : Result Outcome RunError → Result Answer EngineFault → Type 0
+abbrev IsErrorTold : Result Outcome RunError → Result Answer PoolFault → Type 0
 IsErrorTold ended r = IfErr ended (λ e. IfOk r (IsFaultTold e))
 
-ended_as : (P : Outcome → Type 0) (g : Given) (ended : Result Outcome RunError) (r : Result Answer EngineFault) → Runs ended g → IfOk ended P
+ended_as : (P : Outcome → Type 0) (g : Given) (ended : Result Outcome RunError) (r : Result Answer PoolFault) → Runs ended g → IfOk ended P
     → IsOutcomeTold g ended r → IsErrorTold ended r → IfOk r (λ a. StartsNot g a ⊎ EndsAs P g a)
 ended_as P g ended (Err e) runs more told refused = tt
 ended_as P g (Ok o) (Ok a) runs more told refused = inr (record { outcome = o; is = runs; more = more; told = told })
@@ -49,48 +43,35 @@ all_ended : (ended : Result Outcome RunError) → IfOk ended (λ _. ⊤)
 all_ended (Ok o) = tt
 all_ended (Err e) = tt
 
-pub run_told : (g : Given) (ended : Result Outcome RunError) (r : Result Answer EngineFault) → Runs ended g → IsOutcomeTold g ended r → IsErrorTold ended r → IfOk r (Tells g)
+pub run_told : (g : Given) (ended : Result Outcome RunError) (r : Result Answer PoolFault) → Runs ended g → IsOutcomeTold g ended r → IsErrorTold ended r → IfOk r (Tells g)
 run_told g ended r runs told refused = ended_as (λ _. ⊤) g ended r runs (all_ended ended) told refused
 
-pub proved_told : (g : Given) (unblocked : Bool) (ended : Result Outcome RunError) (r : Result Answer EngineFault) → Runs ended g → IfOk ended (IsProvedOutcome g unblocked)
+pub proved_told : (g : Given) (unblocked : Bool) (ended : Result Outcome RunError) (r : Result Answer PoolFault) → Runs ended g → IfOk ended (IsProvedOutcome g unblocked)
     → IsOutcomeTold g ended r → IsErrorTold ended r → IfOk r (TellsProved g unblocked)
 proved_told g unblocked ended r runs proved told refused = ended_as (IsProvedOutcome g unblocked) g ended r runs proved told refused
-
--- ---- the outline of a source
-
--- a source has one
-pub one_source : (source : List ℕ) (a b : Program) → IsSource source a → IsSource source b → a ≡ b
-one_source source a b is_a is_b =
-    let tokens : is_a.tokens ≡ is_b.tokens = one_tokens source is_a.tokens is_b.tokens is_a.cut is_b.cut in
-    let parsed : IsOutline level_limit is_a.tree is_b.tokens = subst (λ (t : List Token). IsOutline level_limit is_a.tree t) tokens is_a.parsed in
-    let trees : is_a.tree ≡ is_b.tree = one_outline is_a.tree is_b.tree is_b.tokens (level_limit, parsed) (level_limit, is_b.parsed) in
-    ok_same a b (sym is_a.outline ∙ ap resolved trees ∙ is_b.outline)
 
 -- ---- what a judgement gives
 
 -- it is safe
-pub safe_told : (entries : List Entry) (o : Program) (values : List ℤ) (limit : ℕ) (p : Program × Bool) (r : Result Answer EngineFault) → is_safe entries ≡ true
+pub safe_told : (entries : List Entry) (o : Program) (values : List ℤ) (limit : ℕ) (p : Program × Bool) (r : Result Answer PoolFault) → is_safe entries ≡ true
     → p ≡ (o, is_unblocked entries) → IfOk r (TellsProved (given p.0 values limit) p.1) → IfOk r (TellsJudged entries (given o values limit))
 safe_told entries o values limit p (Err e) safe is told = tt
 safe_told entries o values limit p (Ok a) safe is told = inr (safe, subst (λ (q : Program × Bool). TellsProved (given q.0 values limit) q.1 a) is told)
 
 -- it is not
-pub not_safe_told : (entries : List Entry) (g : Given) (a : Answer) → is_safe entries ≡ false → IsText (codes "not safe\n") 1 a → TellsJudged entries g a
+pub not_safe_told : (entries : List Entry) (g : Given) (a : Answer) → is_safe entries ≡ false → Says (codes "not safe\n") 1 a → TellsJudged entries g a
 not_safe_told entries g a safe told = inl (safe, told)
 
--- of the judged outline, which is the source's
-pub judged_told : (limit : ℕ) (source certs : List ℕ) (o j : Program) (values : List ℤ) (entries : List Entry) (r : Result Answer EngineFault) → IsSource source o
-    → IsReport source certs j entries → IfOk r (TellsJudged entries (given j values limit)) → IfOk r (IsRefusedOrJudged source certs o values limit)
-judged_told limit source certs o j values entries (Err e) is_o is_j told = tt
-judged_told limit source certs o j values entries (Ok a) is_o is_j told =
-    let same : j ≡ o = one_source source j o is_j.outline is_o in
-    inr (entries, subst (λ (p : Program). IsReport source certs p entries) same is_j, subst (λ (p : Program). TellsJudged entries (given p values limit) a) same told)
+-- what is told of what was found of the outline
+pub judged_told : (source certs : List ℕ) (o : Program) (values : List ℤ) (limit : ℕ) (entries : List Entry) (r : Result Answer PoolFault)
+    → AreEntries certs o entries → IfOk r (TellsJudged entries (given o values limit)) → IfOk r (IsRefusedOrJudged source certs o values limit)
+judged_told source certs o values limit entries (Err e) found told = tt
+judged_told source certs o values limit entries (Ok a) found told = inr (entries, found, told)
 
--- another refusal
-pub refused_told : (limit : ℕ) (source certs : List ℕ) (o : Program) (values : List ℤ) (why : Refusal) (r : Result Answer EngineFault) → IsRefused source certs why
-    → IfOk r (IsTold source why) → IfOk r (IsRefusedOrJudged source certs o values limit)
-refused_told limit source certs o values why (Err e) refused told = tt
-refused_told limit source certs o values why (Ok a) refused told = inl (why, refused, told)
+-- a refusal
+pub refused_told : (source certs : List ℕ) (o : Program) (values : List ℤ) (limit : ℕ) (why : InputFault) (a : Answer)
+    → AreRefused certs o why → IsTold source why a → IsRefusedOrJudged source certs o values limit a
+refused_told source certs o values limit why a refused told = inl (why, refused, told)
 
 -- the outline, the values and the answer
 pub goes : (P : Program → List ℤ → Answer → Type 0) (source : List ℕ) (words : List (List ℕ)) (o : Program) (values : List ℤ) (a : Answer) → IsSource source o → Give o words values

@@ -4,7 +4,7 @@ use Rattle.std.specs.Prelude.{set, slice_get, slice_index_or}
 use Rattle.std.proofs.lemmas.Option.{same_Some}
 use Rattle.og_running.specs.Words.{Says, Adds, Reads}
 
--- the word at the index i, and those behind it
+-- the word at the index i, and those after it
 behind : (words : List (Bor (List ℕ))) (i : ℕ) (d : Bor (List ℕ)) → i < length words
     → map (λ w. w.now) (drop i words) ≡ (slice_index_or words i d).now ∷ map (λ w. w.now) (drop (i + 1) words)
 behind words i d h = ap (map (λ (w : Bor (List ℕ)). w.now)) (drop-cons words i d h ∙ ap (λ j. slice_index_or words i d ∷ drop j words) (sym (add-one i)))

@@ -14,13 +14,13 @@ use Rattle.og_run.specs.declared.fault.RunFault.TheVariants as faults
 use Rattle.og_run.specs.declared.fault.RunError.{RunError}
 use Rattle.og_run.specs.declared.fault.RunError.TheVariants as errors
 use Rattle.og_judge.specs.declared.entry.Entry.{Entry}
-use Rattle.og_judge.specs.declared.refusal.Refusal.{Refusal}
-use Rattle.og_judge.specs.Report.{IsSource, IsReport, IsRefused, is_safe, is_unblocked}
+use Rattle.og_judge.specs.Entries.{AreEntries, AreRefused, is_safe, is_unblocked}
 use Rattle.og_listing.specs.Places.{◌&◌}
-use Rattle.og_report.specs.Refusal.{opening_text}
-use Rattle.og_engine.specs.Answers.{IsTold}
-use Rattle.og_engine.specs.Commands.{IsUnread}
-use Rattle.og_engine.specs.declared.answer.Answer.{Answer}
+use Rattle.og_source.specs.Source.{IsSource}
+use Rattle.og_answer.specs.Line.{opening_text}
+use Rattle.og_answer.specs.Told.{Says, IsTold, IsUnread}
+use Rattle.og_answer.specs.declared.answer.Answer.{Answer}
+use Rattle.og_answer.specs.declared.fault.InputFault.{InputFault}
 use Rattle.og_running.specs.Words.{Give, IsBadIn}
 use Rattle.og_running.specs.Texts.{outcome_text, finish_status}
 use Rattle.og_running.specs.declared.reply.Reply.{Reply}
@@ -29,10 +29,6 @@ use Rattle.og_running.specs.declared.reply.Reply.TheVariants as replies
 abbrev pub given : Program → List ℤ → ℕ → Given
 given o values limit = record { outline = o; values = values; limit = limit }
 
--- the text is this one, and the status too
-abbrev pub IsText : List ℕ → ℕ → Answer → Type 0
-IsText text status a = (a.text.items ≡ text) × (a.status ≡ status)
-
 abbrev pub fault_line : RunFault → List ℕ
 fault_line fault = opening_text (number_of_fault fault) (name_of_fault fault) & codes "\n"
 
@@ -40,21 +36,21 @@ fault_line fault = opening_text (number_of_fault fault) (name_of_fault fault) & 
 pub record StartsNot (g : Given) (a : Answer) : Type 0 where
   pub fault : StartFault
   pub refused : start_fault g.outline g.values ≡ Some fault
-  pub told : IsText (fault_line (fault_of_start fault)) 2 a
+  pub told : Says (fault_line (fault_of_start fault)) 2 a
 
 -- the line of this fault
 abbrev pub IsFaultTold : RunError → Answer → Type 0
 IsFaultTold errors.Memory a = ⊥
 IsFaultTold (errors.Fault faults.Spawn) a = ⊥
-IsFaultTold (errors.Fault faults.NotPre) a = IsText (fault_line faults.NotPre) 2 a
-IsFaultTold (errors.Fault faults.WrongLength) a = IsText (fault_line faults.WrongLength) 2 a
+IsFaultTold (errors.Fault faults.NotPre) a = Says (fault_line faults.NotPre) 2 a
+IsFaultTold (errors.Fault faults.WrongLength) a = Says (fault_line faults.WrongLength) 2 a
 
 -- the text of an outcome of a run
 pub record EndsAs (P : Outcome → Type 0) (g : Given) (a : Answer) : Type 0 where
   pub outcome : Outcome
   pub is : IsOutcome g outcome
   pub more : P outcome
-  pub told : IsText (outcome_text g.outline outcome) (finish_status outcome.finish) a
+  pub told : Says (outcome_text g.outline outcome) (finish_status outcome.finish) a
 
 -- the outcome of a run, or why there is none
 abbrev pub Tells : Given → Answer → Type 0
@@ -67,7 +63,7 @@ TellsProved g unblocked a = StartsNot g a ⊎ EndsAs (IsProvedOutcome g unblocke
 -- where the texts are read, but not safe, that is said; else the values are no start, or the outcome of a run is told
 abbrev pub TellsJudged : List Entry → Given → Answer → Type 0
 TellsJudged entries g a =
-    ((is_safe entries ≡ false) × IsText (codes "not safe\n") 1 a)
+    ((is_safe entries ≡ false) × Says (codes "not safe\n") 1 a)
     ⊎ ((is_safe entries ≡ true) × TellsProved g (is_unblocked entries) a)
 
 -- ---- the order of the faults
@@ -93,11 +89,11 @@ IsRan without_auxiliaries limit source words r =
     IsEarly source words r
     ⊎ Goes (λ o values a. Tells (given (if without_auxiliaries then erased o else o) values limit) a) source words r
 
--- another refusal of the source or of the certificates; or what is told of the judgement
+-- a refusal of the outline with the certificates; or what is told of its judgement
 abbrev pub IsRefusedOrJudged : List ℕ → List ℕ → Program → List ℤ → ℕ → Answer → Type 0
 IsRefusedOrJudged source certs o values limit a =
-    ((why : Refusal) × IsRefused source certs why × IsTold source why a)
-    ⊎ ((entries : List Entry) × IsReport source certs o entries × TellsJudged entries (given o values limit) a)
+    ((why : InputFault) × AreRefused certs o why × IsTold source why a)
+    ⊎ ((entries : List Entry) × AreEntries certs o entries × TellsJudged entries (given o values limit) a)
 
 -- the outcome of a run of the source's outline, which the certificates prove safe
 abbrev pub IsRanProved : ℕ → List ℕ → List ℕ → List (List ℕ) → Reply → Type 0

@@ -19,7 +19,7 @@ pub record IsInteger (text : List ℕ) (z : ℤ) : Type 0 where
   pub value : z ≡ signed_digits_value 10 text
   pub fits : fits_i64 z ≡ true
 
--- NAME=INT: what stands before the first `=` names the variable x, and what stands behind it is the number z
+-- NAME=INT: what stands before the first `=` names the variable x, and what stands after it is the number z
 pub record Says (names : List (List ℕ)) (word : List ℕ) (x : ℕ) (z : ℤ) : Type 0 where
   pub has_equals : position_or_len is_equals word < length word
   pub variable : number_in names (before_first is_equals word) ≡ Some x

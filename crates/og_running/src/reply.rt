@@ -1,6 +1,6 @@
 //! What comes of running a program.
 
-use og_engine::Answer;
+use og_answer::Answer;
 
 /// What comes of running a program.
 #[derive(Debug, Drop)]

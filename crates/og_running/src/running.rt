@@ -1,54 +1,34 @@
 //! The answers of `run`.
 
-ghost use Rattle.std.specs.Prelude.{◌≡◌, ◌≢◌, ◌≤◌, ◌^◌, ℕ, List, length, map, if◌then◌else◌, IfOk, IfErr, IsSome};
-ghost use Rattle.og_judge.specs.Names.{place_of_refusal};
+ghost use Rattle.std.specs.Prelude.{◌≡◌, map, if◌then◌else◌, IfOk, IfErr};
 ghost use Rattle.og_typed.specs.Erase.{erased as erased_of};
-ghost use Rattle.og_engine.specs.Answers.{IsTold};
-ghost use Rattle.og_judge.specs.Report.{IsSource};
-ghost use Rattle.og_judge.specs.Shown.{outline_of, entries_of};
+ghost use Rattle.og_answer.specs.Told.{Says};
+ghost use Rattle.og_judge.specs.Shown.{looked_at, found_of};
 ghost use Rattle.og_running.specs.Texts.{outcome_text, finish_status};
-ghost use Rattle.og_running.specs.Running.{given, fault_line, IsText, IsFaultTold, Tells, TellsProved, TellsJudged, IsRefusedOrJudged, IsRan, IsRanProved};
+ghost use Rattle.og_running.specs.Running.{given, fault_line, IsFaultTold, Tells, TellsProved, TellsJudged, IsRefusedOrJudged, IsRan, IsRanProved};
 
 use crate::outcome::{finish_status, outcome_text};
 use crate::reply::Reply;
 use crate::words::{WordsError, values};
-use og_engine::{Answer, EngineFault};
+use og_answer::{Answer, put_opening};
 use og_erase::erase;
-use og_judge::{Judgement, Proved, Refusal, judge, read_outline};
+use og_judge::{Findings, Proved, Refusal, judge_outline};
+use og_limits::{RunLimit, Workers};
 use og_linear::State;
-use og_listing::put_number;
-use og_report::refusal_text;
+use og_pool::PoolFault;
 use og_run::{Gate, OpenGate, Outcome, RunError, RunFault, run, run_proved};
+use og_source::Source;
 use og_typed::Outline;
 use std::alloc::{AllocError, Global};
 use std::sync::Wait;
 use std::thread::Threads;
 
-// The line of a refusal, and status 2.
-fn of_refusal(alloc: Global, refusal: Refusal, source: &[u8]) -> Result<Answer, EngineFault>
-    requires { IsSome (place_of_refusal refusal) → length source.now ≤ 2 ^ 20 }
-    ensures refused { IfOk result (λ a. IsTold source.now refusal a) }
-    ensures unread { IfErr result (λ e. e ≢ EngineFault.ReadFailed) }
-    ensures fault { IfErr result (λ e. e ≢ EngineFault.WriteFailed) }
-{
-    match refusal {
-        Refusal::Memory => Err(EngineFault::Memory),
-        Refusal::Spawn => Err(EngineFault::Spawn),
-        _ => Ok(Answer {
-            text: refusal_text(alloc, &refusal, source)?,
-            status: 2,
-        }),
-    }
-}
-
 // The line of a start that is refused.
 fn fault_text(alloc: Global, fault: RunFault) -> Result<Vec<u8>, AllocError>
     ensures { IfOk result (λ t. t.items ≡ fault_line fault) }
 {
-    let mut text = Vec::from_slice(alloc, b"refused: ")?;
-    put_number(&mut text, u128::from(fault.number()))?;
-    text.extend_from_slice(b" ")?;
-    text.extend_from_slice(fault.name().as_bytes())?;
+    let mut text = Vec::new(alloc);
+    put_opening(&mut text, fault.number(), fault.name())?;
     text.extend_from_slice(b"\n")?;
     Ok(text)
 }
@@ -58,19 +38,17 @@ fn of_run(
     alloc: Global,
     outline: &Outline,
     ended: Result<Outcome, RunError>,
-) -> Result<Answer, EngineFault>
-    ensures outcome { IfOk ended (λ r. IfOk result (IsText (outcome_text outline.now r) (finish_status r.finish))) }
+) -> Result<Answer, PoolFault>
+    ensures outcome { IfOk ended (λ r. IfOk result (Says (outcome_text outline.now r) (finish_status r.finish))) }
     ensures refused { IfErr ended (λ e. IfOk result (IsFaultTold e)) }
-    ensures unread { IfErr result (λ e. e ≢ EngineFault.ReadFailed) }
-    ensures fault { IfErr result (λ e. e ≢ EngineFault.WriteFailed) }
 {
     match ended {
         Ok(outcome) => Ok(Answer {
             text: outcome_text(alloc, outline, &outcome)?,
             status: finish_status(outcome.finish),
         }),
-        Err(RunError::Memory) => Err(EngineFault::Memory),
-        Err(RunError::Fault(RunFault::Spawn)) => Err(EngineFault::Spawn),
+        Err(RunError::Memory) => Err(PoolFault::Memory),
+        Err(RunError::Fault(RunFault::Spawn)) => Err(PoolFault::Spawn),
         Err(RunError::Fault(fault)) => Ok(Answer {
             text: fault_text(alloc, fault)?,
             status: 2,
@@ -78,170 +56,137 @@ fn of_run(
     }
 }
 
-// Runs an outline.
-fn of_outline<G: Gate, H: Threads + Wait + Sync>(
-    rt: &H,
+/// What each run has, whatever runs: threads, memory, a limit, and who is told of its moves.
+#[derive(Clone, Copy)]
+struct Runner<'r, G, H> {
+    rt: &'r H,
     alloc: Global,
-    outline: &Outline,
-    values: State,
-    limit: u32,
-    gate: &G,
-) -> Result<Answer, EngineFault>
-    requires { limit ≤ 1000000 }
-    ensures told { IfOk result (Tells (given outline.now values limit)) }
-    ensures unread { IfErr result (λ e. e ≢ EngineFault.ReadFailed) }
-    ensures fault { IfErr result (λ e. e ≢ EngineFault.WriteFailed) }
-{
-    let ended = run(rt, alloc, outline, values, limit, gate);
-    of_run(alloc, outline, ended)
+    limit: RunLimit,
+    gate: &'r G,
 }
 
-// Runs an outline, or its program without auxiliaries.
-fn of_program<G: Gate, H: Threads + Wait + Sync>(
-    rt: &H,
-    alloc: Global,
-    outline: &Outline,
-    erased: bool,
-    values: State,
-    limit: u32,
-    gate: &G,
-) -> Result<Answer, EngineFault>
-    requires { limit ≤ 1000000 }
-    ensures told { IfOk result (Tells (given (if erased then erased_of outline.now else outline.now) values limit)) }
-    ensures unread { IfErr result (λ e. e ≢ EngineFault.ReadFailed) }
-    ensures fault { IfErr result (λ e. e ≢ EngineFault.WriteFailed) }
-{
-    if !erased {
-        return of_outline(rt, alloc, outline, values, limit, gate);
+impl<'r, G: Gate, H: Threads + Wait + Sync> Runner<'r, G, H> {
+    // Runs an outline.
+    fn run(&self, outline: &Outline, values: State) -> Result<Answer, PoolFault>
+        ensures { IfOk result (Tells (given outline.now values self.now.limit)) }
+    {
+        let limit = self.limit.steps();
+        let ended = run(self.rt, self.alloc, outline, values, limit, self.gate);
+        of_run(self.alloc, outline, ended)
     }
-    let program = erase(alloc, outline)?;
-    of_outline(rt, alloc, program.outline(), values, limit, gate)
-}
 
-// Runs an outline that was proved.
-#[tactic(auto, using(crate::proofs::Answering::proved_told))]
-fn of_proved<G: Gate, H: Threads + Wait + Sync>(
-    rt: &H,
-    alloc: Global,
-    proved: &Proved<'_>,
-    values: State,
-    limit: u32,
-    gate: &G,
-) -> Result<Answer, EngineFault>
-    requires { limit ≤ 1000000 }
-    ensures told { IfOk result (TellsProved (given proved.now.0 values limit) proved.now.1) }
-    ensures unread { IfErr result (λ e. e ≢ EngineFault.ReadFailed) }
-    ensures fault { IfErr result (λ e. e ≢ EngineFault.WriteFailed) }
-{
-    let ended = run_proved(rt, alloc, proved, values, limit, gate);
-    of_run(alloc, proved.outline(), ended)
-}
-
-// Runs a judged outline where it is safe.
-#[tactic(auto, using(crate::proofs::Answering::safe_told, crate::proofs::Answering::not_safe_told))]
-fn of_judgement<G: Gate, H: Threads + Wait + Sync>(
-    rt: &H,
-    alloc: Global,
-    judgement: &Judgement,
-    values: State,
-    limit: u32,
-    gate: &G,
-) -> Result<Answer, EngineFault>
-    requires { limit ≤ 1000000 }
-    ensures told { IfOk result (TellsJudged (entries_of judgement.now) (given (outline_of judgement.now) values limit)) }
-    ensures unread { IfErr result (λ e. e ≢ EngineFault.ReadFailed) }
-    ensures fault { IfErr result (λ e. e ≢ EngineFault.WriteFailed) }
-{
-    match judgement.proved() {
-        Some(proved) => of_proved(rt, alloc, &proved, values, limit, gate),
-        None => Ok(Answer {
-            text: Vec::from_slice(alloc, b"not safe\n")?,
-            status: 1,
-        }),
-    }
-}
-
-// Judges the source of this outline by the certificates, and runs it where it is safe.
-#[tactic(auto, using(crate::proofs::Answering::judged_told, crate::proofs::Answering::refused_told))]
-fn of_certs<G: Gate, H: Threads + Wait + Sync>(
-    rt: &H,
-    alloc: Global,
-    source: &[u8],
-    certs: &[u8],
-    _outline: &Outline,
-    values: State,
-    limit: u32,
-    gate: &G,
-) -> Result<Answer, EngineFault>
-    requires source { IsSource source.now _outline.now }
-    requires limit { limit ≤ 1000000 }
-    ensures told { IfOk result (IsRefusedOrJudged source.now certs.now _outline.now values limit) }
-    ensures unread { IfErr result (λ e. e ≢ EngineFault.ReadFailed) }
-    ensures fault { IfErr result (λ e. e ≢ EngineFault.WriteFailed) }
-{
-    match judge(rt, alloc, source, certs, 1, &OpenGate) {
-        Ok(judgement) => of_judgement(rt, alloc, &judgement, values, limit, gate),
-        Err(refusal) => of_refusal(alloc, refusal, source),
-    }
-}
-
-// Runs an outline, or its program without auxiliaries, by the values that the words give.
-fn ran_outline<'a, G: Gate, H: Threads + Wait + Sync>(
-    rt: &H,
-    alloc: Global,
-    outline: &Outline,
-    words: &[&'a str],
-    limit: u32,
-    erased: bool,
-    gate: &G,
-) -> Result<Reply<'a>, EngineFault>
-    requires { limit ≤ 1000000 }
-    ensures reply { (source : List ℕ) → IsSource source outline.now → IfOk result (IsRan erased limit source (map (λ w. w.now) words.now)) }
-    ensures unread { IfErr result (λ e. e ≢ EngineFault.ReadFailed) }
-    ensures fault { IfErr result (λ e. e ≢ EngineFault.WriteFailed) }
-{
-    match values(alloc, outline, words) {
-        Ok(values) => {
-            let answer = of_program(rt, alloc, outline, erased, values, limit, gate)?;
-            Ok(Reply::Answer(answer))
+    // Runs an outline, or its program without auxiliaries.
+    fn run_program(
+        &self,
+        outline: &Outline,
+        erased: bool,
+        values: State,
+    ) -> Result<Answer, PoolFault>
+        ensures { IfOk result (Tells (given (if erased then erased_of outline.now else outline.now) values self.now.limit)) }
+    {
+        if !erased {
+            return self.run(outline, values);
         }
-        Err(WordsError::Bad(word)) => Ok(Reply::BadValue(word)),
-        Err(WordsError::Memory) => Err(EngineFault::Memory),
+        let program = erase(self.alloc, outline)?;
+        self.run(program.outline(), values)
     }
-}
 
-// Runs the outline of this source by the values that the words give, where the certificates prove
-// it safe.
-fn ran_judged<'a, G: Gate, H: Threads + Wait + Sync>(
-    rt: &H,
-    alloc: Global,
-    source: &[u8],
-    certs: &[u8],
-    outline: &Outline,
-    words: &[&'a str],
-    limit: u32,
-    gate: &G,
-) -> Result<Reply<'a>, EngineFault>
-    requires source { IsSource source.now outline.now }
-    requires limit { limit ≤ 1000000 }
-    ensures reply { IfOk result (IsRanProved limit source.now certs.now (map (λ w. w.now) words.now)) }
-    ensures unread { IfErr result (λ e. e ≢ EngineFault.ReadFailed) }
-    ensures fault { IfErr result (λ e. e ≢ EngineFault.WriteFailed) }
-{
-    match values(alloc, outline, words) {
-        Ok(values) => {
-            let answer = of_certs(rt, alloc, source, certs, outline, values, limit, gate)?;
-            Ok(Reply::Answer(answer))
+    // Runs an outline that was proved.
+    #[tactic(auto, using(crate::proofs::Answering::proved_told))]
+    fn run_proved(&self, proved: &Proved<'_>, values: State) -> Result<Answer, PoolFault>
+        ensures { IfOk result (TellsProved (given proved.now.0 values self.now.limit) proved.now.1) }
+    {
+        let limit = self.limit.steps();
+        let ended = run_proved(self.rt, self.alloc, proved, values, limit, self.gate);
+        of_run(self.alloc, proved.outline(), ended)
+    }
+
+    // Runs an outline where what was found of it says that it is safe.
+    #[tactic(auto, using(crate::proofs::Answering::safe_told, crate::proofs::Answering::not_safe_told))]
+    fn run_judged(
+        &self,
+        outline: &Outline,
+        findings: &Findings,
+        values: State,
+    ) -> Result<Answer, PoolFault>
+        requires { outline.now ≡ looked_at findings.now }
+        ensures { IfOk result (TellsJudged (found_of findings.now) (given outline.now values self.now.limit)) }
+    {
+        match findings.proved(outline) {
+            Some(proved) => self.run_proved(&proved, values),
+            None => Ok(Answer {
+                text: Vec::from_slice(self.alloc, b"not safe\n")?,
+                status: 1,
+            }),
         }
-        Err(WordsError::Bad(word)) => Ok(Reply::BadValue(word)),
-        Err(WordsError::Memory) => Err(EngineFault::Memory),
+    }
+
+    // Judges the outline of a source by the certificates, and runs it where it is safe.
+    #[tactic(auto, using(crate::proofs::Answering::judged_told, crate::proofs::Answering::refused_told))]
+    fn run_by_certs(
+        &self,
+        source: &Source,
+        certs: &[u8],
+        values: State,
+    ) -> Result<Answer, PoolFault>
+        ensures { IfOk result (IsRefusedOrJudged source.now.bytes certs.now source.now.outline values self.now.limit) }
+    {
+        let outline = source.outline();
+        match judge_outline(self.rt, self.alloc, outline, certs, Workers::ONE, &OpenGate) {
+            Ok(findings) => self.run_judged(outline, &findings, values),
+            Err(Refusal::Input(fault)) => {
+                Ok(Answer::refused(self.alloc, &fault, source.bytes())?)
+            }
+            Err(Refusal::Spawn) => Err(PoolFault::Spawn),
+            Err(Refusal::Memory) => Err(PoolFault::Memory),
+        }
+    }
+
+    // Runs the program of a source by the values that the words give.
+    fn ran<'a>(
+        &self,
+        source: &Source,
+        words: &[&'a str],
+        erased: bool,
+    ) -> Result<Reply<'a>, PoolFault>
+        ensures { IfOk result (IsRan erased self.now.limit source.now.bytes (map (λ w. w.now) words.now)) }
+    {
+        let outline = source.outline();
+        match values(self.alloc, outline, words) {
+            Ok(values) => {
+                let answer = self.run_program(outline, erased, values)?;
+                Ok(Reply::Answer(answer))
+            }
+            Err(WordsError::Bad(word)) => Ok(Reply::BadValue(word)),
+            Err(WordsError::Memory) => Err(PoolFault::Memory),
+        }
+    }
+
+    // Runs the program of a source by the values that the words give, where the certificates prove
+    // it safe.
+    fn ran_proved<'a>(
+        &self,
+        source: &Source,
+        certs: &[u8],
+        words: &[&'a str],
+    ) -> Result<Reply<'a>, PoolFault>
+        ensures { IfOk result (IsRanProved self.now.limit source.now.bytes certs.now (map (λ w. w.now) words.now)) }
+    {
+        match values(self.alloc, source.outline(), words) {
+            Ok(values) => {
+                let answer = self.run_by_certs(source, certs, values)?;
+                Ok(Reply::Answer(answer))
+            }
+            Err(WordsError::Bad(word)) => Ok(Reply::BadValue(word)),
+            Err(WordsError::Memory) => Err(PoolFault::Memory),
+        }
     }
 }
 
 /// Runs the program of a source, each process in a thread of its own, until nothing more can happen
-/// or the history has `limit` steps, at most 1,000,000. The words, each `NAME=INT`, give values to
-/// variables that are no auxiliaries; the others are 0. With `erased` it is the program without
-/// auxiliary variables.
+/// or the history is as long as the limit. The words, each `NAME=INT`, give values to variables that
+/// are no auxiliaries; the others are 0. With `erased` it is the program without auxiliary
+/// variables.
 ///
 /// The answer is the history, how the run ended and the state, with status 0 where all processes
 /// have ended and else 1; or the line of a refusal, with status 2. `BadValue` holds the first word
@@ -258,18 +203,25 @@ pub fn ran<'a, G: Gate, H: Threads + Wait + Sync>(
     alloc: Global,
     source: &[u8],
     words: &[&'a str],
-    limit: u32,
+    limit: RunLimit,
     erased: bool,
     gate: &G,
-) -> Result<Reply<'a>, EngineFault>
-    requires { limit ≤ 1000000 }
-    ensures reply { IfOk result (IsRan erased limit source.now (map (λ w. w.now) words.now)) }
-    ensures unread { IfErr result (λ e. e ≢ EngineFault.ReadFailed) }
-    ensures fault { IfErr result (λ e. e ≢ EngineFault.WriteFailed) }
+) -> Result<Reply<'a>, PoolFault>
+    ensures { IfOk result (IsRan erased limit source.now (map (λ w. w.now) words.now)) }
 {
-    match read_outline(alloc, source) {
-        Ok(outline) => ran_outline(rt, alloc, &outline, words, limit, erased, gate),
-        Err(refusal) => Ok(Reply::Answer(of_refusal(alloc, refusal, source)?)),
+    let runner = Runner {
+        rt,
+        alloc,
+        limit,
+        gate,
+    };
+    match Source::read(alloc, source) {
+        Ok(source) => {
+            let reply = runner.ran(&source, words, erased);
+            drop(source);
+            reply
+        }
+        Err(error) => Ok(Reply::Answer(Answer::unread(alloc, &error, source)?)),
     }
 }
 
@@ -287,16 +239,23 @@ pub fn ran_proved<'a, G: Gate, H: Threads + Wait + Sync>(
     source: &[u8],
     certs: &[u8],
     words: &[&'a str],
-    limit: u32,
+    limit: RunLimit,
     gate: &G,
-) -> Result<Reply<'a>, EngineFault>
-    requires { limit ≤ 1000000 }
-    ensures reply { IfOk result (IsRanProved limit source.now certs.now (map (λ w. w.now) words.now)) }
-    ensures unread { IfErr result (λ e. e ≢ EngineFault.ReadFailed) }
-    ensures fault { IfErr result (λ e. e ≢ EngineFault.WriteFailed) }
+) -> Result<Reply<'a>, PoolFault>
+    ensures { IfOk result (IsRanProved limit source.now certs.now (map (λ w. w.now) words.now)) }
 {
-    match read_outline(alloc, source) {
-        Ok(outline) => ran_judged(rt, alloc, source, certs, &outline, words, limit, gate),
-        Err(refusal) => Ok(Reply::Answer(of_refusal(alloc, refusal, source)?)),
+    let runner = Runner {
+        rt,
+        alloc,
+        limit,
+        gate,
+    };
+    match Source::read(alloc, source) {
+        Ok(source) => {
+            let reply = runner.ran_proved(&source, certs, words);
+            drop(source);
+            reply
+        }
+        Err(error) => Ok(Reply::Answer(Answer::unread(alloc, &error, source)?)),
     }
 }

@@ -33,7 +33,7 @@ fn mark_parts(wanted: &mut [bool], origin: &Origin) {
 }
 
 // Which rows this one rests on, itself among them.
-fn rows_behind(rows: &Rows, last: usize) -> Result<Vec<bool>, AllocError> {
+fn rows_needed(rows: &Rows, last: usize) -> Result<Vec<bool>, AllocError> {
     let mut wanted = vec![in rows.alloc(); false; rows.len()]?;
     mark(&mut wanted, last);
     for row in (0..rows.len()).rev() {
@@ -115,7 +115,7 @@ impl<'a> Lines<'a> {
 
 /// The leaf that ends with this row, a constant above 0.
 pub(crate) fn leaf(rows: &Rows, last: usize) -> Result<Proof, Stop> {
-    let wanted = rows_behind(rows, last)?;
+    let wanted = rows_needed(rows, last)?;
     let mut lines = Lines::new(rows)?;
     for (row, is_wanted) in wanted.iter().take(last).enumerate() {
         if *is_wanted {

@@ -14,7 +14,7 @@ use Rattle.og_typed.specs.Plain.{formula}
 use Rattle.og_typed.proofs.Lists.{formula_and, formula_or}
 use Rattle.og_subst.specs.Subst.{after, after_all, low, high, ranges}
 
--- the formulas behind others
+-- the formulas after others
 abbrev pub behind : List Formula → Option Formulas → Option Formulas
 behind [] answer = answer
 behind (f ∷ fs) answer = option_map (more f) (behind fs answer)

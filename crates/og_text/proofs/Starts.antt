@@ -12,7 +12,7 @@ use Rattle.std.proofs.lemmas.List.Sums.{count_by_more_no, count_by_more_yes, suf
 use Rattle.og_text.specs.Place.{is_line_end}
 use Rattle.og_text.specs.Lines.{line_starts, line_starts_from, IsIndexOf, IsPlacedBy}
 
--- the starts of a byte and of the bytes behind it
+-- the starts of a byte and of the bytes after it
 abbrev starts_by : Bool → ℕ → List ℕ → List ℕ
 starts_by b at ys = cond b ((at + 1) ∷ line_starts_from (at + 1) ys) (line_starts_from (at + 1) ys)
 
@@ -21,14 +21,14 @@ append_by : (b : Bool) (at : ℕ) (xs ys : List ℕ) → line_starts_from (at + 
 append_by true at xs ys e = ap (λ (zs : List ℕ). (at + 1) ∷ zs) e
 append_by false at xs ys e = e
 
--- the starts of two texts, one behind the other
+-- the starts of two texts, one after the other
 pub line_starts_from-append : (at : ℕ) (xs ys : List ℕ) → line_starts_from at (xs ++ ys) ≡ line_starts_from at xs ++ line_starts_from (at + length xs) ys
 line_starts_from-append at [] ys = rw add-zero refl
 line_starts_from-append at (x ∷ xs) ys =
     let e : at + 1 + length xs ≡ at + suc (length xs) = omega arith in
     subst (λ (k : ℕ). line_starts_from at (x ∷ xs ++ ys) ≡ line_starts_from at (x ∷ xs) ++ line_starts_from k ys) e (append_by (is_line_end x) at xs ys (line_starts_from-append (at + 1) xs ys))
 
--- the starts before a place, and those behind it
+-- the starts before a place, and those after it
 pub starts_parted : (text : List ℕ) (at : ℕ) → at ≤ length text → line_starts text ≡ line_starts (take at text) ++ line_starts_from at (drop at text)
 starts_parted text at le =
     let len : 0 + length (take at text) ≡ at = omega (arith, length-take-le at text le) in
@@ -71,7 +71,7 @@ last_start-none (x ∷ xs) e = absurd (omega arith)
 abbrev not_end : ℕ → Bool
 not_end b = not (is_line_end b)
 
--- the starts among the first bytes give the line and the column behind them
+-- the starts among the first bytes give the line and the column after them
 pub record Placed (text : List ℕ) (i : ℕ) : Type 0 where
   pub line : count_by is_line_end (take i text) ≡ length (line_starts (take i text))
   pub column : suffix_len not_end (take i text) + last_start (line_starts (take i text)) ≡ i
@@ -111,7 +111,7 @@ between_by true at xs h zero lt = (omega arith, omega arith)
 between_by true at xs h (suc k) lt = let n = h k (omega arith) in (omega (arith, n.0), omega (arith, n.1))
 between_by false at xs h k lt = let n = h k lt in (omega (arith, n.0), omega (arith, n.1))
 
--- each start lies behind a byte of the text
+-- each start lies after a byte of the text
 pub starts_between : (at : ℕ) (xs : List ℕ) (k : ℕ) → k < length (line_starts_from at xs) → IsBetween at (at + length xs) (get_or (line_starts_from at xs) k 0)
 starts_between at [] k lt = absurd (omega arith)
 starts_between at (x ∷ xs) k lt = between_by (is_line_end x) at xs (starts_between (at + 1) xs) k lt
@@ -125,11 +125,11 @@ pub record IsParted (front back : List ℕ) (at : ℕ) : Type 0 where
 pub is_low : (front back : List ℕ) (at k : ℕ) → IsParted front back at → k < length front → get_or (front ++ back) k 0 ≤ at
 is_low front back at k p lt = omega (arith, get_or-append front back 0 k lt, p.low k lt)
 
--- an element behind the front is high
+-- an element after the front is high
 pub is_high : (front back : List ℕ) (at k : ℕ) → IsParted front back at → length front ≤ k → k < length (front ++ back) → at < get_or (front ++ back) k 0
 is_high front back at k p le lt = omega (arith, get_or-append_right front back k 0 le, p.high (k - length front) (omega (arith, length-append front back)))
 
--- the starts up to a place, and those behind it
+-- the starts up to a place, and those after it
 pub parted : (text : List ℕ) (at : ℕ) → at ≤ length text → IsParted (line_starts (take at text)) (line_starts_from at (drop at text)) at
 parted text at le = record {
   low = λ k lt. omega (arith, (starts_between 0 (take at text) k lt).1, length-take-le at text le);

@@ -3,7 +3,7 @@ use Rattle.std.proofs.Common.{◌≡◌, ℕ, ◌+◌, ◌*◌, ◌-◌, ◌≤�
 use Rattle.std.proofs.Math.Seq.{drop-cons}
 use Rattle.og_text.specs.Lexemes.{value_from}
 
--- digits behind a number make it no smaller
+-- digits after a number make it no smaller
 pub value_from-ge : (n : ℕ) (ds : List ℕ) → n ≤ value_from n ds
 value_from-ge n [] = omega arith
 value_from-ge n (d ∷ ds) = omega (arith, value_from-ge (10 * n + (d - 48)) ds)

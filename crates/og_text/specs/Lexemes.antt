@@ -110,7 +110,7 @@ IsWord bytes = IsRun is_letter is_word_byte bytes
 abbrev pub IsNumber : List ℕ → Type 0
 IsNumber bytes = IsRun is_digit is_digit bytes
 
--- the number that digits stand for behind a number
+-- the number that digits stand for after a number
 abbrev pub value_from : ℕ → List ℕ → ℕ
 value_from n [] = n
 value_from n (d ∷ ds) = value_from (10 * n + (d - 48)) ds

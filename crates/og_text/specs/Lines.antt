@@ -2,12 +2,12 @@
 use Rattle.std.specs.Prelude.{◌≡◌, ℕ, ◌+◌, ◌-◌, ◌^◌, ◌<◌, ◌≤◌, ◌⊎◌, List, [], ◌∷◌, length, slice_index_or, if◌then◌else◌}
 use Rattle.og_text.specs.Place.{is_line_end, line_at, column_at}
 
--- the offsets right behind the line ends of a text that begins at an offset, in order
+-- the offsets right after the line ends of a text that begins at an offset, in order
 abbrev pub line_starts_from : ℕ → List ℕ → List ℕ
 line_starts_from at [] = []
 line_starts_from at (b ∷ bs) = (if is_line_end b then (at + 1) ∷ line_starts_from (at + 1) bs else line_starts_from (at + 1) bs)
 
--- the offsets right behind the line ends of a text, in order
+-- the offsets right after the line ends of a text, in order
 abbrev pub line_starts : List ℕ → List ℕ
 line_starts text = line_starts_from 0 text
 

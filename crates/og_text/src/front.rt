@@ -29,7 +29,7 @@ pub enum Front {
     NameTooLong,
 }
 
-// The longest piece at the front. It looks at the bytes of that piece and at one behind it.
+// The longest piece at the front. It looks at the bytes of that piece and at one after it.
 pub(crate) fn front_of(alloc: Global, text: &[u8]) -> Result<Front, AllocError>
     requires { 0 < length text.now }
     ensures { IfOk result (λ f. IsFront text.now f) }

@@ -12,7 +12,7 @@ use std::marker::Model;
 #[derive(Debug, Drop)]
 pub struct LineIndex<'a> {
     text: &'a [u8],
-    // The offset right behind each LF, in order.
+    // The offset right after each LF, in order.
     starts: Vec<u32>,
 }
 

@@ -8,7 +8,7 @@ ghost use Rattle.og_text.specs.Place.{line_at, column_at};
 pub struct Span {
     /// The offset of the first byte.
     pub start: u32,
-    /// The offset behind the last byte.
+    /// The offset after the last byte.
     pub end: u32,
 }
 

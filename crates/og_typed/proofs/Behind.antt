@@ -10,7 +10,7 @@ use Rattle.og_typed.specs.Answer.{FailsAs, IsResolved}
 use Rattle.og_typed.specs.Syntax.{Formula, Formulas, none, more, formula_list}
 use Rattle.og_typed.specs.Resolved.{Checked, ◌>>=◌, Scope, Use, assertion, assertions}
 
--- the formulas behind others
+-- the formulas after others
 abbrev pub behind : List Formula → Checked Formulas → Checked Formulas
 behind [] answer = answer
 behind (f ∷ fs) answer = behind fs answer >>= λ rest. Ok (more f rest)

@@ -3,6 +3,6 @@ use Rattle.std.proofs.Common.{List, ◌++◌}
 use Rattle.std.specs.Prelude.{Ok}
 use Rattle.og_typed.specs.Resolved.{Checked, ◌>>=◌}
 
--- the values behind others
+-- the values after others
 abbrev pub front : {Y : Type 0} → List Y → Checked (List Y) → Checked (List Y)
 front ys answer = answer >>= λ rest. Ok (ys ++ rest)

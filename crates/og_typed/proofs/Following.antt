@@ -11,7 +11,7 @@ use Rattle.og_parse.specs.declared.raw.RawItem.{RawItem}
 use Rattle.og_parse.specs.Trees as tree
 use Rattle.og_typed.proofs.Behind.{drop_at, drop_all, map_push}
 
--- the sequence behind these items
+-- the sequence after these items
 abbrev pub after_items : List (Noted × Statement × ℕ) → Checked Sequence → Checked Sequence
 after_items [] answer = answer
 after_items (item ∷ items) answer = after_items items answer >>= λ rest. Ok (Then item.0 item.1 item.2 rest)
@@ -74,7 +74,7 @@ module _ (scope : Scope) (rest : tree.Seq) where
       ∙ ap (λ (a : Checked Statement). after_items items (a >>= λ d. sequence scope (tree.items_then others rest) >>= λ q. Ok (Then b d t.place.start q))) f
       ∙ after_fault items fault
 
-  -- behind the last statement
+  -- after the last statement
   pub items_end : (items : List (Noted × Statement × ℕ)) (all : List RawItem) (i : ℕ) (answer : Checked Sequence) → length all ≤ i
       → after_items items (sequence scope (tree.items_then (map tree.item_of (drop i all)) rest)) ≡ answer → answer ≡ after_items items (sequence scope rest)
   items_end items all i answer h inv =

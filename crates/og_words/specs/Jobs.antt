@@ -1,7 +1,5 @@
--- Which command a job is of, and within what limits its numbers are.
-use Rattle.std.specs.Prelude.{ℕ, ◌≤◌, List, Option, None, Some, codes, string_bytes, slice_get, ⊤}
-use Rattle.std.specs.Option.{option_map}
-use Rattle.std.specs.declared.string.String.{String}
+-- Which command a job is of.
+use Rattle.std.specs.Prelude.{ℕ, List, Option, None, Some, codes}
 use Rattle.og_words.specs.declared.job.Verb.{Verb}
 use Rattle.og_words.specs.declared.job.Verb.TheVariants as verbs
 use Rattle.og_words.specs.declared.job.Job.{Job}
@@ -24,10 +22,3 @@ command_of (jobs.Find source budget) = Some (codes "find")
 command_of (jobs.Erase source) = Some (codes "erase")
 command_of (jobs.Run source limit erased certs values) = Some (codes "run")
 command_of (jobs.Migrate certs) = Some (codes "migrate")
-
--- the numbers are within their limits
-abbrev pub IsWithinRanges : Job → Type 0
-IsWithinRanges (jobs.Check source certs workers json) = (1 ≤ workers) × (workers ≤ 64)
-IsWithinRanges (jobs.Find source budget) = (1 ≤ budget) × (budget ≤ 1000000000)
-IsWithinRanges (jobs.Run source limit erased certs values) = limit ≤ 1000000
-IsWithinRanges job = ⊤

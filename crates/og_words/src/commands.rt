@@ -106,7 +106,7 @@ fn with_arg<'a>(
     command.arg(arg?)
 }
 
-// Adds what stands behind `--`.
+// Adds what stands after `--`.
 fn with_run_options<'a>(alloc: Global, command: Command<'a>) -> Result<Command<'a>, AllocError> {
     let command = command.arg(limit_arg(alloc))?.arg(erased_arg(alloc))?;
     with_arg(command, run_certs_arg(alloc))

@@ -1,5 +1,6 @@
 //! What the program is asked to do.
 
+use og_limits::{Budget, RunLimit, Workers};
 use std::alloc::{AllocError, AllocFailed};
 
 /// The words that name commands.
@@ -22,8 +23,8 @@ pub enum Job<'a> {
     Check {
         source: &'a str,
         certs: &'a str,
-        /// How many threads check, 1 to 64.
-        workers: u32,
+        /// How many threads check.
+        workers: Workers,
         /// Whether the report is to be JSON.
         json: bool,
     },
@@ -34,8 +35,8 @@ pub enum Job<'a> {
     /// Print the certificates that are found.
     Find {
         source: &'a str,
-        /// How many facts may be added for each condition, 1 to 1,000,000,000.
-        budget: u64,
+        /// How many facts may be added for each condition.
+        budget: Budget,
     },
     /// Print the program without its auxiliary variables.
     Erase {
@@ -44,8 +45,8 @@ pub enum Job<'a> {
     /// Run the processes in threads.
     Run {
         source: &'a str,
-        /// How many steps the history may have, at most 1,000,000.
-        limit: u32,
+        /// How many steps the history may have.
+        limit: RunLimit,
         /// Whether the program without auxiliary variables is to be run.
         erased: bool,
         /// The certificates that are to prove the outline safe first.

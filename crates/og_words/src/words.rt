@@ -1,12 +1,13 @@
 //! From words to a job.
 
-ghost use Rattle.std.specs.Prelude.{◌≡◌, ◌≤◌, IfOk, IfSome, Some, length, string_bytes, option_map, slice_get};
-ghost use Rattle.og_words.specs.Jobs.{verb_name, command_of, IsWithinRanges};
+ghost use Rattle.std.specs.Prelude.{◌≡◌, IfOk, IfSome, Some, length, string_bytes, option_map, slice_get};
+ghost use Rattle.og_words.specs.Jobs.{verb_name, command_of};
 
 use crate::commands::program;
 use crate::job::{Job, Usage, Verb};
 use clap::ArgMatches;
 use clap::error::{Error, ErrorKind};
+use og_limits::{Budget, RunLimit, Workers};
 use std::alloc::{AllocError, Global};
 
 fn verb_of(word: &str) -> Option<Verb>
@@ -24,33 +25,28 @@ fn verb_of(word: &str) -> Option<Verb>
 }
 
 fn check_job<'a>(m: &ArgMatches<'a>) -> Option<Job<'a>>
-    ensures command { IfSome result (λ job. command_of job ≡ Some (verb_name Verb.Check)) }
-    ensures ranges { IfSome result IsWithinRanges }
+    ensures { IfSome result (λ job. command_of job ≡ Some (verb_name Verb.Check)) }
 {
     let source = m.get_str("SOURCE")?;
     let certs = m.get_str("CERTS")?;
     let workers = m.get_one::<u32>("workers")?;
-    if workers < 1 || workers > 64 {
-        return None;
-    }
     Some(Job::Check {
         source,
         certs,
-        workers,
+        workers: Workers::new(workers)?,
         json: m.get_flag("json"),
     })
 }
 
 fn find_job<'a>(m: &ArgMatches<'a>) -> Option<Job<'a>>
-    ensures command { IfSome result (λ job. command_of job ≡ Some (verb_name Verb.Find)) }
-    ensures ranges { IfSome result IsWithinRanges }
+    ensures { IfSome result (λ job. command_of job ≡ Some (verb_name Verb.Find)) }
 {
     let source = m.get_str("SOURCE")?;
     let budget = m.get_one::<u64>("budget")?;
-    if budget < 1 || budget > 1000000000 {
-        return None;
-    }
-    Some(Job::Find { source, budget })
+    Some(Job::Find {
+        source,
+        budget: Budget::new(budget)?,
+    })
 }
 
 fn values_of<'a>(alloc: Global, m: &ArgMatches<'a>) -> Result<Vec<&'a str>, AllocError> {
@@ -64,8 +60,7 @@ fn values_of<'a>(alloc: Global, m: &ArgMatches<'a>) -> Result<Vec<&'a str>, Allo
 }
 
 fn run_job<'a>(alloc: Global, m: &ArgMatches<'a>) -> Result<Option<Job<'a>>, AllocError>
-    ensures command { IfOk result (λ r. IfSome r (λ job. command_of job ≡ Some (verb_name Verb.Run))) }
-    ensures ranges { IfOk result (λ r. IfSome r IsWithinRanges) }
+    ensures { IfOk result (λ r. IfSome r (λ job. command_of job ≡ Some (verb_name Verb.Run))) }
 {
     let values = values_of(alloc, m)?;
     let Some(source) = m.get_str("SOURCE") else {
@@ -74,9 +69,9 @@ fn run_job<'a>(alloc: Global, m: &ArgMatches<'a>) -> Result<Option<Job<'a>>, All
     let Some(limit) = m.get_one::<u32>("limit") else {
         return Ok(None);
     };
-    if limit > 1000000 {
+    let Some(limit) = RunLimit::new(limit) else {
         return Ok(None);
-    }
+    };
     Ok(Some(Job::Run {
         source,
         limit,
@@ -88,8 +83,7 @@ fn run_job<'a>(alloc: Global, m: &ArgMatches<'a>) -> Result<Option<Job<'a>>, All
 
 // The job of a command.
 fn job_of<'a>(alloc: Global, verb: Verb, m: &ArgMatches<'a>) -> Result<Option<Job<'a>>, AllocError>
-    ensures command { IfOk result (λ r. IfSome r (λ job. command_of job ≡ Some (verb_name verb))) }
-    ensures ranges { IfOk result (λ r. IfSome r IsWithinRanges) }
+    ensures { IfOk result (λ r. IfSome r (λ job. command_of job ≡ Some (verb_name verb))) }
 {
     match verb {
         Verb::Check => Ok(check_job(m)),
@@ -116,8 +110,7 @@ fn named_job<'a>(
     name: &str,
     matches: &ArgMatches<'a>,
 ) -> Result<Option<Job<'a>>, AllocError>
-    ensures command { IfOk result (λ r. IfSome r (λ job. command_of job ≡ Some name.now)) }
-    ensures ranges { IfOk result (λ r. IfSome r IsWithinRanges) }
+    ensures { IfOk result (λ r. IfSome r (λ job. command_of job ≡ Some name.now)) }
 {
     let Some(verb) = verb_of(name) else {
         return Ok(None);
@@ -163,7 +156,6 @@ fn bad_words(alloc: Global) -> Usage {
 /// refused.
 pub fn read_words<'a>(alloc: Global, words: &'a [String]) -> Result<Job<'a>, Usage>
     ensures command { IfOk result (λ job. command_of job ≡ option_map (λ w. string_bytes w) (slice_get words.now 0)) }
-    ensures ranges { IfOk result IsWithinRanges }
     ensures none { length words.now ≡ 0 → result ≡ Ok Job.Joined }
 {
     let Some(first) = words.first() else {

@@ -16,4 +16,4 @@ returns-in_err-at_line-clause-taken c =
     let fails : located c.loop-step.next c.take_step.result ≡ Err p.0 = sym c.at_line.ensures ∙ c.in_err-at_line.was ∙ ap Err (sym p.2) in
     rw p.1 (λ cert.
     located_fails (λ _. facts_held c.take_step.new.held.items) c.loop-step.next c.take_step.result (stepped n fs c.step-item.result) p.0 (fault_from c.args.line n (facts_held c.args.held.now.items) (with_steps c.args.steps.now cert)) c.take_step.ensures.added fails
-    (λ k e. c.loop-step.invariant.behind cert ∙ steps_stop c.loop-step.next n c.loop-step.step-index fs c.step-item.result c.args.steps.now cert k c.loop-step-test.true c.step-item.is e))
+    (λ k e. c.loop-step.invariant.rest cert ∙ steps_stop c.loop-step.next n c.loop-step.step-index fs c.step-item.result c.args.steps.now cert k c.loop-step-test.true c.step-item.is e))

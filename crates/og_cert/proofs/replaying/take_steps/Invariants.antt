@@ -9,5 +9,5 @@ abbrev pub invariant-loop-step : goal.invariant-loop-step
 invariant-loop-step l = record {
   line : l.next ≡ l.line + l.step-index;
   kept : take (length l.fn.held.items) l.held.items ≡ l.fn.held.items;
-  behind : (c : Cert) → fault_from l.line l.variables (facts_held l.fn.held.items) (with_steps l.steps c) ≡ fault_from l.next l.variables (facts_held l.held.items) (with_steps (drop l.step-index l.steps) c);
+  rest : (c : Cert) → fault_from l.line l.variables (facts_held l.fn.held.items) (with_steps l.steps c) ≡ fault_from l.next l.variables (facts_held l.held.items) (with_steps (drop l.step-index l.steps) c);
 }

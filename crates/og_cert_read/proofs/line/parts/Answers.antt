@@ -15,11 +15,11 @@ returns-then-v-low c =
 
 pub loop-rest-smaller : goal.loop-rest-smaller
 loop-rest-smaller c =
-    shrinks (option_map (λ s. s.now) c.loop-rest.rest) (option_map (λ s. s.now) c.split_at_byte.result.1) c.in-Some-rest.words.now (ap (option_map (λ s. s.now)) c.in-Some-rest.is) c.split_at_byte.ensures.behind
+    shrinks (option_map (λ s. s.now) c.loop-rest.rest) (option_map (λ s. s.now) c.split_at_byte.result.1) c.in-Some-rest.words.now (ap (option_map (λ s. s.now)) c.in-Some-rest.is) c.split_at_byte.ensures.past
 
 pub loop-rest-preserved : goal.loop-rest-preserved
 loop-rest-preserved c =
     let pushed : c.push.new.self.items ≡ c.loop-rest.parts.items ++ (c.in-Some-part.v, c.in-Some-part.a) ∷ [] = search rules in
     ap (λ ts. with_front ts (parts_of (c.in-Some-part.v + 1) (words_of (option_map (λ s. s.now) c.split_at_byte.result.1)))) pushed
     ∙ part_goes c.loop-rest.parts.items c.loop-rest.low (option_map (λ s. s.now) c.loop-rest.rest) (option_map (λ s. s.now) c.split_at_byte.result.1) c.in-Some-rest.words.now c.split_at_byte.result.0.now (c.in-Some-part.v, c.in-Some-part.a) _
-    (ap (option_map (λ s. s.now)) c.in-Some-rest.is) c.split_at_byte.ensures.before c.split_at_byte.ensures.behind (sym c.in-Some-part.is ∙ c.part.ensures) c.if-v-low.false c.loop-rest.invariant
+    (ap (option_map (λ s. s.now)) c.in-Some-rest.is) c.split_at_byte.ensures.before c.split_at_byte.ensures.past (sym c.in-Some-part.is ∙ c.part.ensures) c.if-v-low.false c.loop-rest.invariant

@@ -6,25 +6,25 @@ use Rattle.og_cert_read.proofs.read.read_certs.Goals as goal
 pub returns-then-text-gt-TEXT_LIMIT : goal.returns-then-text-gt-TEXT_LIMIT
 returns-then-text-gt-TEXT_LIMIT c = too_long (length c.args.text.now) (omega (arith, c.if-text-gt-TEXT_LIMIT.true))
 
-pub read_behind-requires : goal.read_behind-requires
-read_behind-requires c =
+pub read_rest-requires : goal.read_rest-requires
+read_rest-requires c =
     rest_few (version_text One) c.args.text.now c.in-Some.rest.now (front_of (version_text One) c.args.text.now c.after.result c.in-Some.rest c.after.ensures c.in-Some.is)
     (omega (arith, c.if-text-gt-TEXT_LIMIT.false))
 
 pub returns-in-Some : goal.returns-in-Some
 returns-in-Some c =
-    file_read One c.args.text.now c.in-Some.rest.now c.read_behind.result (omega (arith, c.if-text-gt-TEXT_LIMIT.false))
-    (front_of (version_text One) c.args.text.now c.after.result c.in-Some.rest c.after.ensures c.in-Some.is) c.read_behind.ensures
+    file_read One c.args.text.now c.in-Some.rest.now c.read_rest.result (omega (arith, c.if-text-gt-TEXT_LIMIT.false))
+    (front_of (version_text One) c.args.text.now c.after.result c.in-Some.rest c.after.ensures c.in-Some.is) c.read_rest.ensures
 
-pub read_behind-requires-in-Some-after : goal.read_behind-requires-in-Some-after
-read_behind-requires-in-Some-after c =
+pub read_rest-requires-in-Some-after : goal.read_rest-requires-in-Some-after
+read_rest-requires-in-Some-after c =
     rest_few (version_text Two) c.args.text.now c.in-Some-after.rest.now (front_of (version_text Two) c.args.text.now c.after-2.result c.in-Some-after.rest c.after-2.ensures c.in-Some-after.is)
     (omega (arith, c.if-text-gt-TEXT_LIMIT.false))
 
 pub returns-in-Some-after : goal.returns-in-Some-after
 returns-in-Some-after c =
-    file_read Two c.args.text.now c.in-Some-after.rest.now c.read_behind-in-Some-after.result (omega (arith, c.if-text-gt-TEXT_LIMIT.false))
-    (front_of (version_text Two) c.args.text.now c.after-2.result c.in-Some-after.rest c.after-2.ensures c.in-Some-after.is) c.read_behind-in-Some-after.ensures
+    file_read Two c.args.text.now c.in-Some-after.rest.now c.read_rest-in-Some-after.result (omega (arith, c.if-text-gt-TEXT_LIMIT.false))
+    (front_of (version_text Two) c.args.text.now c.after-2.result c.in-Some-after.rest c.after-2.ensures c.in-Some-after.is) c.read_rest-in-Some-after.ensures
 
 pub returns : goal.returns
 returns c = (

@@ -6,6 +6,6 @@ use Rattle.og_engine.proofs.engines.engine.Goals as goal
 pub returns-clause-answer : goal.returns-clause-answer
 returns-clause-answer g c =
     let checked = subst (λ (t : List ℕ). IsChecked c.args.options.json c.in_ok-source.source.items t c.in_ok-answer.answer) c.deref-2.ensures.value
-    (subst (λ (s : List ℕ). IsChecked c.args.options.json s c.deref-2.result.now c.in_ok-answer.answer) c.deref.ensures.value c.in_ok-answer.ensures.answer) in
-    engine_written c.args.options.json _ _ _ _ c.in_ok-source.source.items c.in_ok-certs.certs.items c.in_ok-answer.answer c.in_ok-status.status c.in_ok-source.ensures.text c.in_ok-certs.ensures.text
+    (subst (λ (s : List ℕ). IsChecked c.args.options.json s c.deref-2.result.now c.in_ok-answer.answer) c.deref.ensures.value c.in_ok-answer.ensures) in
+    engine_written c.args.options.json _ _ _ _ c.in_ok-source.source.items c.in_ok-certs.certs.items c.in_ok-answer.answer c.in_ok-status.status c.in_ok-source.ensures c.in_ok-certs.ensures
     checked c.in_ok-status.ensures.status c.in_ok-status.ensures.written

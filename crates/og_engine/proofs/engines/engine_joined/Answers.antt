@@ -6,5 +6,5 @@ use Rattle.og_engine.proofs.engines.engine_joined.Goals as goal
 pub returns-clause-answer : goal.returns-clause-answer
 returns-clause-answer g c =
     let cut = subst (λ (i : List ℕ). IsSplit i c.split.result.0.now c.split.result.1.now) c.deref.ensures.value c.split.ensures in
-    joined_engine_written c.args.options.json _ _ _ c.in_ok-input.input.items c.split.result.0.now c.split.result.1.now c.in_ok-answer.answer c.in_ok-status.status c.in_ok-input.ensures.text cut
-    c.in_ok-answer.ensures.answer c.in_ok-status.ensures.status c.in_ok-status.ensures.written
+    joined_engine_written c.args.options.json _ _ _ c.in_ok-input.input.items c.split.result.0.now c.split.result.1.now c.in_ok-answer.answer c.in_ok-status.status c.in_ok-input.ensures cut
+    c.in_ok-answer.ensures c.in_ok-status.ensures.status c.in_ok-status.ensures.written

@@ -1,12 +1,12 @@
 use Rattle.std.proofs.Common.{ap, sym, ◌∙◌}
 use Rattle.og_cond.specs.Conditions.{safety_conditions, blocking_condition}
-use Rattle.og_judge.specs.Report.{is_safe, is_unblocked}
+use Rattle.og_judge.specs.Entries.{is_safe, is_unblocked}
 use Rattle.og_judge.proofs.Listing.{safe_is_valid, unblocked_is_valid}
 use Rattle.og_judge.proofs.judging.concluded.Goals as goal
 
 pub new-requires : goal.new-requires
 new-requires c =
-    let o = c.args.outline in
+    let o = c.args.outline.now in
     let file = c.requires.0 in
     let faults = c.replay_laws.ensures.faults in
     let valid = c.replay_laws.ensures.valid in (

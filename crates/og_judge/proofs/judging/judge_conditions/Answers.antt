@@ -7,7 +7,7 @@ use Rattle.og_cond.specs.Conditions.{conditions}
 use Rattle.og_cond.specs.declared.condition.Condition.{Condition}
 use Rattle.og_cert_text.specs.Shown.{shown}
 use Rattle.og_pool.specs.Status.{status_of}
-use Rattle.og_judge.specs.Report.{HasNoneAbove}
+use Rattle.og_judge.specs.Entries.{HasNoneAbove}
 use Rattle.og_judge.specs.Parts.{told_from}
 use Rattle.og_judge.proofs.Refusing.{conditions_refused, certs_refused, stray_refused}
 use Rattle.og_judge.proofs.Listing.{listed_entries}
@@ -23,12 +23,11 @@ returns-in_err-file-clause-refused g c =
     let p = err_from_is_err_and c.from_residual-in_err-file.result c.from_residual-in_err-file.ensures.1 in
     rw p.1 (certs_refused c.args.certs.now c.args.outline.now c.in_err-file.field-0.0 p.0 c.in_ok-conditions.ensures.1 c.in_err-file.ensures p.2)
 
-pub returns-in_err-refuse_stray-clause-refused : goal.returns-in_err-refuse_stray-clause-refused
-returns-in_err-refuse_stray-clause-refused g c =
-    let p = err_from_is_err_and c.from_residual-in_err-refuse_stray.result c.from_residual-in_err-refuse_stray.ensures.1 in
+pub returns-in-Some-clause-refused : goal.returns-in-Some-clause-refused
+returns-in-Some-clause-refused g c =
     let same : c.count_of.result ≡ length (conditions c.args.outline.now) =
     c.count_of.ensures ∙ ap length c.deref.ensures.value ∙ sym (length-map c.in_ok-conditions.conditions.items seen) ∙ ap length c.in_ok-conditions.ensures.0 in
-    rw p.1 (stray_refused c.args.certs.now c.args.outline.now (shown c.in_ok-file.file) c.count_of.result c.in_err-refuse_stray.field-0.0 p.0 c.in_ok-conditions.ensures.1 c.in_ok-file.ensures same c.in_err-refuse_stray.ensures.stray p.2)
+    stray_refused c.args.certs.now c.args.outline.now (shown c.in_ok-file.file) c.count_of.result c.in-Some.number c.in_ok-conditions.ensures.1 c.in_ok-file.ensures same c.in-Some.ensures
 
 pub returns-clause-entries : goal.returns-clause-entries
 returns-clause-entries g c =
@@ -43,6 +42,6 @@ returns-clause-entries g c =
       few = c.in_ok-conditions.ensures.1;
       file = shown file;
       read = c.in_ok-file.ensures;
-      none_stray = subst (λ (n : ℕ). HasNoneAbove n (shown file)) (c.count_of.ensures ∙ ap length c.deref.ensures.value ∙ sym (length-map c.in_ok-conditions.conditions.items seen) ∙ ap length c.in_ok-conditions.ensures.0) c.in_ok-refuse_stray.ensures.none;
+      none_stray = subst (λ (n : ℕ). HasNoneAbove n (shown file)) (c.count_of.ensures ∙ ap length c.deref.ensures.value ∙ sym (length-map c.in_ok-conditions.conditions.items seen) ∙ ap length c.in_ok-conditions.ensures.0) c.in_default.ensures;
       listed = listed_entries conds file ss (conditions c.args.outline.now) c.in_ok-listed.field-0.items c.in_ok-conditions.ensures.0 long each made;
     }

@@ -4,7 +4,7 @@ use Rattle.std.proofs.lemmas.Option.{slice_get-map, slice_get_read, slice_get-ge
 use Rattle.og_cond.specs.Seen.{seen}
 use Rattle.og_pool.specs.declared.status.Status.{Status}
 use Rattle.og_pool.specs.declared.status.Status.TheVariants as status
-use Rattle.og_judge.specs.Report.{entry_of}
+use Rattle.og_judge.specs.Entries.{entry_of}
 use Rattle.og_judge.specs.Parts.{told_from}
 use Rattle.og_judge.proofs.Listing.{told_turn}
 use Rattle.og_judge.proofs.judging.listed.Goals as goal

@@ -40,13 +40,13 @@ abbrev pub decreases-assertion : goal.decreases-assertion
 decreases-assertion l = 8 * l.depth + 6
 
 abbrev pub invariant-units-more : goal.invariant-units-more
-invariant-units-more l = with_front (map assertion_of l.all.items) (many_at (is_a And) (after_at And (unit_by (opens l.depth))) l.rest) ≡ units_by (opens l.depth) l.tokens
+invariant-units-more l = with_front (map assertion_of l.all.items) (many_at (is_a And) (after_at And (unit_by (opens l.depth))) l.cursor) ≡ units_by (opens l.depth) l.fn.cursor
 
 abbrev pub decreases-units-more : goal.decreases-units-more
-decreases-units-more l = length l.rest
+decreases-units-more l = length l.cursor
 
 abbrev pub invariant-conjunctions-more : goal.invariant-conjunctions-more
-invariant-conjunctions-more l = with_front (map assertion_of l.all.items) (many_at (is_a Or) (after_at Or (conjunction_by (opens l.depth))) l.rest) ≡ conjunctions_by (opens l.depth) l.tokens
+invariant-conjunctions-more l = with_front (map assertion_of l.all.items) (many_at (is_a Or) (after_at Or (conjunction_by (opens l.depth))) l.cursor) ≡ conjunctions_by (opens l.depth) l.fn.cursor
 
 abbrev pub decreases-conjunctions-more : goal.decreases-conjunctions-more
-decreases-conjunctions-more l = length l.rest
+decreases-conjunctions-more l = length l.cursor

@@ -1,5 +1,6 @@
 use Rattle.std.proofs.Common.{sym, arith}
 use Rattle.og_text.specs.declared.token.TokenKind.TheVariants.{Comma}
+use Rattle.og_grammar.specs.Language.{first_place}
 use Rattle.og_grammar.proofs.Loops.{goes_on_after, onward, symbol_onward}
 use Rattle.og_parse.specs.Reads.{auxes_at}
 use Rattle.og_parse.proofs.OutlineLaws.{aux_laws}
@@ -7,8 +8,8 @@ use Rattle.og_parse.proofs.outline.auxes.Goals as goal
 
 pub more-preserved : goal.more-preserved
 more-preserved c =
-    rw c.in_ok-push-2.ensures.items (goes_on_after Comma (onward aux_laws) c.more.all.items c.more.rest.now (c.in_ok-after.field-0-0, c.in_ok-after.after.now) c.in_ok-next.next c.in_ok-next.after.now (auxes_at c.args.tokens.now) (sym c.more-test.ensures) c.in_ok-after.ensures c.in_ok-next.ensures c.more.invariant)
+    rw c.in_ok-push-2.ensures.items (goes_on_after Comma (onward aux_laws) c.more.all.items c.more.cursor (first_place c.more.cursor, c.eat.new.self) c.in_ok-aux-2.field-0 c.aux-in-more.new.cursor (auxes_at c.args.cursor.now) (sym c.more-test.ensures.found) c.more-test.ensures.left c.in_ok-aux-2.ensures c.more.invariant)
 
 pub more-smaller : goal.more-smaller
 more-smaller c =
-    omega (arith, symbol_onward Comma c.more.rest.now c.in_ok-after.field-0-0 c.in_ok-after.after.now c.in_ok-after.ensures, onward aux_laws c.in_ok-after.after.now c.in_ok-next.next c.in_ok-next.after.now c.in_ok-next.ensures)
+    omega (arith, symbol_onward Comma c.more.cursor (first_place c.more.cursor) c.eat.new.self c.more-test.ensures.left, onward aux_laws c.eat.new.self c.in_ok-aux-2.field-0 c.aux-in-more.new.cursor c.in_ok-aux-2.ensures)

@@ -7,7 +7,7 @@ use Rattle.og_parse.specs.Reads.{names_at}
 use Rattle.og_parse.proofs.outline.names.Given as goal
 
 abbrev pub invariant-more : goal.invariant-more
-invariant-more l = with_front l.all.items (many_at (is_a Comma) (after_at Comma (token_at name_of)) l.rest) ≡ names_at l.tokens
+invariant-more l = with_front l.all.items (many_at (is_a Comma) (after_at Comma (token_at name_of)) l.cursor) ≡ names_at l.fn.cursor
 
 abbrev pub decreases-more : goal.decreases-more
-decreases-more l = length l.rest
+decreases-more l = length l.cursor

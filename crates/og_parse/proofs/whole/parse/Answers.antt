@@ -8,8 +8,8 @@ returns-in-Some c = c.parse_excess.ensures c.args.tokens.now c.in-Some.ensures
 
 pub returns-in-Ok : goal.returns-in-Ok
 unfolding level_limit statement_limit
-returns-in-Ok c = answer_ok level_limit statement_limit c.args.tokens.now c.in_default.ensures c.in-Ok.raw c.in-Ok.field-0-1.now c.in-Ok.ensures
+returns-in-Ok c = answer_ok level_limit statement_limit c.args.tokens.now c.in_default.ensures c.in-Ok.raw c.whole.new.cursor (rw c.new-cursor.ensures at c.in-Ok.ensures)
 
 pub returns-in-Err : goal.returns-in-Err
 unfolding level_limit statement_limit
-returns-in-Err c = rw c.error.ensures (answer_err level_limit statement_limit c.args.tokens.now c.in_default.ensures c.in-Err.refusal c.in-Err.ensures)
+returns-in-Err c = rw (c.error.ensures, c.rest.ensures) (answer_err level_limit statement_limit c.args.tokens.now c.in_default.ensures c.in-Err.refusal c.whole.new.cursor (rw c.new-cursor.ensures at c.in-Err.ensures))

@@ -5,8 +5,8 @@ use Rattle.og_parse.proofs.whole.parse_excess.Goals as goal
 
 pub returns-in-Ok : goal.returns-in-Ok
 unfolding level_limit
-returns-in-Ok c = λ tokens x. excess_ok level_limit statement_limit tokens c.args.front.now c.args.span x (tree_of c.in-Ok.raw) c.in-Ok.field-0-1.now c.in-Ok.ensures
+returns-in-Ok c = λ tokens x. excess_ok level_limit statement_limit tokens c.args.front.now c.args.span x (tree_of c.in-Ok.raw) c.whole.new.cursor (rw c.new-cursor.ensures at c.in-Ok.ensures)
 
 pub returns-in-Err : goal.returns-in-Err
 unfolding level_limit
-returns-in-Err c = λ tokens x. rw c.excess_error.ensures (excess_err level_limit statement_limit tokens c.args.front.now c.args.span x c.in-Err.refusal c.in-Err.ensures)
+returns-in-Err c = λ tokens x. rw (c.excess_error.ensures, c.rest.ensures) (excess_err level_limit statement_limit tokens c.args.front.now c.args.span x c.in-Err.refusal c.whole.new.cursor (rw c.new-cursor.ensures at c.in-Err.ensures))

@@ -1,5 +1,5 @@
 use Rattle.std.proofs.Common.{◌≡◌, sym, ap, ◌∙◌, subst}
-use Rattle.og_judge.specs.Sound.{IsSound}
+use Rattle.og_theorem.specs.Sound.{IsSound}
 use Rattle.og_board.specs.Standing.{Standing}
 use Rattle.og_board.specs.Turns.{IsTurn}
 use Rattle.og_board.specs.declared.turn.RunTurn.TheVariants as turn

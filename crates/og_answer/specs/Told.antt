@@ -1,0 +1,20 @@
+-- What a command answers to a refusal.
+use Rattle.std.specs.Prelude.{◌≡◌, ℕ, List}
+use Rattle.og_source.specs.Source.{IsSourceFault}
+use Rattle.og_source.specs.declared.fault.SourceFault.{SourceFault}
+use Rattle.og_answer.specs.declared.fault.InputFault.{InputFault}
+use Rattle.og_answer.specs.declared.fault.InputFault.TheVariants as faults
+use Rattle.og_answer.specs.declared.answer.Answer.{Answer}
+use Rattle.og_answer.specs.Line.{refused_line}
+
+-- the text is this one, and the status too
+abbrev pub Says : List ℕ → ℕ → Answer → Type 0
+Says text status answer = (answer.text.items ≡ text) × (answer.status ≡ status)
+
+-- the line of this fault, with status 2
+abbrev pub IsTold : List ℕ → InputFault → Answer → Type 0
+IsTold source why answer = Says (refused_line source why) 2 answer
+
+-- the source has no outline, and this is the line that says why
+abbrev pub IsUnread : List ℕ → Answer → Type 0
+IsUnread source answer = (fault : SourceFault) × IsSourceFault source fault × IsTold source (faults.Source fault) answer

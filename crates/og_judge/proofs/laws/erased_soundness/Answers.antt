@@ -1,5 +1,0 @@
-use Rattle.og_judge.proofs.Erased.{erased_sound}
-use Rattle.og_judge.proofs.laws.erased_soundness.Goals as goal
-
-pub returns : goal.returns
-returns c o rule valid = erased_sound o valid rule

@@ -1,9 +1,0 @@
-use Rattle.og_judge.proofs.Stuck.{never_stuck}
-use Rattle.og_judge.proofs.Erased.{erased_never_stuck}
-use Rattle.og_judge.proofs.laws.progress.Goals as goal
-
-pub returns-clause-outline : goal.returns-clause-outline
-returns-clause-outline c = never_stuck
-
-pub returns-clause-program : goal.returns-clause-program
-returns-clause-program c o rule valid blocking = erased_never_stuck o valid rule blocking

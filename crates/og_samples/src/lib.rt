@@ -1,0 +1,11 @@
+//! Sources that several crates of tests use, and their outlines. Nothing is promised of them.
+#![tactic(auto)]
+
+mod outlines;
+mod sources;
+
+pub use outlines::outline_of;
+pub use sources::{
+    AUXILIARY_LOOP, EACH_WAITS, EQUAL_ADD, NESTED, ONE_BELOW, ONE_SKIP, SKIP_AND_ASSIGN, TOLD_ADD,
+    TWO_ADD, UP_AND_DOWN, WITH_MAIN, alike, equal_processes,
+};

@@ -1,0 +1,2 @@
+pub mod OneOutline
+pub mod Resolving

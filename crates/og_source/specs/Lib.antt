@@ -1,0 +1,4 @@
+pub mod Source
+pub mod Faults
+pub mod Errors
+pub mod Shown
