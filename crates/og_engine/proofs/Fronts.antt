@@ -12,3 +12,7 @@ of_fronts P (Some x) (Some y) s c p q h = subst (λ (z : List ℕ). P (source_of
 pub of_front : (P : List ℕ → Type 0) (a : Option (List ℕ)) (s : List ℕ) → IfSome a (λ input. s ≡ joined_of input) → P s → IfSome a (λ input. P (joined_of input))
 of_front P None s p h = tt
 of_front P (Some x) s p h = subst (λ (z : List ℕ). P z) p h
+
+pub of_source_front : (P : List ℕ → Type 0) (a : Option (List ℕ)) (s : List ℕ) → IfSome a (λ input. s ≡ source_of input) → P s → IfSome a (λ input. P (source_of input))
+of_source_front P None s p h = tt
+of_source_front P (Some x) s p h = subst (λ (z : List ℕ). P z) p h

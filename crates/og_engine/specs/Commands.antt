@@ -1,5 +1,5 @@
 -- What is printed for the outline of a source, and the status.
-use Rattle.std.specs.Prelude.{◌≡◌, ◌<◌, ◌⊎◌, ℕ, List, length}
+use Rattle.std.specs.Prelude.{◌<◌, ◌⊎◌, ℕ, List, length}
 use Rattle.og_typed.specs.Syntax.{Program}
 use Rattle.og_typed.specs.Erase.{erased}
 use Rattle.og_erase.specs.Collected.{raw_of}

@@ -3,3 +3,4 @@ pub mod Commands
 pub mod Inputs
 pub mod Making
 pub mod Names
+pub mod Promised

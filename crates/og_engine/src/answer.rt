@@ -1,8 +1,12 @@
 //! The answer of a check.
 
-ghost use Rattle.std.specs.Prelude.{◌≡◌, ◌≤◌, ◌^◌, length, IfOk};
-ghost use Rattle.og_judge.specs.Shown.{entries_of};
+ghost use Rattle.std.specs.Prelude.{◌≡◌, ◌≤◌, ◌^◌, length, true, IfOk};
+ghost use Rattle.og_judge.specs.Entries.{is_unblocked};
+ghost use Rattle.og_judge.specs.Proven.{IsProvenSource, IsNeverStuckSource};
+ghost use Rattle.og_judge.specs.Shown.{outline_of, entries_of};
+ghost use Rattle.og_report.specs.Yes.{SaysUnblocked};
 ghost use Rattle.og_answer.specs.Told.{Says};
+ghost use Rattle.og_engine.specs.Promised.{Promises};
 ghost use Rattle.og_engine.specs.Answers.{report_in, status_of, IsChecked};
 
 use crate::engines::Options;
@@ -22,7 +26,8 @@ fn report(
     in_json: bool,
 ) -> Result<Vec<u8>, AllocError>
     requires { length source.now ≤ 2 ^ 20 }
-    ensures { IfOk result (λ t. t.items ≡ report_in in_json source.now (entries_of judgement.now)) }
+    ensures report { IfOk result (λ t. t.items ≡ report_in in_json source.now (entries_of judgement.now)) }
+    ensures unblocked { IfOk result (λ t. SaysUnblocked in_json t.items → is_unblocked (entries_of judgement.now) ≡ true) }
 {
     if !in_json {
         return text(alloc, judgement, source);
@@ -40,9 +45,12 @@ fn of_judgement(
     in_json: bool,
 ) -> Result<Answer, AllocError>
     requires { length source.now ≤ 2 ^ 20 }
-    ensures { IfOk result (Says (report_in in_json source.now (entries_of judgement.now)) (status_of (entries_of judgement.now))) }
+    ensures told { IfOk result (Says (report_in in_json source.now (entries_of judgement.now)) (status_of (entries_of judgement.now))) }
+    ensures promises { IfOk result (Promises in_json (outline_of judgement.now)) }
 {
     let text = report(alloc, judgement, source, in_json)?;
+    // Asked for its clause alone: what it says of the runs.
+    judgement.unblocked();
     let status = if judgement.safe() { 0 } else { 1 };
     Ok(Answer { text, status })
 }
@@ -55,7 +63,8 @@ fn of_judged(
     in_json: bool,
 ) -> Result<Answer, AllocError>
     requires { length source.now ≤ 2 ^ 20 }
-    ensures { IfOk result (Says (report_in in_json source.now (entries_of judgement)) (status_of (entries_of judgement))) }
+    ensures told { IfOk result (Says (report_in in_json source.now (entries_of judgement)) (status_of (entries_of judgement))) }
+    ensures promises { IfOk result (Promises in_json (outline_of judgement)) }
 {
     let answer = of_judgement(alloc, &judgement, source, in_json);
     drop(judgement);
@@ -63,7 +72,9 @@ fn of_judged(
 }
 
 /// The report of a source by certificates, or the line of a refusal. Status 0 where the outline is
-/// safe, 1 where it is not, 2 at a refusal.
+/// safe, 1 where it is not, 2 at a refusal. Status 0 says that every run of the outline is as
+/// promised, with its auxiliaries and without them; and a report that says then that it is unblocked,
+/// that none gets stuck.
 ///
 /// # Errors
 ///
@@ -76,7 +87,9 @@ pub fn checked<G: Gate, H: Threads + Wait + Sync>(
     options: Options,
     gate: &G,
 ) -> Result<Answer, PoolFault>
-    ensures { IfOk result (IsChecked options.json source.now certs.now) }
+    ensures answer { IfOk result (IsChecked options.json source.now certs.now) }
+    ensures sound { IfOk result (λ answer. answer.status ≡ 0 → IsProvenSource source.now) }
+    ensures unblocked { IfOk result (λ answer. answer.status ≡ 0 → SaysUnblocked options.json answer.text.items → IsNeverStuckSource source.now) }
 {
     let workers = options.workers.count();
     match judge(rt, alloc, source, certs, workers, gate) {

@@ -3,7 +3,10 @@
 ghost use Rattle.std.specs.Prelude.{◌≡◌, ◌≢◌, OnOk, IfOk, IfErr, IfSome};
 ghost use Rattle.std.specs.Io.KnownBytes.{Appends, Keeps};
 ghost use Rattle.og_engine.specs.Inputs.{source_of, certs_of, joined_of};
-ghost use Rattle.og_engine.specs.Answers.{Writes, WritesJoined};
+ghost use Rattle.og_engine.specs.Answers.{Writes, WritesJoined, HasProvenSource, HasNeverStuckSource};
+ghost use Rattle.og_engine.specs.Promised.{Wrote};
+ghost use Rattle.og_judge.specs.Proven.{IsProvenSource, IsNeverStuckSource};
+ghost use Rattle.og_report.specs.Yes.{SaysUnblocked};
 
 use crate::answer::checked;
 use crate::fault::{EngineFault, WriteFailed};
@@ -46,7 +49,8 @@ pub fn write_answer<W: Write>(out: &mut W, answer: &Answer) -> Result<u8, WriteF
 
 /// Reads a source and then certificates, each to its end or to one byte past its limit, judges, and
 /// writes the report, or the line of a refusal, and nothing else. The status is 0 where the outline
-/// is safe, 1 where it is not, 2 at a refusal. Each reader is read at most 100,000,000 times.
+/// is safe, 1 where it is not, 2 at a refusal. What status 0 says of the runs is as in `checked`. Each
+/// reader is read at most 100,000,000 times.
 ///
 /// # Errors
 ///
@@ -64,6 +68,9 @@ pub fn engine<R: Read, S: Read, W: Write, G: Gate, H: Threads + Wait + Sync>(
 ) -> Result<u8, EngineFault>
     ensures answer { IfOk result (λ status. IfSome (R.remaining source.old) (λ s. IfSome (S.remaining certs.old) (λ c.
         Writes options.json (source_of s) (certs_of c) (W.contents out.old) (W.contents out.new) status))) }
+    ensures sound { IfOk result (λ status. IfSome (R.remaining source.old) (λ s. status ≡ 0 → IsProvenSource (source_of s))) }
+    ensures unblocked { IfOk result (λ status. IfSome (R.remaining source.old) (λ s. status ≡ 0
+        → Wrote (SaysUnblocked options.json) (W.contents out.old) (W.contents out.new) → IsNeverStuckSource (source_of s))) }
     ensures unwritten { IfErr result (λ e. e ≢ EngineFault.WriteFailed → Keeps (W.contents out.old) (W.contents out.new)) }
 {
     let source = read_source(alloc, source)?;
@@ -90,6 +97,9 @@ pub fn engine_joined<R: Read, W: Write, G: Gate, H: Threads + Wait + Sync>(
 ) -> Result<u8, EngineFault>
     ensures answer { IfOk result (λ status. IfSome (R.remaining input.old) (λ i.
         WritesJoined options.json (joined_of i) (W.contents out.old) (W.contents out.new) status)) }
+    ensures sound { IfOk result (λ status. IfSome (R.remaining input.old) (λ i. status ≡ 0 → HasProvenSource (joined_of i))) }
+    ensures unblocked { IfOk result (λ status. IfSome (R.remaining input.old) (λ i. status ≡ 0
+        → Wrote (SaysUnblocked options.json) (W.contents out.old) (W.contents out.new) → HasNeverStuckSource (joined_of i))) }
     ensures unwritten { IfErr result (λ e. e ≢ EngineFault.WriteFailed → Keeps (W.contents out.old) (W.contents out.new)) }
 {
     let input = read_joined(alloc, input)?;

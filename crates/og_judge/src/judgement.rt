@@ -1,6 +1,8 @@
 //! An outline with what was found of it.
 
-ghost use Rattle.std.specs.Prelude.{◌≡◌, is_some, IfSome};
+ghost use Rattle.std.specs.Prelude.{◌≡◌, true, is_some, IfSome};
+ghost use Rattle.og_typed.specs.Erase.{erased};
+ghost use Rattle.og_theorem.specs.Sound.{IsSound, IsSoundErased, IsNeverStuck};
 ghost use Rattle.og_judge.specs.Entries.{is_safe, is_unblocked};
 
 use crate::entry::Entry;
@@ -42,18 +44,33 @@ impl Judgement {
         self.findings.entries()
     }
 
-    /// Whether every condition but the last is proved.
+    /// Whether every condition but the last is proved. Then every run of the outline is as promised,
+    /// with its auxiliaries and without them.
     pub fn safe(&self) -> bool
-        ensures { result ≡ is_safe (entries_of self.now) }
+        ensures value { result ≡ is_safe (entries_of self.now) }
+        ensures sound { result ≡ true → IsSound (outline_of self.now) }
+        ensures erased { result ≡ true → IsSoundErased (outline_of self.now) }
     {
-        self.findings.safe()
+        match self.proved() {
+            Some(proved) => {
+                proved.outline();
+                true
+            }
+            None => false,
+        }
     }
 
-    /// Whether the last condition is proved.
+    /// Whether the last condition is proved. Then no run of the outline gets stuck where it is safe
+    /// too, with its auxiliaries or without them.
     pub fn unblocked(&self) -> bool
-        ensures { result ≡ is_unblocked (entries_of self.now) }
+        ensures value { result ≡ is_unblocked (entries_of self.now) }
+        ensures outline { result ≡ true → is_safe (entries_of self.now) ≡ true → IsNeverStuck (outline_of self.now) }
+        ensures program { result ≡ true → is_safe (entries_of self.now) ≡ true → IsNeverStuck (erased (outline_of self.now)) }
     {
-        self.findings.unblocked()
+        match self.proved() {
+            Some(proved) => proved.unblocked(),
+            None => self.findings.unblocked(),
+        }
     }
 
     /// The outline as one that is proved, exactly where it is safe.

@@ -1,3 +1,4 @@
 pub mod Json
 pub mod Refusal
 pub mod Report
+pub mod Yes

@@ -1,13 +1,15 @@
 //! The report as JSON.
 
-ghost use Rattle.std.specs.Prelude.{◌≡◌, ◌≤◌, ◌^◌, [], length, map, codes, false, IfOk, OnOk};
+ghost use Rattle.std.specs.Prelude.{◌≡◌, ◌≤◌, ◌^◌, [], ◌∷◌, ◌++◌, length, map, codes, true, false, IfOk, OnOk};
 ghost use Rattle.serde_json.specs.Data.{object, member, no_members, string, boolean, array, put as with_member};
 ghost use Rattle.serde_json.specs.View.{view, items_view, members_view};
 ghost use Rattle.serde_json.specs.Written.{compact_text, has_float};
 ghost use Rattle.og_cond.specs.Names.{name_of_kind};
+ghost use Rattle.og_judge.specs.Entries.{is_unblocked};
 ghost use Rattle.og_judge.specs.Shown.{entries_of};
 ghost use Rattle.og_listing.specs.Places.{position_of};
 ghost use Rattle.og_report.specs.Json.{natural, status_word, entry_data, unproved_data, report_data, json_text};
+ghost use Rattle.og_report.specs.Yes.{SaysUnblocked};
 
 use crate::report::count_proved;
 use og_judge::{Entry, Judgement};
@@ -204,7 +206,8 @@ fn bytes_of(alloc: Global, value: &Value) -> Result<Vec<u8>, AllocError>
 /// An allocation was refused.
 pub fn json(alloc: Global, judgement: &Judgement, source: &[u8]) -> Result<Vec<u8>, AllocError>
     requires { length source.now ≤ 2 ^ 20 }
-    ensures { IfOk result (λ t. t.items ≡ json_text source.now (entries_of judgement.now)) }
+    ensures report { IfOk result (λ t. t.items ≡ json_text source.now (entries_of judgement.now)) }
+    ensures unblocked { IfOk result (λ t. SaysUnblocked true (t.items ++ 10 ∷ []) → is_unblocked (entries_of judgement.now) ≡ true) }
 {
     let places = Places::new(alloc, source)?;
     let value = judgement_value(alloc, judgement, &places)?;

@@ -1,9 +1,10 @@
 //! The report as text.
 
-ghost use Rattle.std.specs.Prelude.{◌≡◌, ◌++◌, ◌≤◌, ◌^◌, length, count_by, IfOk, OnOk};
-ghost use Rattle.og_judge.specs.Entries.{is_proved};
+ghost use Rattle.std.specs.Prelude.{◌≡◌, ◌++◌, ◌≤◌, ◌^◌, length, count_by, true, false, IfOk, OnOk};
+ghost use Rattle.og_judge.specs.Entries.{is_proved, is_unblocked};
 ghost use Rattle.og_judge.specs.Shown.{entries_of};
 ghost use Rattle.og_report.specs.Report.{status_text, rest_text, numbered_text, line_text, unproved_lines, count_text, answer_text, totals_text, report_text};
+ghost use Rattle.og_report.specs.Yes.{SaysUnblocked};
 
 use og_judge::{Entry, Judgement};
 use og_listing::{Places, put_action_place, put_number, put_position};
@@ -125,7 +126,8 @@ fn put_totals(text: &mut Vec<u8>, judgement: &Judgement) -> Result<(), AllocErro
 /// An allocation was refused.
 pub fn text(alloc: Global, judgement: &Judgement, source: &[u8]) -> Result<Vec<u8>, AllocError>
     requires { length source.now ≤ 2 ^ 20 }
-    ensures { IfOk result (λ t. t.items ≡ report_text source.now (entries_of judgement.now)) }
+    ensures report { IfOk result (λ t. t.items ≡ report_text source.now (entries_of judgement.now)) }
+    ensures unblocked { IfOk result (λ t. SaysUnblocked false t.items → is_unblocked (entries_of judgement.now) ≡ true) }
 {
     let places = Places::new(alloc, source)?;
     let mut text = Vec::new(alloc);

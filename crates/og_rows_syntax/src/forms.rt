@@ -27,12 +27,11 @@ fn form(alloc: Global, (x, y, constant): Sum) -> Result<Form, FormError> {
 }
 
 fn has_terms(form: &Form, terms: Terms<'_>) -> bool {
-    for (i, t) in terms.iter().enumerate() {
-        if form.term(i) != Some(*t) {
-            return false;
-        }
-    }
-    form.term(terms.len()).is_none()
+    terms
+        .iter()
+        .enumerate()
+        .all(|(i, t)| form.term(i) == Some(*t))
+        && form.term(terms.len()).is_none()
 }
 
 // The form is the sum of these terms and the constant.
