@@ -26,17 +26,14 @@ fn form(alloc: Global, (x, y, constant): Sum) -> Result<Form, FormError> {
     Ok(sum)
 }
 
-fn has_terms(form: &Form, terms: Terms<'_>) -> bool {
-    terms
-        .iter()
-        .enumerate()
-        .all(|(i, t)| form.term(i) == Some(*t))
-        && form.term(terms.len()).is_none()
-}
-
 // The form is the sum of these terms and the constant.
 fn expect_form(rt: &impl Abort, form: &Form, terms: Terms<'_>, constant: i128) {
-    assert!(rt; has_terms(form, terms), "the terms of {form:?}");
+    let has_each = terms
+        .iter()
+        .enumerate()
+        .all(|(i, t)| form.term(i) == Some(*t));
+    let has_more = form.term(terms.len()).is_some();
+    assert!(rt; has_each && !has_more, "the terms of {form:?}");
     assert!(rt; form.offset() == constant, "the constant of {form:?}");
 }
 

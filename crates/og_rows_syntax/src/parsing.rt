@@ -354,18 +354,10 @@ const SIGNS_LISTING: &[&str] = &[
     " }",
 ];
 
-fn joined(alloc: Global, parts: &[&str]) -> Result<String, AllocError> {
-    let mut out = String::new(alloc);
-    for part in parts {
-        out.push_str(part)?;
-    }
-    Ok(out)
-}
-
 #[test]
 fn keeps_signs_and_places(rt: HostRuntime) -> Result<(), Fail> {
     let got = listing(rt.alloc(), SIGNS)?;
-    let expected = joined(rt.alloc(), SIGNS_LISTING)?;
+    let expected = SIGNS_LISTING.concat(rt.alloc())?;
     assert!(rt; got == expected, "{got}");
     Ok(())
 }
