@@ -1,6 +1,6 @@
 -- What a command answers to a refusal.
 use Rattle.std.specs.Prelude.{◌≡◌, ℕ, List}
-use Rattle.og_source.specs.Source.{IsSourceFault}
+use Rattle.og_source.specs.Refused.{IsSourceFault}
 use Rattle.og_source.specs.declared.fault.SourceFault.{SourceFault}
 use Rattle.og_answer.specs.declared.fault.InputFault.{InputFault}
 use Rattle.og_answer.specs.declared.fault.InputFault.TheVariants as faults

@@ -3,7 +3,7 @@
 ghost use Rattle.std.specs.Prelude.{◌≡◌, ◌≤◌, ◌^◌, length, IfOk, IsSome};
 ghost use Rattle.og_answer.specs.Faults.{place_of_input};
 ghost use Rattle.og_answer.specs.Told.{IsTold, IsUnread};
-ghost use Rattle.og_source.specs.Source.{IsNotRead};
+ghost use Rattle.og_source.specs.Refused.{IsNotRead};
 
 use crate::fault::InputFault;
 use crate::line::refused_line;

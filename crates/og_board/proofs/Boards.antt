@@ -4,9 +4,11 @@ use Rattle.std.specs.Prelude.{slice_get, IfSome, IsTrue, ◌↔◌}
 use Rattle.std.proofs.lemmas.Bool.{both_ways}
 use Rattle.std.proofs.lemmas.Bool.Decides.{eqb_tells, nat_tests}
 use Rattle.std.proofs.Math.ListN.{length-replicate}
-use Rattle.og_typed.specs.Machine.{next, start_of, IsStart, IsStuck}
+use Rattle.og_typed.specs.Machine.{next, start_of, IsStart}
+use Rattle.og_typed.specs.Stuck.{IsStuck}
 use Rattle.og_step.specs.Progress.{Progress}
-use Rattle.og_board.specs.Runs.{Given, IsRun, process_count, moves_of}
+use Rattle.og_board.specs.Runs.{Given}
+use Rattle.og_board.specs.Histories.{IsRun, process_count, moves_of}
 use Rattle.og_board.specs.Turns.{HasLeft, HasRoom, IsTurn}
 use Rattle.og_board.specs.declared.turn.RunTurn.TheVariants.{Overflow, Moved}
 use Rattle.og_board.specs.Standing.{Standing, AreCounts, IsBoard, stand_after}

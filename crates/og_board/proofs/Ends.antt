@@ -3,19 +3,22 @@ use Rattle.std.proofs.Common.{◌≡◌, ℕ, ◌<◌, ◌≤◌, Bool, true, fa
 use Rattle.std.specs.Prelude.{IfSome}
 use Rattle.std.proofs.lemmas.Bool.{both_ways}
 use Rattle.std.proofs.lemmas.Option.{same_Some}
-use Rattle.og_typed.specs.Machine.{Moment, phase, is_empty, todo, is_turn, is_finished, active, overflows, IsReached, IsStart, IsStuck}
+use Rattle.og_typed.specs.Machine.{Moment, phase, is_empty, todo, is_finished, active, overflows, IsReached, IsStart}
+use Rattle.og_typed.specs.Turns.{is_turn}
+use Rattle.og_typed.specs.Stuck.{IsStuck}
 use Rattle.og_typed.proofs.Turns.{turn_active}
 use Rattle.og_theorem.specs.Sound.{IsSound}
 use Rattle.og_step.specs.Progress.{Progress}
-use Rattle.og_board.specs.Runs.{Given, IsRun, process_count, moment_after}
+use Rattle.og_board.specs.Runs.{Given, moment_after}
+use Rattle.og_board.specs.Histories.{IsRun, process_count}
 use Rattle.og_board.specs.Turns.{IsTurn, Answers, SomeOverflows, is_overflow}
 use Rattle.og_board.specs.declared.turn.RunTurn.{RunTurn}
 use Rattle.og_board.specs.declared.turn.RunTurn.TheVariants as turn
 use Rattle.og_board.specs.declared.outcome.Finish.{Finish}
 use Rattle.og_board.specs.declared.outcome.Outcome.{Outcome}
 use Rattle.og_board.specs.Standing.{Standing, IsBoard, halted_after}
-use Rattle.og_board.specs.Ends.{OverAt}
 use Rattle.og_board.specs.Ends.{IsFinish, IsOutcome}
+use Rattle.og_board.specs.Over.{OverAt}
 use Rattle.og_board.proofs.Histories.{shaped_after}
 use Rattle.og_board.proofs.Staying.{all_done}
 

@@ -6,7 +6,8 @@ use Rattle.std.specs.Prelude.{IfSome}
 use Rattle.og_typed.specs.Syntax.{Program}
 use Rattle.og_typed.specs.Machine.{Moment, next, run_on, start_of}
 use Rattle.og_typed.proofs.Turns.{IsShaped, shaped_start, shaped_next}
-use Rattle.og_board.specs.Runs.{Given, moves_of, moment_after}
+use Rattle.og_board.specs.Runs.{Given, moment_after}
+use Rattle.og_board.specs.Histories.{moves_of}
 
 pub moves_append : (p : ℕ) (xs ys : List ℕ) → moves_of p (xs ++ ys) ≡ moves_of p xs + moves_of p ys
 moves_append p [] ys = omega arith

@@ -4,10 +4,13 @@ use Rattle.std.proofs.lemmas.Bool.{both_ways, not-true, eqb-true, eq-eqb, and_fr
 use Rattle.std.proofs.lemmas.Bool.Decides.{nat_tests}
 use Rattle.std.proofs.lemmas.Option.{same_Some, none-some, slice_get_cases}
 use Rattle.og_typed.specs.Syntax.{Formula, Program, Rest, Statement, Skip, Assign, If, While, Await}
-use Rattle.og_typed.specs.Machine.{attempt, advance, advance_rest, Moment, Phase, Before, During, After, phase, with_rest, with_prologue, with_epilogue, rest_of, is_empty, all_empty, is_last, next, next_in, run_on, start_of, main_rest, todo, is_turn, active, is_finished, stmt_waits, rest_waits, waits, IsStuck}
+use Rattle.og_typed.specs.Machine.{attempt, advance, advance_rest, Moment, Phase, Before, During, After, phase, with_rest, with_prologue, with_epilogue, rest_of, is_empty, all_empty, is_last, next, next_in, run_on, start_of, main_rest, todo, active, is_finished}
+use Rattle.og_typed.specs.Turns.{is_turn}
+use Rattle.og_typed.specs.Stuck.{stmt_waits, rest_waits, waits, IsStuck}
 use Rattle.og_typed.proofs.Turns.{IsShaped, next_turn, next_early, turn_active}
 use Rattle.og_theorem.proofs.Sound.{all_empty_from}
-use Rattle.og_board.specs.Runs.{Given, process_count, moves_of, moment_after}
+use Rattle.og_board.specs.Runs.{Given, moment_after}
+use Rattle.og_board.specs.Histories.{process_count, moves_of}
 use Rattle.og_board.proofs.Lists.{slice_get_set_other}
 use Rattle.og_board.proofs.Histories.{run_append, run_none, shaped_after}
 

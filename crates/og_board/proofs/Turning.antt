@@ -3,12 +3,15 @@ use Rattle.std.proofs.Common.{◌≡◌, ℕ, ◌+◌, ◌<◌, ℤ, List, [], �
 use Rattle.std.proofs.lemmas.Bool.{both_ways, not-true, eqb-true}
 use Rattle.std.proofs.lemmas.Option.{slice_get_cases}
 use Rattle.og_typed.specs.Syntax.{Program, Rest, Statement, Skip, Assign, If, While, Await}
-use Rattle.og_typed.specs.Machine.{Moment, all_fit, rest_of, is_empty, is_last, main_rest, todo, is_early, stmt_waits, stmt_overflows, rest_waits, rest_overflows, waits, overflows}
+use Rattle.og_typed.specs.Machine.{Moment, all_fit, rest_of, is_empty, is_last, main_rest, todo, stmt_overflows, rest_overflows, overflows}
+use Rattle.og_typed.specs.Turns.{is_early}
+use Rattle.og_typed.specs.Stuck.{stmt_waits, rest_waits, waits}
 use Rattle.og_typed.proofs.Turns.{IsShaped}
 use Rattle.og_step.specs.Turns.{turn_of}
 use Rattle.og_step.specs.declared.turn.Turn.{Turn}
 use Rattle.og_step.specs.declared.turn.Turn.TheVariants as turn
-use Rattle.og_board.specs.Runs.{Given, process_count}
+use Rattle.og_board.specs.Runs.{Given}
+use Rattle.og_board.specs.Histories.{process_count}
 use Rattle.og_board.specs.Turns.{HasLeft, HasRoom, IsTurn, IsTurnAt, Answers}
 use Rattle.og_board.specs.declared.turn.RunTurn.{RunTurn}
 use Rattle.og_board.specs.declared.turn.RunTurn.TheVariants.{Overflow, Done, Early, Waits, Moved}

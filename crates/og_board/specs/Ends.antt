@@ -1,21 +1,11 @@
 -- How a run ends.
-use Rattle.std.specs.Prelude.{◌≡◌, ◌⊎◌, ℕ, ◌<◌, ◌≤◌, Bool, true, false, List, length, Some}
-use Rattle.og_typed.specs.Machine.{Moment, todo, is_empty, is_finished, IsStuck, IsStart, active, overflows}
+use Rattle.std.specs.Prelude.{◌≡◌, ℕ, ◌<◌, ◌≤◌, true, false, List, length, Some}
+use Rattle.og_typed.specs.Machine.{Moment, is_finished, IsStart, active, overflows}
+use Rattle.og_typed.specs.Stuck.{IsStuck}
 use Rattle.og_board.specs.Runs.{Given, moment_after}
 use Rattle.og_board.specs.declared.outcome.Finish.{Finish}
 use Rattle.og_board.specs.declared.outcome.Finish.TheVariants.{Finished, Stuck, Limit, Overflow}
 use Rattle.og_board.specs.declared.outcome.Outcome.{Outcome}
-
--- nothing more can happen to the process p: it has nothing left to do, or the program is stuck, or the history is as long as the limit, or a process has overflowed
-abbrev pub OverAt : Given → List ℕ → Bool → ℕ → Type 0
-OverAt g h halted p =
-    (m : Moment) × (moment_after g h ≡ Some m)
-    × ((is_empty (todo m p) ≡ true) ⊎ IsStuck g.outline m ⊎ (g.limit ≤ length h) ⊎ (halted ≡ true))
-
--- nothing can move any more: a process has overflowed, or the history is as long as the limit, or the program has finished or is stuck
-abbrev pub IsOver : Given → List ℕ → Bool → Type 0
-IsOver g h halted =
-    (halted ≡ true) ⊎ (g.limit ≤ length h) ⊎ ((m : Moment) × (moment_after g h ≡ Some m) × ((is_finished m ≡ true) ⊎ IsStuck g.outline m))
 
 -- the first of the four that is true of the last moment
 abbrev pub IsFinish : Given → List ℕ → Moment → Finish → Type 0

@@ -1,4 +1,6 @@
 pub mod Runs
+pub mod Histories
 pub mod Turns
 pub mod Standing
 pub mod Ends
+pub mod Over

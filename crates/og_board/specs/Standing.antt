@@ -3,9 +3,11 @@ use Rattle.std.specs.Prelude.{◌≡◌, ℕ, ◌≤◌, List, [], length, Optio
 use Rattle.std.specs.Coded.{Coded, code_by, coded×, coded_ℕ, coded_list, coded_option}
 use Rattle.og_typed.specs.Machine.{IsStart}
 use Rattle.og_step.specs.Progress.{Progress}
-use Rattle.og_step.specs.Starts.{start_fault, FailsAs}
+use Rattle.og_step.specs.Starts.{start_fault}
+use Rattle.og_step.specs.Answered.{FailsAs}
 use Rattle.og_step.specs.declared.fault.StartError.{StartError}
-use Rattle.og_board.specs.Runs.{Given, given_code, process_count, moves_of, moment_after}
+use Rattle.og_board.specs.Runs.{Given, moment_after}
+use Rattle.og_board.specs.Histories.{given_code, process_count, moves_of}
 use Rattle.og_board.specs.Turns.{IsTurn, after_turn}
 use Rattle.og_board.specs.declared.turn.RunTurn.{RunTurn}
 use Rattle.og_board.specs.declared.turn.RunTurn.TheVariants.{Overflow}

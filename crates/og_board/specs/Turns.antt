@@ -1,6 +1,8 @@
 -- What comes of an act of a process after a history.
 use Rattle.std.specs.Prelude.{◌≡◌, ℕ, ◌<◌, ◌≤◌, Bool, true, false, List, [], ◌∷◌, ◌++◌, length, Some}
-use Rattle.og_typed.specs.Machine.{Moment, todo, is_empty, is_early, waits, overflows, IsStuck}
+use Rattle.og_typed.specs.Machine.{Moment, todo, is_empty, overflows}
+use Rattle.og_typed.specs.Turns.{is_early}
+use Rattle.og_typed.specs.Stuck.{waits, IsStuck}
 use Rattle.og_board.specs.Runs.{Given, moment_after}
 use Rattle.og_board.specs.declared.turn.RunTurn.{RunTurn}
 use Rattle.og_board.specs.declared.turn.RunTurn.TheVariants.{Overflow, Done, Stuck, Limit, Early, Waits, Moved}

@@ -2,10 +2,11 @@
 
 ghost use Rattle.std.specs.Prelude.{◌≡◌, ℕ, ◌<◌, ◌≤◌, ◌+◌, ◌^◌, length, set, slice_get, is_some, IfOk, IfSome, [], None, Some, true, false};
 ghost use Rattle.og_typed.specs.Machine.{Moment as Instant};
-ghost use Rattle.og_board.specs.Runs.{IsRun, process_count, moves_of, moment_after};
+ghost use Rattle.og_board.specs.Runs.{moment_after};
+ghost use Rattle.og_board.specs.Histories.{IsRun, process_count, moves_of};
 ghost use Rattle.og_board.specs.Turns.{Answers, IsTurn};
 ghost use Rattle.og_board.specs.Standing.{Begins, AreCounts, stand_after};
-ghost use Rattle.og_board.specs.Ends.{OverAt};
+ghost use Rattle.og_board.specs.Over.{OverAt};
 ghost use Rattle.og_board.specs.Ends.{IsFinish, IsOutcome};
 
 use crate::machine::Machine;
@@ -218,7 +219,8 @@ impl<'a> Board<'a> {
     /// What the run came to. Nothing more can happen to any process.
     pub fn outcome(self, alloc: Global) -> Result<Outcome, AllocError>
         requires { (p : ℕ) → p < process_count self.given.outline → OverAt self.given self.history (is_some self.halted) p }
-        ensures { IfOk result (IsOutcome self.entry.given) }
+        ensures outcome { IfOk result (IsOutcome self.entry.given) }
+        ensures history { IfOk result (λ outcome. outcome.history.items ≡ self.entry.history) }
     {
         let finish = self.finish();
         let state = State::new(Vec::from_slice(alloc, self.moment.state().as_slice())?);

@@ -1,9 +1,9 @@
 //! What the threads act on.
 
 ghost use Rattle.std.specs.Prelude.{◌≡◌, ℕ, ◌<◌, Bool, true, List, length, IsTrue, ◌↔◌};
-ghost use Rattle.og_board.specs.Runs.{IsRun, moves_of, process_count};
+ghost use Rattle.og_board.specs.Histories.{IsRun, moves_of, process_count};
 ghost use Rattle.og_board.specs.Turns.{Answers, SomeOverflows, after_turn, is_overflow};
-ghost use Rattle.og_board.specs.Ends.{IsOver};
+ghost use Rattle.og_board.specs.Over.{IsOver};
 
 use crate::setting::Setting;
 use crate::turn::RunTurn;

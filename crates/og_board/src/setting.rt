@@ -15,7 +15,8 @@ pub struct Setting {
 }
 
 impl Model for Setting {
-    ghost use Rattle.og_board.specs.Runs.{Given, given_code};
+    ghost use Rattle.og_board.specs.Runs.{Given};
+    ghost use Rattle.og_board.specs.Histories.{given_code};
 
     ghost Value = { Given };
 

@@ -9,11 +9,13 @@ use Rattle.std.proofs.lemmas.Int.{ints}
 use Rattle.std.proofs.lemmas.Bool.{and_parts, and_from, or_cases, true≢false, cases_Bool}
 use borrow.Author.Differences.{up, down}
 use Rattle.og_linear.specs.Linear.{Terms, FormValue, form_value, val, val_terms, value_at, IsProper}
-use Rattle.og_linear.specs.Arith.{add_scaled, cut, fits_form}
+use Rattle.og_linear.specs.Bounded.{add_scaled, cut, fits_form}
 use Rattle.og_linear.proofs.Values.{val-add_scaled, val-scaled}
 use Rattle.og_linear.proofs.Cuts.{cut_said}
-use Rattle.og_cond.specs.Condition.{Condition, IsValid, goal_true}
-use Rattle.og_facts.specs.Facts.{Fact, Atom, Split, Parts, no_part, part, Facts, no_fact, fact, list_of_facts, list_of_parts, fact_true, some_part_true, facts_true, all_true_at, plus_one, negated, facts_of}
+use Rattle.og_cond.specs.Condition.{assignments, Condition}
+use Rattle.og_cond.specs.Valid.{IsValid, goal_true}
+use Rattle.og_facts.specs.Facts.{Fact, Atom, Split, Parts, no_part, part, Facts, no_fact, fact, list_of_facts, list_of_parts, plus_one, negated, facts_of}
+use Rattle.og_facts.specs.Truth.{fact_true, some_part_true, facts_true, all_true_at}
 use Rattle.og_facts.proofs.Refuted.{facts_said}
 use Rattle.og_facts.specs.Listed.{numbered}
 use Rattle.og_cert_text.specs.Tree.{Ref, Known, Low, High, Combination, Cert, Sum, Cut, Close, Branch, SplitOn, Certs, no_cert, cert}
@@ -206,8 +208,8 @@ module _ (n : ℕ) (s : List ℤ) (proper : IsProper s) where
 -- a condition whose facts a certificate closes is true
 pub closed_is_valid : (c : Condition) (n : ℕ) (fs : List Fact) (proof : Cert) → facts_of c ≡ Ok fs → closes n fs proof ≡ true → IsValid c
 closed_is_valid c n fs proof e closed s proper given =
-    go (goal_true s c.action c.goal) refl
+    go (goal_true s (assignments c.action) c.goal) refl
   where
-    go : (b : Bool) → goal_true s c.action c.goal ≡ b → goal_true s c.action c.goal ≡ true
+    go : (b : Bool) → goal_true s (assignments c.action) c.goal ≡ b → goal_true s (assignments c.action) c.goal ≡ true
     go true g = g
     go false g = absurd (closed_is_false n s proper proof fs closed (facts_said c fs s e ∙ and_from _ _ given (ap not g)))

@@ -4,7 +4,8 @@ use Rattle.std.specs.Prelude.{slice_get, nat_lt}
 use Rattle.std.specs.List.{list_all}
 use Rattle.std.proofs.lemmas.Option.{slice_get_within, get_or_from_slice_get, none-some}
 use Rattle.std.proofs.lemmas.Bool.Decides.{nat_tests}
-use Rattle.og_linear.specs.Linear.{Terms, IsTidy, IsTidyFrom}
+use Rattle.og_linear.specs.Linear.{Terms}
+use Rattle.og_linear.specs.Tidy.{IsTidy, IsTidyFrom}
 
 pub some_term : (ts : Terms) (t : ℕ × ℤ) → slice_get ts 0 ≡ Some t → list_all (λ t. false) ts ≡ false
 some_term [] t e = absurd (cc)

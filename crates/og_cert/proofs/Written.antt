@@ -2,7 +2,7 @@
 use Rattle.std.proofs.Common.{◌≡◌, length, refl, arith}
 use Rattle.std.proofs.lemmas.List.{length-append}
 use Rattle.og_cert_text.specs.Tree.{Cert, Sum, Cut, Close, Branch, SplitOn, Certs, no_cert, cert}
-use Rattle.og_cert_text.specs.Lines.{cert_lines, certs_lines}
+use Rattle.og_cert_text.specs.Shallow.{cert_lines, certs_lines}
 use Rattle.og_cert.specs.Faults.{lines, lines_of}
 
 mutual

@@ -2,7 +2,7 @@
 use Rattle.std.specs.Prelude.{ℕ, ◌+◌, pos, negsuc, List, [], ◌∷◌, length, Bool, false, ◌&&◌, if◌then◌else◌, nat_lt, nat_le, Result, Ok, Err, int_lt, ok_or}
 use Rattle.std.specs.List.{list_all}
 use Rattle.og_linear.specs.Linear.{FormValue, form_value}
-use Rattle.og_linear.specs.Arith.{add_scaled, fits_form, cut}
+use Rattle.og_linear.specs.Bounded.{add_scaled, fits_form, cut}
 use Rattle.og_facts.specs.Facts.{Fact, Atom, Split, list_of_parts, plus_one, negated, most_facts}
 use Rattle.og_facts.specs.Listed.{numbered}
 use Rattle.og_cert_text.specs.Tree.{Ref, Known, Low, High, Combination}

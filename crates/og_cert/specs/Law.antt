@@ -1,10 +1,12 @@
 -- What a certificate that closes facts shows.
 use Rattle.std.specs.Prelude.{◌≡◌, ℕ, ℤ, List, length, true, false, None, Ok, ◌↔◌}
 use Rattle.og_linear.specs.Linear.{IsProper}
-use Rattle.og_cond.specs.Condition.{Condition, IsValid}
-use Rattle.og_facts.specs.Facts.{Fact, all_true_at, facts_of}
+use Rattle.og_cond.specs.Condition.{Condition}
+use Rattle.og_cond.specs.Valid.{IsValid}
+use Rattle.og_facts.specs.Facts.{Fact, facts_of}
+use Rattle.og_facts.specs.Truth.{all_true_at}
 use Rattle.og_cert_text.specs.Tree.{Cert}
-use Rattle.og_cert_text.specs.Lines.{cert_lines}
+use Rattle.og_cert_text.specs.Shallow.{cert_lines}
 use Rattle.og_cert.specs.Closes.{closes}
 use Rattle.og_cert.specs.Faults.{lines, first_fault}
 

@@ -1,12 +1,13 @@
 //! Combinations of facts, and the other forms that a line of a certificate makes.
 
-ghost use Rattle.std.specs.Prelude.{◌≡◌, [], nat_lt};
+ghost use Rattle.std.specs.Prelude.{◌≡◌, ◌<◌, [], nat_lt, true, IsOk, IsErrOf};
 ghost use Rattle.std.specs.List.{list_all};
 ghost use Rattle.og_cert_text.specs.Tree.{Low, High};
 ghost use Rattle.og_cert_text.specs.Plain.{ref_of, combination_of};
 ghost use Rattle.og_cert.specs.Checks as check;
 ghost use Rattle.og_cert.specs.Held.{facts_held};
 ghost use Rattle.og_cert.specs.Answer.{IsChecked, or_kind};
+ghost use Rattle.og_cert.specs.declared.fault.CheckError.TheVariants.{Memory};
 
 use crate::fault::{CheckError, FaultKind};
 use crate::held::{Held, atom_at};
@@ -25,9 +26,10 @@ fn or_kind<T>(answer: Result<T, FormError>, kind: FaultKind) -> Result<T, CheckE
     }
 }
 
-// That the variable is no less than the least i64.
+// That the variable is no less than the least i64. Takes memory only where there is the variable.
 fn low_form(alloc: Global, variables: u32, var: u32) -> Result<Form, CheckError>
-    ensures { IsChecked (λ form. form) result (check.form_at variables [] (Low var)) }
+    ensures form { IsChecked (λ form. form) result (check.form_at variables [] (Low var)) }
+    ensures memory { IsErrOf result Memory → var < variables }
 {
     if var >= variables {
         return Err(CheckError::Fault(FaultKind::NoSuchFact));
@@ -38,9 +40,11 @@ fn low_form(alloc: Global, variables: u32, var: u32) -> Result<Form, CheckError>
     Ok(form)
 }
 
-// That the variable is no greater than the greatest i64.
+// That the variable is no greater than the greatest i64. Takes memory only where there is the
+// variable.
 fn high_form(alloc: Global, variables: u32, var: u32) -> Result<Form, CheckError>
-    ensures { IsChecked (λ form. form) result (check.form_at variables [] (High var)) }
+    ensures form { IsChecked (λ form. form) result (check.form_at variables [] (High var)) }
+    ensures memory { IsErrOf result Memory → var < variables }
 {
     if var >= variables {
         return Err(CheckError::Fault(FaultKind::NoSuchFact));
@@ -51,7 +55,7 @@ fn high_form(alloc: Global, variables: u32, var: u32) -> Result<Form, CheckError
     Ok(form)
 }
 
-// Adds a multiple of a fact or of a bound.
+// Adds a multiple of a fact or of a bound. Takes memory only where there is the fact or the bound.
 fn add_term(
     alloc: Global,
     variables: u32,
@@ -59,8 +63,9 @@ fn add_term(
     sum: &mut Form,
     term: Term,
 ) -> Result<(), CheckError>
-    ensures { IsChecked (λ _. sum.new) result
+    ensures added { IsChecked (λ _. sum.new) result
         (check.add_term variables (facts_held held.now) sum.old (term.times, ref_of term.source)) }
+    ensures memory { IsErrOf result Memory → IsOk (check.form_at variables (facts_held held.now) (ref_of term.source)) }
 {
     let times = i128::from(term.times);
     let added = match term.source {
@@ -116,9 +121,10 @@ pub(crate) fn check_closing(
     }
 }
 
-// The fact of this number, cut by the divisor.
+// The fact of this number, cut by the divisor. Takes memory only where there is the fact.
 pub(crate) fn cut_at(held: &[Held], number: u32, divisor: u64) -> Result<Form, CheckError>
-    ensures { IsChecked (λ form. form) result (check.cut_at (facts_held held.now) number divisor) }
+    ensures cut { IsChecked (λ form. form) result (check.cut_at (facts_held held.now) number divisor) }
+    ensures memory { IsErrOf result Memory → IsOk (check.atom_at (facts_held held.now) number) }
 {
     let form = atom_at(held, number)?;
     or_kind(form.cut(i128::from(divisor)), FaultKind::NotDivisible)
@@ -138,9 +144,11 @@ fn is_over(form: &Form, variables: u32) -> bool
     true
 }
 
-// The form that is at most 0 where this one is not.
+// The form that is at most 0 where this one is not. Takes memory only where each of its variables
+// is below this number.
 pub(crate) fn otherwise(alloc: Global, variables: u32, form: &Form) -> Result<Form, CheckError>
-    ensures { IsChecked (λ other. other) result (check.otherwise variables form.now) }
+    ensures other { IsChecked (λ other. other) result (check.otherwise variables form.now) }
+    ensures memory { IsErrOf result Memory → list_all (λ t. nat_lt t.0 variables) form.now.terms ≡ true }
 {
     if !is_over(form, variables) {
         return Err(CheckError::Fault(FaultKind::NoSuchFact));

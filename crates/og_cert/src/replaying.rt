@@ -1,11 +1,13 @@
 //! Replay: each line of a certificate is checked over the facts that are held there.
 
-ghost use Rattle.std.specs.Prelude.{◌≡◌, ◌+◌, ◌++◌, ◌∷◌, [], map, take, length, IfOk, IfErr, OnOk, Ok, Err, Result};
+ghost use Rattle.std.specs.Prelude.{◌≡◌, ◌+◌, ◌++◌, ◌∷◌, [], map, take, length, IfOk, IfErr, OnOk, OnErr, IsErrOf, Ok, Err, Result};
 ghost use Rattle.og_facts.specs.Facts.{Atom, facts_of};
 ghost use Rattle.og_facts.specs.Plain.{plain_fact};
 ghost use Rattle.og_cond.specs.Condition as plain;
+ghost use Rattle.og_cond.specs.Valid.{IsValid};
 ghost use Rattle.og_cert_text.specs.Plain.{plain_cert, plain_finish};
 ghost use Rattle.og_cert.specs.declared.fault.ReplayError.TheVariants as errors;
+ghost use Rattle.og_cert.specs.declared.fault.CheckError.TheVariants.{Memory};
 ghost use Rattle.og_cert.specs.Checks as check;
 ghost use Rattle.og_cert.specs.Steps.{stepped, opened, split_for, certs_of};
 ghost use Rattle.og_cert.specs.Held.{facts_held};
@@ -22,7 +24,8 @@ use std::alloc::Global;
 // The number of the line after this one.
 fn line_after(line: u64) -> Result<u64, ReplayError>
     ensures next { IfOk result (λ next. next ≡ line + 1) }
-    ensures last { IfErr result (λ e. e ≡ errors.Memory) }
+    ensures memory { IfErr result (λ e. e ≡ errors.Memory) }
+    ensures last { OnErr result (line ≡ u64.MAX) }
 {
     line.checked_add(1).ok_or(ReplayError::Memory)
 }
@@ -95,6 +98,7 @@ fn open_split<'a>(
 ) -> Result<&'a [Vec<Fact>], CheckError>
     ensures opened { IsChecked (λ parts. map (λ p. map plain_fact p.items) parts.now) result
         (split_for (facts_held held.now) number certs) }
+    ensures memory { IsErrOf result Memory → ⊥ }
     ensures count { IfOk result (λ parts. length parts.now ≡ certs) }
 {
     let parts = parts_at(held, number)?;
@@ -211,7 +215,8 @@ fn replay_parts<'a>(
 }
 
 fn room_for(held: &[Held], more: usize) -> Result<(), CheckError>
-    ensures { IsChecked (λ done. done) result (check.room (facts_held held.now) more) }
+    ensures room { IsChecked (λ done. done) result (check.room (facts_held held.now) more) }
+    ensures memory { IsErrOf result Memory → ⊥ }
 {
     check_room(held, more)?;
     Ok(())
@@ -230,7 +235,7 @@ fn room_for(held: &[Held], more: usize) -> Result<(), CheckError>
 /// refused.
 pub fn replay(alloc: Global, facts: &FactList, cert: &Cert) -> Result<(), ReplayError>
     ensures answer { IsReplay facts.now.variables facts.now.facts (plain_cert cert.now) result }
-    ensures sound { OnOk result ((c : plain.Condition) → facts_of c ≡ Ok facts.now.facts → plain.IsValid c) }
+    ensures sound { OnOk result ((c : plain.Condition) → facts_of c ≡ Ok facts.now.facts → IsValid c) }
 {
     let mut held = Vec::new(alloc);
     hold_all(&mut held, facts.as_slice())?;

@@ -5,9 +5,12 @@ use Rattle.std.proofs.lemmas.Bool.Decides.{nat_tests}
 use Rattle.std.specs.List.{list_all}
 use Rattle.std.proofs.lemmas.Bool.{cond-true}
 use Rattle.og_cert_text.specs.Tree.{Cert, Sum, Cut, Close, Branch, SplitOn, Certs, no_cert, cert, cert_list}
-use Rattle.og_cert_text.specs.Lines.{Line, cert_count, cert_lines, certs_lines, is_shallow, are_shallow, most_depth, is_number, is_well_formed, is_line}
-use Rattle.og_cert_text.specs.Files.{Entries, certificate_of, with_entry, is_file, rise_from}
-use Rattle.og_cert_text.specs.Text.{Version, Whole, listing_lines}
+use Rattle.og_cert_text.specs.Lines.{Line, cert_count, most_depth, is_number, is_line}
+use Rattle.og_cert_text.specs.Shallow.{cert_lines, certs_lines, is_shallow, are_shallow, is_well_formed}
+use Rattle.og_cert_text.specs.Files.{Entries, certificate_of, with_entry}
+use Rattle.og_cert_text.specs.Rising.{is_file, rise_from}
+use Rattle.og_cert_text.specs.Text.{Version}
+use Rattle.og_cert_text.specs.Listing.{Whole, listing_lines}
 use Rattle.og_cert_text.proofs.Forms.{and_parts, le_from}
 use Rattle.og_cert_read.specs.Reading.{Frame, AfterSum, AfterCut, First, Second, Part, Reading, between, within, plug, depth, LineFault, Twice, TooDeep, deeper, split_frames, goes, read_lines, nothing_read}
 use Rattle.og_cert_read.proofs.Numbers.{apart}

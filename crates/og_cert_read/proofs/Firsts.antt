@@ -11,7 +11,7 @@ use Rattle.std.proofs.lemmas.Map.Text.{is_eq-slice_cmp}
 use Rattle.og_cert_text.specs.Tree.{Cert}
 use Rattle.og_cert_text.specs.Lines.{ForCondition, line_text}
 use Rattle.og_cert_text.specs.Files.{Entries}
-use Rattle.og_cert_text.specs.Text.{listed_lines, lines_text}
+use Rattle.og_cert_text.specs.Listing.{listed_lines, lines_text}
 use Rattle.og_cert_read.specs.Shared.{cert_text, first_with, listed_as, listed_text}
 use Rattle.og_cert_read.specs.Firsts.{found, or_this}
 

@@ -1,6 +1,6 @@
 -- A text and its version.
 use Rattle.std.proofs.Common.{◌≡◌, ℕ, ◌+◌, ◌<◌, ◌≤◌, List, [], ◌∷◌, ◌++◌, map, length, refl, ap, sym, ◌∙◌, subst, true, cond, Option, Some, None, option_map, Result, Ok, Err, arith, length-append}
-use Rattle.std.specs.Prelude.{◌==◌}
+use Rattle.std.specs.Prelude.{◌==◌, IsErrOf}
 use denote.Bor.{Bor}
 use Rattle.og_cert_text.specs.declared.file.CertFile.{CertFile}
 use Rattle.og_cert_text.specs.declared.fault.CertTextError.{CertTextError}
@@ -11,7 +11,8 @@ use Rattle.og_cert_text.specs.Text.{Version, One, Two, version_text}
 use Rattle.og_cert_read.specs.Text.{most_text, pieces, Says, EachSays}
 use Rattle.og_cert_read.specs.Words.{after, line_of}
 use Rattle.og_cert_read.specs.Reading.{LineFault, BadLine, Twice, TooDeep, read_lines, nothing_read}
-use Rattle.og_cert_read.specs.Read.{Gives, IsWrong, IsRead}
+use Rattle.og_cert_read.specs.Read.{Gives, IsWrong}
+use Rattle.og_cert_read.specs.Answered.{IsRead}
 use Rattle.og_cert_read.specs.Reader.{read_piece, lines_of, fault_at, IsFile}
 use Rattle.og_cert_read.proofs.LineSays.{says, after_sound}
 use Rattle.og_cert_read.proofs.Split.{same}
@@ -55,10 +56,10 @@ wrong text BadLine at h = h
 wrong text Twice at h = h
 wrong text TooDeep at h = h
 
-pub file_read : (v : Version) (text rest : List ℕ) (r : Result CertFile CertTextError) → length text ≤ 67108864 → text ≡ version_text v ++ rest → IsFile r (read_lines v 2 nothing_read (lines_of rest)) → IsRead text r
-file_read v text rest (Ok file) few e h = gives v text rest (Ok (shown file)) few e h
-file_read v text rest (Err errors.Memory) few e h = tt
-file_read v text rest (Err (errors.Fault f)) few e h =
+pub file_read : (v : Version) (text rest : List ℕ) (r : Result CertFile CertTextError) → length text ≤ 67108864 → text ≡ version_text v ++ rest → IsFile r (read_lines v 2 nothing_read (lines_of rest)) → (IsErrOf r errors.Memory → 0 < length rest) → IsRead text r
+file_read v text rest (Ok file) few e h some = gives v text rest (Ok (shown file)) few e h
+file_read v text rest (Err errors.Memory) few e h some = (not_long (length text) few, v, rest, e, some refl)
+file_read v text rest (Err (errors.Fault f)) few e h some =
     subst (λ x. IsWrong text x) (sym h.3) (wrong text h.0 h.1 (gives v text rest (Err (h.0, h.1)) few e h.2))
 
 same_byte : (p : ℕ) → (p == p) ≡ true

@@ -5,7 +5,7 @@ use Rattle.std.specs.Fmt.{decimal, signed_decimal}
 use Rattle.std.specs.List.{list_all}
 use Rattle.std.specs.Ordering.{int_eq}
 use Rattle.og_linear.specs.Linear.{Terms, FormValue, form_value}
-use Rattle.og_linear.specs.Arith.{fits_i128, fits_terms, fits_form}
+use Rattle.og_linear.specs.Bounded.{fits_i128, fits_terms, fits_form}
 use Rattle.og_cert_text.specs.Lines.{Line, ForCondition, SameLine, SumLine, CutLine, BranchLine, SplitLine, CloseLine, part_text, parts_text, line_text, is_number, is_variable, is_factor, rises_from, is_form, is_line}
 use Rattle.og_cert_text.proofs.Forms.{both_true, and_parts}
 use Rattle.og_cert_read.specs.Text.{BytesSay}

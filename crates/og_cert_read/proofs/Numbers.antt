@@ -4,7 +4,7 @@ use Rattle.std.specs.Prelude.{nat_le, nat_lt, ◌==◌, ⊤}
 use Rattle.std.specs.Fmt.{decimal, signed_decimal}
 use Rattle.std.proofs.lemmas.Bool.Decides.{nat_tests}
 use Rattle.std.proofs.lemmas.Fmt.{decimal_digit, decimal_step_wide, decimal_by_steps_wide}
-use Rattle.og_linear.specs.Arith.{fits_i128}
+use Rattle.og_linear.specs.Bounded.{fits_i128}
 use Rattle.og_cert_text.specs.Lines.{is_number, is_variable, is_factor}
 use Rattle.og_cert_text.proofs.Forms.{le_true, le_from, lt_true, both_true, and_parts}
 use Rattle.og_cert_read.specs.Words.{and_then, is_digit, next_of, read_from, number_of, positive, index_of, variable_of, factor_of, negative, whole_of}

@@ -11,7 +11,8 @@ use Rattle.og_cert_text.specs.declared.cert.Finish as finish_type
 use Rattle.og_linear.specs.Linear.{FormValue}
 use Rattle.og_cert_text.specs.Tree as tree
 use Rattle.og_cert_text.specs.Plain.{combination_of, with_steps, plain_cert, plain_finish, step_line}
-use Rattle.og_cert_text.specs.Lines.{is_number, is_form, is_line, are_shallow, cert_lines, certs_lines}
+use Rattle.og_cert_text.specs.Lines.{is_number, is_form, is_line}
+use Rattle.og_cert_text.specs.Shallow.{are_shallow, cert_lines, certs_lines}
 use Rattle.og_cert_text.specs.Files.{Entries}
 use Rattle.og_cert_text.proofs.Forms.{lt_true, le_true, both_true}
 use Rattle.og_cert_text.proofs.Plains.{plain_split, steps_shallow, steps_good, count_list}

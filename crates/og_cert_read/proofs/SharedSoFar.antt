@@ -7,8 +7,10 @@ use Rattle.std.specs.Ordering.{nat_cmp}
 use Rattle.std.specs.Cmp.Lexicographic.{slice_cmp}
 use Rattle.og_cert_text.specs.Tree.{Cert}
 use Rattle.og_cert_text.specs.Lines.{ForCondition}
-use Rattle.og_cert_text.specs.Files.{Entries, above}
-use Rattle.og_cert_text.specs.Text.{Two, version_text, listed_lines, listing_lines, lines_text}
+use Rattle.og_cert_text.specs.Files.{Entries}
+use Rattle.og_cert_text.specs.Rising.{above}
+use Rattle.og_cert_text.specs.Text.{Two, version_text}
+use Rattle.og_cert_text.specs.Listing.{listed_lines, listing_lines, lines_text}
 use Rattle.og_cert_text.proofs.Writing.{lines_both, one_more}
 use Rattle.og_cert_read.specs.Shared.{cert_text, first_with, listed_as, listing_after, shared_text}
 use Rattle.og_cert_read.specs.Firsts.{found, or_this}

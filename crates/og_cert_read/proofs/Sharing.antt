@@ -7,9 +7,12 @@ use Rattle.std.specs.List.{list_all}
 use Rattle.std.proofs.lemmas.Bool.Decides.{nat_tests}
 use Rattle.std.proofs.lemmas.List.Folds.{list_all-append}
 use Rattle.og_cert_text.specs.Tree.{Cert, Close}
-use Rattle.og_cert_text.specs.Lines.{Line, ForCondition, is_line, is_number, is_shallow, is_well_formed, cert_lines}
-use Rattle.og_cert_text.specs.Files.{Entries, certificate_of, with_entry, is_file, rise_from}
-use Rattle.og_cert_text.specs.Text.{One, Two, version_text, Whole, SameAs, listed_lines, listing_lines, lines_text, file_text}
+use Rattle.og_cert_text.specs.Lines.{Line, ForCondition, is_line, is_number}
+use Rattle.og_cert_text.specs.Shallow.{is_shallow, is_well_formed, cert_lines}
+use Rattle.og_cert_text.specs.Files.{Entries, certificate_of, with_entry}
+use Rattle.og_cert_text.specs.Rising.{is_file, rise_from}
+use Rattle.og_cert_text.specs.Text.{One, Two, version_text}
+use Rattle.og_cert_text.specs.Listing.{Whole, SameAs, listed_lines, listing_lines, lines_text, file_text}
 use Rattle.og_cert_text.proofs.Forms.{and_parts, le_from, le_true, both_true}
 use Rattle.og_cert_text.proofs.Writing.{lines_both}
 use Rattle.og_cert_read.specs.Text.{most_text, pieces}

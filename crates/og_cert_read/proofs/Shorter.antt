@@ -9,8 +9,9 @@ use Rattle.std.proofs.Math.Nat.{pow-suc}
 use Rattle.std.proofs.lemmas.Fmt.{decimal_by_steps_wide, length-decimal-le_wide, decimal_nonempty}
 use Rattle.og_cert_text.specs.Tree.{Cert}
 use Rattle.og_cert_text.specs.Lines.{ForCondition}
-use Rattle.og_cert_text.specs.Files.{Entries, certificate_of, with_entry, rise_from}
-use Rattle.og_cert_text.specs.Text.{Whole, SameAs, listed_lines, lines_text}
+use Rattle.og_cert_text.specs.Files.{Entries, certificate_of, with_entry}
+use Rattle.og_cert_text.specs.Rising.{rise_from}
+use Rattle.og_cert_text.specs.Listing.{Whole, SameAs, listed_lines, lines_text}
 use Rattle.og_cert_text.proofs.Forms.{and_parts, le_from, le_true, both_true}
 use Rattle.og_cert_read.specs.Shared.{listed_text, cert_text, first_with, listed_as}
 use Rattle.og_cert_read.specs.Firsts.{or_this}

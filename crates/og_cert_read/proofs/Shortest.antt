@@ -4,9 +4,12 @@ use Rattle.std.specs.Prelude.{nat_lt, nat_le, is_some, ◌==◌, ⊤}
 use Rattle.std.specs.Str.{bytes_eq}
 use Rattle.std.specs.Cmp.Lexicographic.{bytes_decides}
 use Rattle.og_cert_text.specs.Tree.{Cert, Sum, Cut, Close, Branch, SplitOn, cert_list}
-use Rattle.og_cert_text.specs.Lines.{Line, ForCondition, SameLine, SumLine, CutLine, BranchLine, SplitLine, CloseLine, line_text, is_line, cert_lines, certs_lines, cert_count, most_depth}
-use Rattle.og_cert_text.specs.Files.{Entries, certificate_of, with_entry, rise_from}
-use Rattle.og_cert_text.specs.Text.{Version, One, Two, version_text, lines_text}
+use Rattle.og_cert_text.specs.Lines.{Line, ForCondition, SameLine, SumLine, CutLine, BranchLine, SplitLine, CloseLine, line_text, is_line, cert_count, most_depth}
+use Rattle.og_cert_text.specs.Shallow.{cert_lines, certs_lines}
+use Rattle.og_cert_text.specs.Files.{Entries, certificate_of, with_entry}
+use Rattle.og_cert_text.specs.Rising.{rise_from}
+use Rattle.og_cert_text.specs.Text.{Version, One, Two, version_text}
+use Rattle.og_cert_text.specs.Listing.{lines_text}
 use Rattle.og_cert_text.proofs.Forms.{and_parts, le_from, le_true, both_true}
 use Rattle.og_cert_text.proofs.Writing.{lines_both}
 use Rattle.og_cert_text.proofs.Plains.{count_list}

@@ -6,9 +6,12 @@ use Rattle.std.specs.List.{list_all}
 use Rattle.std.proofs.lemmas.List.Folds.{list_all-append}
 use Rattle.og_linear.specs.Linear.{Terms}
 use Rattle.og_cert_text.specs.Tree.{Ref, Known, Low, High, Combination}
-use Rattle.og_cert_text.specs.Lines.{Line, ForCondition, SameLine, SumLine, CutLine, BranchLine, SplitLine, CloseLine, ref_text, term_text, part_text, combination_text, parts_text, line_text, is_number, is_factor, is_ref, is_some_terms, is_line, is_well_formed, is_shallow, cert_lines}
-use Rattle.og_cert_text.specs.Files.{Entries, is_file, rise_from}
-use Rattle.og_cert_text.specs.Text.{Version, One, Two, version_text, lines_text, file_text}
+use Rattle.og_cert_text.specs.Lines.{Line, ForCondition, SameLine, SumLine, CutLine, BranchLine, SplitLine, CloseLine, ref_text, term_text, part_text, combination_text, parts_text, line_text, is_number, is_factor, is_ref, is_some_terms, is_line}
+use Rattle.og_cert_text.specs.Shallow.{is_well_formed, is_shallow, cert_lines}
+use Rattle.og_cert_text.specs.Files.{Entries}
+use Rattle.og_cert_text.specs.Rising.{is_file, rise_from}
+use Rattle.og_cert_text.specs.Text.{Version, One, Two, version_text}
+use Rattle.og_cert_text.specs.Listing.{lines_text, file_text}
 use Rattle.og_cert_text.proofs.Forms.{and_parts, le_from, both_true}
 use Rattle.og_cert_read.specs.Text.{most_text, pieces, with_byte, Says, EachSays}
 use Rattle.og_cert_read.specs.Words.{line_of}

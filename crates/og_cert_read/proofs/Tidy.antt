@@ -1,9 +1,10 @@
 -- Variables that rise, with coefficients that are not 0, as a form has them.
-use Rattle.std.proofs.Common.{◌≡◌, ◌≢◌, ℕ, ◌+◌, ◌≤◌, ℤ, pos, [], ◌∷◌, true, false, Bool, ◌&&◌, arith}
+use Rattle.std.proofs.Common.{◌≡◌, ◌≢◌, ℕ, ◌+◌, ℤ, pos, [], ◌∷◌, true, false, Bool, ◌&&◌, arith}
 use Rattle.std.specs.Prelude.{nat_le, not}
 use Rattle.std.specs.Ordering.{int_eq}
 use Rattle.std.proofs.lemmas.Bool.Decides.{Decides-int_eq}
-use Rattle.og_linear.specs.Linear.{Terms, IsTidyFrom}
+use Rattle.og_linear.specs.Linear.{Terms}
+use Rattle.og_linear.specs.Tidy.{IsTidyFrom}
 use Rattle.og_cert_text.specs.Lines.{rises_from}
 use Rattle.og_cert_text.proofs.Forms.{le_from, and_parts}
 

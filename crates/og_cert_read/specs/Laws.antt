@@ -4,13 +4,15 @@ use Rattle.og_cert_text.specs.declared.file.CertFile.{CertFile}
 use Rattle.og_cert_text.specs.declared.fault.CertTextError.{CertTextError}
 use Rattle.og_cert_text.specs.declared.fault.CertTextError.TheVariants as errors
 use Rattle.og_cert_text.specs.Tree.{Cert}
-use Rattle.og_cert_text.specs.Lines.{is_well_formed}
-use Rattle.og_cert_text.specs.Files.{Entries, is_file}
+use Rattle.og_cert_text.specs.Shallow.{is_well_formed}
+use Rattle.og_cert_text.specs.Files.{Entries}
+use Rattle.og_cert_text.specs.Rising.{is_file}
 use Rattle.og_cert_text.specs.Shown.{shown}
-use Rattle.og_cert_text.specs.Text.{file_text}
+use Rattle.og_cert_text.specs.Listing.{file_text}
 use Rattle.og_cert_read.specs.Text.{most_text}
 use Rattle.og_cert_read.specs.Reading.{LineFault}
-use Rattle.og_cert_read.specs.Read.{Gives, IsRead}
+use Rattle.og_cert_read.specs.Read.{Gives}
+use Rattle.og_cert_read.specs.Answered.{IsRead}
 use Rattle.og_cert_read.specs.Shared.{cert_text, shared_text}
 
 -- the text of a file, within the limit, gives the file

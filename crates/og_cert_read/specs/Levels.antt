@@ -6,7 +6,8 @@ use Rattle.og_cert_text.specs.declared.cert.CertStep.TheVariants as step_type
 use Rattle.og_cert_text.specs.declared.cert.Cert.{Cert}
 use Rattle.og_cert_text.specs.Tree as tree
 use Rattle.og_cert_text.specs.Plain.{combination_of, plain_cert}
-use Rattle.og_cert_text.specs.Lines.{is_number, is_factor, is_combination, is_form, is_line, is_shallow, cert_lines}
+use Rattle.og_cert_text.specs.Lines.{is_number, is_factor, is_combination, is_form, is_line}
+use Rattle.og_cert_text.specs.Shallow.{is_shallow, cert_lines}
 use Rattle.og_cert_text.specs.Files.{Entries}
 use Rattle.og_cert_read.specs.declared.levels.Fork.{Fork}
 use Rattle.og_cert_read.specs.declared.levels.Fork.TheVariants as its

@@ -2,6 +2,7 @@ pub mod Firsts
 pub mod Laws
 pub mod Levels
 pub mod Read
+pub mod Answered
 pub mod Reader
 pub mod Reading
 pub mod Said

@@ -1,5 +1,5 @@
 -- What is read so far, as the program has it: the words of the contracts of private functions.
-use Rattle.std.specs.Prelude.{◌≡◌, ℕ, ◌+◌, ◌<◌, List, [], map, length, true, ⊤, Option, Some, None, Result, Ok, Err}
+use Rattle.std.specs.Prelude.{◌≡◌, ℕ, ◌+◌, ◌<◌, List, [], map, length, true, ⊤, Option, Some, None, Result, Ok, Err, IsOk}
 use Rattle.og_cert_text.specs.declared.file.CertFile.{CertFile}
 use Rattle.og_cert_text.specs.declared.fault.CertTextFault.{CertTextFault}
 use Rattle.og_cert_text.specs.declared.fault.CertTextFault.TheVariants as faults
@@ -67,9 +67,9 @@ fault_at TooDeep at = faults.TooDeep at
 abbrev pub refused : LineFault → ℕ → CertTextError
 refused e at = errors.Fault (fault_at e at)
 
--- this fault of the line, or memory ran out
+-- this fault of the line; or memory ran out at a line without a fault
 abbrev pub IsRefusal : CertTextError → ℕ → Result Reading LineFault → Type 0
-IsRefusal errors.Memory at answer = ⊤
+IsRefusal errors.Memory at answer = IsOk answer
 IsRefusal (errors.Fault f) at answer = (e : LineFault) × (answer ≡ Err e) × (f ≡ fault_at e at)
 
 -- the line gives this reading, or is refused

@@ -3,7 +3,8 @@ use Rattle.std.specs.Prelude.{ℕ, List, [], ◌∷◌, ◌++◌, length, if◌t
 use Rattle.std.specs.Str.{bytes_eq}
 use Rattle.og_cert_text.specs.Tree.{Cert}
 use Rattle.og_cert_text.specs.Files.{Entries}
-use Rattle.og_cert_text.specs.Text.{Two, Listed, Whole, SameAs, Listing, listed_lines, lines_text, listing_text}
+use Rattle.og_cert_text.specs.Text.{Two}
+use Rattle.og_cert_text.specs.Listing.{Listed, Whole, SameAs, Listing, listed_lines, lines_text, listing_text}
 
 abbrev pub listed_text : Listed → List ℕ
 listed_text l = lines_text (listed_lines l)

@@ -1,6 +1,6 @@
 //! The certificates that are open round the line that is read.
 
-ghost use Rattle.std.specs.Prelude.{IfOk};
+ghost use Rattle.std.specs.Prelude.{◌<◌, length, IfOk, OnErr};
 ghost use Rattle.og_cert_read.specs.Levels.{IsPut, IsSettled};
 
 use og_cert_text::{Cert, CertStep, Finish};
@@ -65,13 +65,15 @@ fn put_into(alloc: Global, level: Level, cert: Cert) -> Result<Put, AllocError>
 }
 
 /// Puts a complete certificate into the levels round it, the innermost last, and each certificate
-/// that is complete by that too. Gives the outermost certificate, if that is complete.
+/// that is complete by that too. Gives the outermost certificate, if that is complete. Takes no
+/// memory where there are no levels.
 pub(crate) fn settle(
     alloc: Global,
     levels: &mut Vec<Level>,
     cert: Cert,
 ) -> Result<Option<Cert>, AllocError>
-    ensures { IfOk result (λ r. IsSettled levels.old.items cert levels.new.items r) }
+    ensures settled { IfOk result (λ r. IsSettled levels.old.items cert levels.new.items r) }
+    ensures memory { OnErr result (0 < length levels.old.items) }
 {
     let mut cert = cert;
     while let Some(level) = levels.pop() {

@@ -1,6 +1,6 @@
 //! One line of a certificate text.
 
-ghost use Rattle.std.specs.Prelude.{◌≡◌, IfOk, Some, option_map, length};
+ghost use Rattle.std.specs.Prelude.{◌≡◌, ◌+◌, ◌≤◌, IfOk, Some, option_map, length};
 ghost use Rattle.og_cert_text.specs.Plain.{combination_of};
 ghost use Rattle.og_cert_read.specs.Words as words;
 ghost use Rattle.og_cert_read.specs.Said.{said_line};
@@ -25,7 +25,9 @@ pub(crate) enum Line {
 
 // At least as many as there are words, if each has three bytes or more, as a term has. A line of
 // spaces gets no more room than its length warrants.
-fn most_words(text: &[u8]) -> usize {
+fn most_words(text: &[u8]) -> usize
+    ensures { result ≤ length text.now + 1 }
+{
     let mut words: usize = 1;
     for b in text {
         if *b == b' ' && words <= text.len() / 4 {

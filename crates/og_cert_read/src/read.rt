@@ -1,9 +1,10 @@
 //! Reading a whole text.
 
-ghost use Rattle.std.specs.Prelude.{◌≤◌, length};
+ghost use Rattle.std.specs.Prelude.{◌≤◌, ◌<◌, length, IsErrOf};
+ghost use Rattle.og_cert_text.specs.declared.fault.CertTextError.TheVariants.{Memory};
 ghost use Rattle.og_cert_read.specs.Text.{most_text};
 ghost use Rattle.og_cert_read.specs.Reading.{read_lines, nothing_read};
-ghost use Rattle.og_cert_read.specs.Read.{IsRead};
+ghost use Rattle.og_cert_read.specs.Answered.{IsRead};
 ghost use Rattle.og_cert_read.specs.Reader.{version_of, lines_of, IsFile};
 
 use crate::limits::TEXT_LIMIT;
@@ -15,7 +16,8 @@ use std::alloc::Global;
 // Reads the lines after the first one.
 fn read_rest(alloc: Global, version: Version, text: &[u8]) -> Result<CertFile, CertTextError>
     requires { length text.now ≤ most_text }
-    ensures { IsFile result (read_lines (version_of version) 2 nothing_read (lines_of text.now)) }
+    ensures file { IsFile result (read_lines (version_of version) 2 nothing_read (lines_of text.now)) }
+    ensures memory { IsErrOf result Memory → 0 < length text.now }
 {
     let mut reader = Reader::new(alloc);
     let mut rest = text;
@@ -34,7 +36,8 @@ fn read_rest(alloc: Global, version: Version, text: &[u8]) -> Result<CertFile, C
 /// first line that is wrong, counted from 1: `BadLine` where it is no line of a certificate, has a
 /// number outside the limits, lacks its LF, stands out of place or is missing; `Twice` where it
 /// begins a second certificate of its condition; `TooDeep` where it is a branch or a split with 200
-/// of them round it. `Memory` where an allocation was refused.
+/// of them round it. `Memory` where an allocation was refused, which none of the first two can be,
+/// nor a text without a line after its first.
 pub fn read_certs(alloc: Global, text: &[u8]) -> Result<CertFile, CertTextError>
     ensures { IsRead text.now result }
 {

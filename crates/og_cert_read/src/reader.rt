@@ -38,12 +38,14 @@ fn bad_line(at: u32) -> CertTextError
 }
 
 impl Reader {
-    ghost use Rattle.std.specs.Prelude.{◌<◌, ◌≤◌, ◌∷◌, true, length, OnOk, MatchResult};
+    ghost use Rattle.std.specs.Prelude.{◌<◌, ◌≤◌, ◌∷◌, true, length, OnOk, IfErr, IsErrOf, IsSome, MatchResult};
     ghost use Rattle.og_cert_text.specs.Shown.{shown};
     ghost use Rattle.og_cert_text.specs.Plain.{plain_cert, plain_finish};
     ghost use Rattle.og_cert_text.specs.Lines.{SplitLine, is_line};
     ghost use Rattle.og_cert_text.specs.Files.{with_entry};
+    ghost use Rattle.og_cert_text.specs.declared.fault.CertTextError.TheVariants.{Memory};
     ghost use Rattle.og_cert_read.specs.Said.{said_line};
+    ghost use Rattle.og_cert_read.specs.Words.{past};
     ghost use Rattle.og_cert_read.specs.Reading.{TooDeep, nothing_read, plug, depth, deeper, line_at, line_within, line_between, same_as, read_lines, split_frames, ended};
     ghost use Rattle.og_cert_read.specs.Levels.{fork_frame, IsGood};
     ghost use Rattle.og_cert_read.specs.Reader.{version_of, lines_of, frames_of, place_of, reading_of, IsSound, IsOpen, IsTaken, IsStopped, IsNext, IsFile};
@@ -217,7 +219,8 @@ impl Reader {
         }
     }
 
-    /// Takes the first line of the text, and gives what stands after it.
+    /// Takes the first line of the text, and gives what stands after it. Takes memory only where the
+    /// line has its end.
     pub(crate) fn next<'a>(
         &mut self,
         alloc: Global,
@@ -227,7 +230,8 @@ impl Reader {
     ) -> Result<&'a [u8], CertTextError>
         requires some { 0 < length text.now }
         requires sound { IsSound self.old }
-        ensures { MatchResult result (λ rest. IsNext (version_of version) at text.now rest.now self.old self.new) (λ e. IsStopped e (read_lines (version_of version) at (reading_of self.old) (lines_of text.now))) }
+        ensures next { MatchResult result (λ rest. IsNext (version_of version) at text.now rest.now self.old self.new) (λ e. IsStopped e (read_lines (version_of version) at (reading_of self.old) (lines_of text.now))) }
+        ensures memory { IsErrOf result Memory → IsSome (past 10 text.now) }
     {
         let (bytes, past) = split_at_byte(text, b'\n');
         let Some(rest) = past else {
@@ -242,7 +246,8 @@ impl Reader {
 
     /// The file, where no certificate is open.
     pub(crate) fn end(self, at: u32) -> Result<CertFile, CertTextError>
-        ensures { IsFile result (ended at (shown self.file) (place_of self)) }
+        ensures file { IsFile result (ended at (shown self.file) (place_of self)) }
+        ensures refused { IfErr result (λ e. e ≡ refused BadLine at) }
     {
         if self.number.is_some() {
             return Err(bad_line(at));

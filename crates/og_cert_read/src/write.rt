@@ -6,7 +6,7 @@ ghost use Rattle.og_cert_text.specs.Tree as tree;
 ghost use Rattle.og_cert_text.specs.Lines.{ForCondition};
 ghost use Rattle.og_cert_text.specs.Plain.{plain_cert};
 ghost use Rattle.og_cert_text.specs.Shown.{shown};
-ghost use Rattle.og_cert_text.specs.Text.{lines_text, listed_lines};
+ghost use Rattle.og_cert_text.specs.Listing.{lines_text, listed_lines};
 ghost use Rattle.og_cert_read.specs.Shared.{cert_text, listed_as, listed_text, shared_text};
 ghost use Rattle.og_cert_read.specs.Firsts.{found, or_this};
 

@@ -8,10 +8,13 @@ use Rattle.std.specs.Map.{keys_of}
 use Rattle.std.specs.List.Sorted.{IsStrictlySortedBy}
 use Rattle.std.proofs.lemmas.Bool.Decides.{nat_tests}
 use Rattle.og_cert_text.specs.declared.cert.Cert.{Cert}
-use Rattle.og_cert_text.specs.Files.{certificate_of, IsLeastAbove, placed, stored, is_stored, above}
+use Rattle.og_cert_text.specs.Files.{certificate_of}
+use Rattle.og_cert_text.specs.Rising.{IsLeastAbove, above}
+use Rattle.og_cert_text.specs.Stored.{placed, stored, is_stored}
 use Rattle.og_cert_text.specs.Tree as tree
 use Rattle.og_cert_text.specs.Plain.{plain_cert}
-use Rattle.og_cert_text.specs.Lines.{is_number, is_well_formed}
+use Rattle.og_cert_text.specs.Lines.{is_number}
+use Rattle.og_cert_text.specs.Shallow.{is_well_formed}
 use Rattle.og_cert_text.proofs.Forms.{and_parts, le_from}
 
 lt_from : (a b : ℕ) → nat_lt a b ≡ true → a < b

@@ -1,12 +1,15 @@
 -- Why an entry is not added.
-use Rattle.std.proofs.Common.{◌≡◌, ℕ, refl, ap, sym, subst, ◌∙◌, Bool, ◌&&◌, true, false, Option, Some, None, ◌⊎◌, inl, inr, Ok}
+use Rattle.std.proofs.Common.{◌≡◌, ℕ, refl, ap, sym, subst, ◌∙◌, Bool, ◌&&◌, true, false, Option, Some, None, ◌⊎◌, inl, inr, Result, Ok, Err}
 use Rattle.std.specs.Prelude.{not, if◌then◌else◌}
 use Rattle.std.specs.List.{list_all}
 use Rattle.std.specs.Option.{is_some, is_none}
 use Rattle.og_cert_text.specs.declared.fault.CertFileFault.{CertFileFault}
 use Rattle.og_cert_text.specs.declared.fault.CertFileFault.TheVariants as faults
+use Rattle.og_cert_text.specs.declared.fault.CertFileError.{CertFileError}
+use Rattle.og_cert_text.specs.declared.fault.CertFileError.TheVariants as errors
 use Rattle.og_cert_text.specs.Tree.{Cert}
-use Rattle.og_cert_text.specs.Lines.{is_number, is_shallow, is_line, cert_lines, is_well_formed}
+use Rattle.og_cert_text.specs.Lines.{is_number, is_line}
+use Rattle.og_cert_text.specs.Shallow.{is_shallow, cert_lines, is_well_formed}
 use Rattle.og_cert_text.specs.Files.{Entries, certificate_of, with_entry}
 use Rattle.og_cert_text.specs.Shown.{fault_of_entry, fault_of_same, IsAdded}
 use Rattle.og_cert_text.proofs.Forms.{both_true, and_parts, and_false_left, and_false_right}
@@ -57,3 +60,7 @@ same_is n k es a b g p q r =
 
 pub same_added : (n k : ℕ) (es fs : Entries) (d : Cert) → certificate_of k es ≡ Some d → fault_of_same n k es ≡ None → fs ≡ with_entry n d es → IsAdded (Ok tt) (fault_of_same n k es) (certificate_of k es) n es fs
 same_added n k es fs d e none after = let P : Option Cert → Type 0 = λ o. IsAdded (Ok tt) (fault_of_same n k es) o n es fs in subst P (sym e) (none, after)
+
+-- memory ran out
+pub not_added : (r : Result (Unit {0}) CertFileError) (fault : Option CertFileFault) (c : Option Cert) (n : ℕ) (es fs : Entries) → r ≡ Err errors.Memory → fault ≡ None → fs ≡ es → IsAdded r fault c n es fs
+not_added r fault c n es fs e none kept = subst (λ x. IsAdded x fault c n es fs) (sym e) (none, kept)

@@ -8,8 +8,9 @@ use Rattle.std.proofs.lemmas.Bool.Decides.{Decides-int_eq, nat_tests}
 use Rattle.std.proofs.lemmas.List.Folds.{list_all_more, list_all_at}
 use Rattle.std.proofs.lemmas.List.{take_all}
 use Rattle.std.proofs.lemmas.Option.{get_or_from_slice_get, slice_get_within, slice_get_cases}
-use Rattle.og_linear.specs.Linear.{Terms, FormValue, IsTidyFrom, IsTidy}
-use Rattle.og_linear.specs.Arith.{fits_i128, fits_terms, fits_form}
+use Rattle.og_linear.specs.Linear.{Terms, FormValue}
+use Rattle.og_linear.specs.Tidy.{IsTidyFrom, IsTidy}
+use Rattle.og_linear.specs.Bounded.{fits_i128, fits_terms, fits_form}
 use Rattle.og_cert_text.specs.Lines.{is_form, is_variable, rises_from}
 
 -- ---- tests

@@ -13,7 +13,8 @@ use Rattle.og_cert_text.specs.declared.cert.Finish.TheViews as its
 use Rattle.og_cert_text.specs.declared.cert.Finish.TheBlock.{hidden-the_row-Cert-0}
 use Rattle.og_cert_text.specs.Tree as tree
 use Rattle.og_cert_text.specs.Plain.{with_steps, plain_cert, plain_certs, plain_finish, step_line, combination_of}
-use Rattle.og_cert_text.specs.Lines.{Line, SumLine, CutLine, is_line, is_number, cert_lines, certs_lines, cert_count, is_shallow, are_shallow}
+use Rattle.og_cert_text.specs.Lines.{Line, SumLine, CutLine, is_line, is_number, cert_count}
+use Rattle.og_cert_text.specs.Shallow.{cert_lines, certs_lines, is_shallow, are_shallow}
 
 certs_items : (n : _) (row : Row_of-Cert n) → plain_certs row ≡ tree.cert_list (map plain_cert (items-the_row-Cert n row))
 certs_items _ end_of-Cert = refl

@@ -13,8 +13,11 @@ use Rattle.std.specs.List.Sorted.{IsStrictlySortedBy}
 use Rattle.std.proofs.lemmas.Bool.Decides.{nat_tests}
 use Rattle.og_cert_text.specs.declared.cert.Cert.{Cert}
 use Rattle.og_cert_text.specs.Plain.{plain_cert}
-use Rattle.og_cert_text.specs.Lines.{is_number, is_well_formed}
-use Rattle.og_cert_text.specs.Files.{certificate_of, with_entry, rise_from, is_file, placed, stored, is_stored}
+use Rattle.og_cert_text.specs.Lines.{is_number}
+use Rattle.og_cert_text.specs.Shallow.{is_well_formed}
+use Rattle.og_cert_text.specs.Files.{certificate_of, with_entry}
+use Rattle.og_cert_text.specs.Rising.{rise_from, is_file}
+use Rattle.og_cert_text.specs.Stored.{placed, stored, is_stored}
 use Rattle.og_cert_text.proofs.Forms.{both_true, and_parts, le_true, lt_true}
 
 same_test : (n m : ℕ) → is_eq (nat_cmp n m) ≡ (n == m)

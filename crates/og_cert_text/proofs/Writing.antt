@@ -9,10 +9,12 @@ use Rattle.og_cert_text.specs.declared.cert.Finish.{Finish}
 use Rattle.og_cert_text.specs.declared.cert.Finish.TheViews as its
 use Rattle.og_cert_text.specs.Tree as tree
 use Rattle.og_cert_text.specs.Plain.{plain_cert, plain_finish, step_line}
-use Rattle.og_cert_text.specs.Lines.{Line, ForCondition, SplitLine, line_text, part_text, parts_text, cert_lines, certs_lines}
+use Rattle.og_cert_text.specs.Lines.{Line, ForCondition, SplitLine, line_text, part_text, parts_text}
+use Rattle.og_cert_text.specs.Shallow.{cert_lines, certs_lines}
 use Rattle.std.specs.Result.{OnOk}
-use Rattle.og_cert_text.specs.Files.{Entries, above}
-use Rattle.og_cert_text.specs.Text.{Whole, listing_lines, lines_text}
+use Rattle.og_cert_text.specs.Files.{Entries}
+use Rattle.og_cert_text.specs.Rising.{above}
+use Rattle.og_cert_text.specs.Listing.{Whole, listing_lines, lines_text}
 use Rattle.og_cert_text.proofs.Plains.{steps_lines, plain_split, count_list}
 
 pub lines_both : (ls ms : List Line) → lines_text (ls ++ ms) ≡ lines_text ls ++ lines_text ms

@@ -1,7 +1,11 @@
 pub mod Faults
 pub mod Files
+pub mod Rising
+pub mod Stored
 pub mod Lines
+pub mod Shallow
 pub mod Plain
 pub mod Shown
 pub mod Text
+pub mod Listing
 pub mod Tree

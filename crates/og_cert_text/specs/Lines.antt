@@ -1,11 +1,11 @@
 -- The lines of a certificate text: what each line says, how it is written, and which lines a certificate has.
-use Rattle.std.specs.Prelude.{ℕ, suc, ◌+◌, ℤ, pos, List, [], ◌∷◌, ◌++◌, flat_map, Bool, true, false, not, ◌&&◌, nat_lt, nat_le, codes}
+use Rattle.std.specs.Prelude.{ℕ, suc, ◌+◌, ℤ, pos, List, [], ◌∷◌, ◌++◌, flat_map, Bool, true, false, not, ◌&&◌, nat_le, codes}
 use Rattle.std.specs.Fmt.{decimal, signed_decimal}
 use Rattle.std.specs.List.{list_all}
 use Rattle.std.specs.Ordering.{int_eq}
 use Rattle.og_linear.specs.Linear.{Terms, FormValue}
-use Rattle.og_linear.specs.Arith.{fits_form}
-use Rattle.og_cert_text.specs.Tree.{Ref, Known, Low, High, Combination, Cert, Sum, Cut, Close, Branch, SplitOn, Certs, no_cert, cert}
+use Rattle.og_linear.specs.Bounded.{fits_form}
+use Rattle.og_cert_text.specs.Tree.{Ref, Known, Low, High, Combination, Certs, no_cert, cert}
 
 -- ---- what a line says
 
@@ -100,37 +100,8 @@ abbrev pub cert_count : Certs → ℕ
 cert_count no_cert = 0
 cert_count (cert c cs) = suc (cert_count cs)
 
-abbrev mutual
-  pub cert_lines : Cert → List Line
-  cert_lines (Sum ts c) = SumLine ts ∷ cert_lines c
-  cert_lines (Cut i d c) = CutLine i d ∷ cert_lines c
-  cert_lines (Close ts) = CloseLine ts ∷ []
-  cert_lines (Branch f c d) = BranchLine f ∷ (cert_lines c ++ cert_lines d)
-  cert_lines (SplitOn i cs) = SplitLine i (cert_count cs) ∷ certs_lines cs
-
-  pub certs_lines : Certs → List Line
-  certs_lines no_cert = []
-  certs_lines (cert c cs) = cert_lines c ++ certs_lines cs
-
 -- ---- well-formed certificates
 
 -- the most branches and splits round a branch or a split, and one more
 abbrev pub most_depth : ℕ
 most_depth = 200
-
--- with so many branches and splits round the certificate, none has `most_depth` or more round it
-abbrev mutual
-  pub is_shallow : ℕ → Cert → Bool
-  is_shallow d (Sum ts c) = is_shallow d c
-  is_shallow d (Cut i k c) = is_shallow d c
-  is_shallow d (Close ts) = true
-  is_shallow d (Branch f b c) = nat_lt d most_depth && is_shallow (d + 1) b && is_shallow (d + 1) c
-  is_shallow d (SplitOn i cs) = nat_lt d most_depth && are_shallow (d + 1) cs
-
-  pub are_shallow : ℕ → Certs → Bool
-  are_shallow d no_cert = true
-  are_shallow d (cert c cs) = is_shallow d c && are_shallow d cs
-
--- not too deep, and each line within its limits
-abbrev pub is_well_formed : Cert → Bool
-is_well_formed c = is_shallow 0 c && list_all is_line (cert_lines c)

@@ -6,8 +6,10 @@ use Rattle.og_cert_text.specs.declared.fault.CertFileFault.TheVariants as faults
 use Rattle.og_cert_text.specs.declared.fault.CertFileError.{CertFileError}
 use Rattle.og_cert_text.specs.declared.fault.CertFileError.TheVariants as errors
 use Rattle.og_cert_text.specs.Tree.{Cert}
-use Rattle.og_cert_text.specs.Lines.{is_number, is_shallow, is_well_formed}
-use Rattle.og_cert_text.specs.Files.{Entries, certificate_of, with_entry, stored}
+use Rattle.og_cert_text.specs.Lines.{is_number}
+use Rattle.og_cert_text.specs.Shallow.{is_shallow, is_well_formed}
+use Rattle.og_cert_text.specs.Files.{Entries, certificate_of, with_entry}
+use Rattle.og_cert_text.specs.Stored.{stored}
 
 -- the entries of a file, by rising numbers
 abbrev pub shown : CertFile → Entries
@@ -27,9 +29,9 @@ fault_of_same n k es =
     else (if is_none (certificate_of k es) then Some faults.NoSuchCertificate
     else (if not (is_number n) then Some faults.BadNumber else None))
 
--- the file without this fault has this entry more; or it is refused with the fault, or memory ran out, and has what it had
+-- where there is no fault, the file has this entry more, or memory ran out; else the entry is refused with the fault. After an error the file has what it had
 abbrev pub IsAdded : Result (Unit {0}) CertFileError → Option CertFileFault → Option Cert → ℕ → Entries → Entries → Type 0
 IsAdded (Ok x) fault None n before after = ⊥
 IsAdded (Ok x) fault (Some c) n before after = (fault ≡ None) × (after ≡ with_entry n c before)
-IsAdded (Err errors.Memory) fault c n before after = after ≡ before
+IsAdded (Err errors.Memory) fault c n before after = (fault ≡ None) × (after ≡ before)
 IsAdded (Err (errors.Fault f)) fault c n before after = (fault ≡ Some f) × (after ≡ before)

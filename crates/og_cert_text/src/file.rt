@@ -1,7 +1,7 @@
 //! Files of certificates.
 
 ghost use Rattle.std.specs.Prelude.{◌≡◌, true};
-ghost use Rattle.og_cert_text.specs.Files.{is_stored};
+ghost use Rattle.og_cert_text.specs.Stored.{is_stored};
 
 use crate::cert::Cert;
 use crate::fault::{CertFileError, CertFileFault};
@@ -28,9 +28,11 @@ impl CertFile {
     ghost use Rattle.std.specs.Map.{lookup};
     ghost use Rattle.std.specs.Ordering.{nat_cmp};
     ghost use Rattle.og_cert_text.specs.Plain.{plain_cert};
-    ghost use Rattle.og_cert_text.specs.Lines.{is_well_formed};
+    ghost use Rattle.og_cert_text.specs.Shallow.{is_well_formed};
     ghost use Rattle.og_cert_text.specs.Lines as lines;
-    ghost use Rattle.og_cert_text.specs.Files.{certificate_of, is_file, IsLeastAbove, IsNextEntry, with_entry, stored, placed};
+    ghost use Rattle.og_cert_text.specs.Files.{certificate_of, with_entry};
+    ghost use Rattle.og_cert_text.specs.Rising.{is_file, IsLeastAbove, IsNextEntry};
+    ghost use Rattle.og_cert_text.specs.Stored.{stored, placed};
     ghost use Rattle.og_cert_text.specs.Shown.{shown, fault_of_entry, fault_of_same, IsAdded};
 
     /// The file without certificates. Takes no memory.

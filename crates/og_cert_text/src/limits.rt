@@ -3,7 +3,8 @@
 ghost use Rattle.std.specs.Prelude.{◌≡◌, map};
 ghost use Rattle.std.specs.List.{list_all};
 ghost use Rattle.og_cert_text.specs.Plain.{plain_cert, plain_finish, ref_of, combination_of, step_line};
-ghost use Rattle.og_cert_text.specs.Lines.{is_number, is_variable, is_ref, is_combination, is_form, is_line, is_shallow, is_well_formed, cert_lines};
+ghost use Rattle.og_cert_text.specs.Lines.{is_number, is_variable, is_ref, is_combination, is_form, is_line};
+ghost use Rattle.og_cert_text.specs.Shallow.{is_shallow, is_well_formed, cert_lines};
 
 use crate::cert::{Cert, CertStep, Finish, Source, Term};
 use og_linear::Form;

@@ -1,10 +1,11 @@
 //! Writing certificates.
 
-ghost use Rattle.std.specs.Prelude.{◌≡◌, ◌++◌, [], ◌∷◌, OnOk, IfOk, map};
+ghost use Rattle.std.specs.Prelude.{◌≡◌, ◌++◌, [], ◌∷◌, OnOk, OnErr, IfOk, map};
 ghost use Rattle.std.specs.Fmt.{decimal, signed_decimal};
 ghost use Rattle.og_cert_text.specs.Plain.{plain_cert, plain_finish, ref_of, combination_of, step_line};
-ghost use Rattle.og_cert_text.specs.Lines.{ForCondition, ref_text, term_text, part_text, combination_text, parts_text, line_text, BranchLine, cert_lines};
-ghost use Rattle.og_cert_text.specs.Text.{lines_text, file_text};
+ghost use Rattle.og_cert_text.specs.Lines.{ForCondition, ref_text, term_text, part_text, combination_text, parts_text, line_text, BranchLine};
+ghost use Rattle.og_cert_text.specs.Shallow.{cert_lines};
+ghost use Rattle.og_cert_text.specs.Listing.{lines_text, file_text};
 ghost use Rattle.og_cert_text.specs.Shown.{shown};
 
 use crate::cert::{Cert, CertStep, Finish, Source, Term};
@@ -133,10 +134,10 @@ fn put_steps(text: &mut Vec<u8>, steps: &[CertStep]) -> Result<(), AllocError>
     Ok(())
 }
 
-/// Adds the lines of the certificate to the text. An error leaves the text with a part of them.
+// The lines of a certificate.
 #[cycle(put)]
 #[tactic(auto, using(crate::proofs::Writing::steps_text))]
-pub fn put_cert(text: &mut Vec<u8>, cert: &Cert) -> Result<(), AllocError>
+fn put_lines(text: &mut Vec<u8>, cert: &Cert) -> Result<(), AllocError>
     ensures { OnOk result (text.new.items ≡ text.old.items ++ lines_text (cert_lines (plain_cert cert.now))) }
 {
     put_steps(text, &cert.steps)?;
@@ -152,13 +153,13 @@ fn put_finish(text: &mut Vec<u8>, finish: &Finish) -> Result<(), AllocError>
         Finish::Close(terms) => put_combination(text, b"close", terms),
         Finish::Branch(form, first, second) => {
             put_branch(text, form)?;
-            put_cert(text, first)?;
-            put_cert(text, second)
+            put_lines(text, first)?;
+            put_lines(text, second)
         }
         Finish::Split(fact, parts) => {
             put_pair(text, b"split", *fact as u64, parts.len() as u64)?;
             for part in parts {
-                put_cert(text, part)?;
+                put_lines(text, part)?;
             }
             Ok(())
         }
@@ -172,7 +173,17 @@ fn put_entry(text: &mut Vec<u8>, n: u32, cert: &Cert) -> Result<(), AllocError>
     text.extend_from_slice(b"cond ")?;
     put_number(text, n as u64)?;
     text.extend_from_slice(b"\n")?;
-    put_cert(text, cert)
+    put_lines(text, cert)
+}
+
+/// Adds the lines of the certificate to the text. An error leaves the text as it was.
+pub fn put_cert(text: &mut Vec<u8>, cert: &Cert) -> Result<(), AllocError>
+    ensures ok { OnOk result (text.new.items ≡ text.old.items ++ lines_text (cert_lines (plain_cert cert.now))) }
+    ensures err { OnErr result (text.new.items ≡ text.old.items) }
+{
+    let mut lines = Vec::new(*text.allocator());
+    put_lines(&mut lines, cert)?;
+    text.extend_from_slice(&lines)
 }
 
 /// The text of the file in version 1: its certificates by rising numbers.

@@ -3,7 +3,8 @@ use Rattle.std.proofs.Common.{◌≡◌, ℕ, ◌+◌, ◌<◌, ◌≤◌, Bool,
 use Rattle.std.proofs.lemmas.List.{drop_more}
 use Rattle.og_typed.specs.declared.statement.Item.{Item}
 use Rattle.og_typed.specs.declared.statement.Seq.{Seq, out-Seq}
-use Rattle.og_typed.specs.Syntax.{Noted, Sequence, sequence_list}
+use Rattle.og_typed.specs.Syntax.{Noted, Sequence}
+use Rattle.og_typed.specs.Lists.{sequence_list}
 use Rattle.og_typed.specs.Plain.{noted, statement, sequence, item_of}
 use Rattle.og_typed.proofs.Lists.{sequence_out}
 use Rattle.og_cond.specs.Sets.{watches}

@@ -3,7 +3,7 @@ use Rattle.std.proofs.Common.{◌≡◌, ℕ, List, [], ◌∷◌, Bool, true, f
 use Rattle.std.specs.Prelude.{IsTrue}
 use Rattle.std.proofs.lemmas.Bool.{eqb-true, eq-eqb}
 use Rattle.og_typed.specs.Syntax.{Formula, Simple, Pass, Set}
-use Rattle.og_typed.specs.Truth.{occurs}
+use Rattle.og_typed.specs.Occurs.{occurs}
 use Rattle.og_cond.specs.Sets.{watches, changes}
 use Rattle.og_cond.specs.Crossing.{crosses}
 

@@ -3,7 +3,8 @@ use Rattle.std.proofs.Common.{◌≡◌, ℕ, ◌+◌, ◌<◌, List, [], ◌++�
 use Rattle.std.proofs.lemmas.List.{drop_more}
 use Rattle.og_typed.specs.declared.statement.Item.{Item}
 use Rattle.og_typed.specs.declared.statement.Seq.{Seq, out-Seq}
-use Rattle.og_typed.specs.Syntax.{Noted, sequence_list}
+use Rattle.og_typed.specs.Syntax.{Noted}
+use Rattle.og_typed.specs.Lists.{sequence_list}
 use Rattle.og_typed.specs.Plain.{formula, noted, statement, sequence, item_of, first_or}
 use Rattle.og_typed.proofs.Lists.{sequence_out, first_list}
 use Rattle.og_cond.specs.Condition.{Condition}

@@ -3,7 +3,8 @@ use Rattle.std.proofs.Common.{◌≡◌, ℕ, ◌+◌, ◌<◌, ◌≤◌, List,
 use Rattle.std.proofs.lemmas.List.{drop_more}
 use Rattle.og_typed.specs.declared.statement.Item.{Item}
 use Rattle.og_typed.specs.declared.statement.Seq.{Seq, out-Seq}
-use Rattle.og_typed.specs.Syntax.{Noted, Piece, pieces, pieces_of_stmt}
+use Rattle.og_typed.specs.Syntax.{Noted}
+use Rattle.og_typed.specs.Pieces.{Piece, pieces, pieces_of_stmt}
 use Rattle.og_typed.specs.Plain.{noted, statement, sequence}
 use Rattle.og_typed.proofs.Lists.{sequence_out}
 use Rattle.og_cond.proofs.Counts.{sequence_from}

@@ -5,13 +5,13 @@ use Rattle.std.specs.Prelude.{flat_map, filter_map}
 use Rattle.std.specs.List.{cons_option}
 use Rattle.std.proofs.lemmas.Bool.{lt-ltb}
 use Rattle.std.proofs.lemmas.Grind.{flat_map-append}
-use Rattle.og_typed.specs.Syntax.{Formula, Noted, Simple, Pass, Set, Statement, Skip, Assign, If, While, Await, Otherwise, Nothing, Else, Sequence, Last, Then, Piece, pieces, pieces_of_stmt, pieces_of_else}
-use Rattle.og_typed.specs.Truth.{occurs}
-use Rattle.og_typed.specs.Machine.{touches}
+use Rattle.og_typed.specs.Syntax.{Formula, Noted, Simple, Pass, Set, Statement, Skip, Assign, If, While, Await, Otherwise, Nothing, Else, Sequence, Last, Then}
+use Rattle.og_typed.specs.Pieces.{Piece, pieces, pieces_of_stmt, pieces_of_else}
+use Rattle.og_typed.specs.Occurs.{occurs, touches}
 use Rattle.og_typed.specs.Rule.{IsUsableSimple, IsUsableSequence, IsUsableStatement, IsUsableOtherwise}
 use Rattle.og_typed.proofs.Each.{Each, each_append}
 use Rattle.og_cond.specs.Condition.{Condition}
-use Rattle.og_cond.specs.Conditions.{Action, stmt_action, actions, notes, pair_condition, against, interference, interfere_condition}
+use Rattle.og_cond.specs.Conditions.{Action, assigned, stmt_action, actions, notes, pair_condition, against, interference, interfere_condition}
 use Rattle.og_cond.specs.Crossing.{Side, side_of, crosses, action_crossings, side_crossings, crossings}
 
 -- ---- processes as sides
@@ -41,7 +41,7 @@ module _ (m : ℕ) (small : m ≤ 256) where
       ap₂ ◌||◌ (ap (λ b. b && occurs x a) within) (crosses_touches rest a h.1)
 
   abbrev pub IsBelow : Action → Type 0
-  IsBelow action = Each (IsUsableSimple m) action.body
+  IsBelow action = Each (IsUsableSimple m) (assigned action)
 
   abbrev IsUsablePiece : Piece → Type 0
   IsUsablePiece piece = IsUsableStatement m piece.stmt
@@ -82,7 +82,7 @@ module _ (m : ℕ) (small : m ≤ 256) where
 
   action_same : (n : ℕ) (action : Action) (others : List Side) → IsBelow action → action_crossings crosses n action others ≡ action_crossings touches n action others
   action_same n action others h =
-      λ i. flat_map (λ side. flat_map (λ note. if crosses_touches action.body note.assertion h i then interfere_condition n action note ∷ [] else []) side.notes) others
+      λ i. flat_map (λ side. flat_map (λ note. if crosses_touches (assigned action) note.assertion h i then interfere_condition n action note ∷ [] else []) side.notes) others
 
   side_same : (n : ℕ) (acts : List Action) (others : List Side) → Each IsBelow acts → side_crossings crosses n acts others ≡ side_crossings touches n acts others
   side_same n [] others h = refl

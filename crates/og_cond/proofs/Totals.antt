@@ -4,11 +4,12 @@ use Rattle.std.specs.Prelude.{flat_map, filter_map}
 use Rattle.std.specs.List.{cons_option}
 use Rattle.std.proofs.lemmas.List.{length-map, map-append}
 use Rattle.std.proofs.lemmas.List.Elements.{filter_map-append}
-use Rattle.og_typed.specs.Syntax.{Formula, Noted, Statement, Skip, Assign, If, While, Await, Otherwise, Nothing, Else, Sequence, Last, Then, Program, Piece, pieces, pieces_of_stmt, pieces_of_else, first_of, last_of}
+use Rattle.og_typed.specs.Syntax.{Formula, Noted, Statement, Skip, Assign, If, While, Await, Otherwise, Nothing, Else, Sequence, Last, Then, Program, last_of}
+use Rattle.og_typed.specs.Pieces.{Piece, pieces, pieces_of_stmt, pieces_of_else, first_of}
 use Rattle.og_typed.specs.Rule.{IsUsableSequence, IsOutline}
 use Rattle.og_typed.proofs.Each.{Each}
 use Rattle.og_cond.specs.Condition.{Condition}
-use Rattle.og_cond.specs.Conditions.{Action, stmt_action, actions, notes, interference, interfere_condition, seq_conditions, stmt_conditions, else_conditions, start_condition, prologue_conditions, epilogue_conditions, conditions}
+use Rattle.og_cond.specs.Conditions.{Action, assigned, stmt_action, actions, notes, interference, interfere_condition, seq_conditions, stmt_conditions, else_conditions, start_condition, prologue_conditions, epilogue_conditions, conditions}
 use Rattle.og_cond.specs.Sets.{watches, assigns_some}
 use Rattle.og_cond.specs.Crossing.{side_of, crosses, pair_if, pairs_of, action_crossings, side_crossings, crossings}
 use Rattle.og_cond.specs.Counting.{seq_count, stmt_count, else_count, local_count, part_count, seq_hits, stmt_hits, else_hits, all_hits, note_count, seq_breaks, stmt_breaks, else_breaks, process_breaks, all_breaks, condition_count}
@@ -43,7 +44,7 @@ module _ (n : ℕ) where
 
 -- one where the action assigns a variable that passes the test
 abbrev hit : (ℕ → Bool) → Action → ℕ
-hit test action = if assigns_some test action.body then 1 else 0
+hit test action = if assigns_some test (assigned action) then 1 else 0
 
 or_false : (b : Bool) → (b || false) ≡ b
 or_false true = refl
@@ -133,7 +134,7 @@ module _ (n : ℕ) where
 
   pairs_length : (action : Action) (ns : List Noted) → length (pairs_of crosses n action ns) ≡ total (λ note. hit (watches note.assertion) action) ns
   pairs_length action ns =
-      length-flat (pair_if crosses n action) ns ∙ total-same _ _ ns (λ note. length_if (crosses action.body note.assertion) (interfere_condition n action note))
+      length-flat (pair_if crosses n action) ns ∙ total-same _ _ ns (λ note. length_if (crosses (assigned action) note.assertion) (interfere_condition n action note))
 
   -- of these actions against one process
   row_length : (p q : Sequence) → total (λ action. length (pairs_of crosses n action (notes q))) (actions p) ≡ weight p q

@@ -1,6 +1,7 @@
 -- The conditions of a block of statements within a statement.
 use Rattle.std.specs.Prelude.{ℕ, List, [], ◌∷◌, ◌++◌}
-use Rattle.og_typed.specs.Syntax.{Formula, Sequence, first_of, last_of}
+use Rattle.og_typed.specs.Syntax.{Formula, Sequence, last_of}
+use Rattle.og_typed.specs.Pieces.{first_of}
 use Rattle.og_typed.specs.Plain.{formula}
 use Rattle.og_cond.specs.Condition.{Condition, Yes, Is}
 use Rattle.og_cond.specs.Conditions.{gives, seq_conditions}

@@ -1,7 +1,9 @@
 -- The conditions of an outline, in order.
 use Rattle.std.specs.Prelude.{ℕ, ◌+◌, ℤ, List, [], ◌∷◌, ◌++◌, map, flat_map, filter_map, length, if◌then◌else◌, Option, Some, None}
-use Rattle.og_typed.specs.Syntax.{Formula, Noted, Simple, Set, Statement, Skip, Assign, If, While, Await, Otherwise, Nothing, Else, Sequence, Last, Then, Program, first_of, last_of, pieces}
-use Rattle.og_typed.specs.Machine.{touches}
+use Rattle.og_typed.specs.Syntax.{Formula, Noted, Simple, Statement, Skip, Assign, If, While, Await, Otherwise, Nothing, Else, Sequence, Last, Then, Program, last_of}
+use Rattle.og_typed.specs.Pieces.{first_of, pieces}
+use Rattle.og_typed.specs.Occurs.{touches}
+use Rattle.og_subst.specs.Trees.{ActionTree, One, Whole, tree_body}
 use Rattle.og_cond.specs.declared.kind.Kind.{Kind}
 use Rattle.og_cond.specs.declared.kind.Kind.TheVariants as kind
 use Rattle.og_cond.specs.Condition.{Condition, Part, Yes, No, Hypothesis, Is, Starts, OneOf, Holds, Fits, Never}
@@ -13,12 +15,16 @@ pub record Action : Type 0 where
   pub at : ℕ
   -- the assertion before it, and the guard of an await
   pub hypotheses : List Hypothesis
-  pub body : List Simple
+  pub does : ActionTree
 
 abbrev pub stmt_action : Formula → ℕ → Statement → Option Action
-stmt_action before at (Assign x e) = Some record { at = at; hypotheses = Is (Yes before) ∷ []; body = Set x e ∷ [] }
-stmt_action before at (Await b body) = Some record { at = at; hypotheses = Is (Yes before) ∷ Is (Yes b) ∷ []; body = body }
+stmt_action before at (Assign x e) = Some record { at = at; hypotheses = Is (Yes before) ∷ []; does = One x e }
+stmt_action before at (Await b body) = Some record { at = at; hypotheses = Is (Yes before) ∷ Is (Yes b) ∷ []; does = Whole body }
 stmt_action before at _ = None
+
+-- what it assigns, in order
+abbrev pub assigned : Action → List Simple
+assigned action = tree_body action.does
 
 -- the actions of a process, in text order
 abbrev pub actions : Sequence → List Action
@@ -71,22 +77,22 @@ module _ (n : ℕ) where
   -- a condition without an action: the hypotheses give the assertion
   abbrev pub gives : Kind → ℕ → List Hypothesis → Formula → Condition
   gives kind at hypotheses a =
-      record { kind = kind; at = at; action_at = None; variables = n; hypotheses = hypotheses; action = []; goal = Holds a }
+      record { kind = kind; at = at; action_at = None; variables = n; hypotheses = hypotheses; action = None; goal = Holds a }
 
   -- ---- local conditions
 
   -- an action leads to the assertion, and its values fit
-  abbrev pub action_conditions : ℕ → List Hypothesis → List Simple → Formula → List Condition
-  action_conditions at hypotheses body after =
-      record { kind = kind.Step; at = at; action_at = None; variables = n; hypotheses = hypotheses; action = body; goal = Holds after }
-      ∷ record { kind = kind.Range; at = at; action_at = None; variables = n; hypotheses = hypotheses; action = body; goal = Fits }
+  abbrev pub action_conditions : ℕ → List Hypothesis → ActionTree → Formula → List Condition
+  action_conditions at hypotheses action after =
+      record { kind = kind.Step; at = at; action_at = None; variables = n; hypotheses = hypotheses; action = Some action; goal = Holds after }
+      ∷ record { kind = kind.Range; at = at; action_at = None; variables = n; hypotheses = hypotheses; action = Some action; goal = Fits }
       ∷ []
 
   abbrev mutual
     -- of a statement at its place, between the assertions before and after it
     pub stmt_conditions : Formula → ℕ → Statement → Formula → List Condition
     stmt_conditions before at Skip after = gives kind.Step at (Is (Yes before) ∷ []) after ∷ []
-    stmt_conditions before at (Assign x e) after = action_conditions at (Is (Yes before) ∷ []) (Set x e ∷ []) after
+    stmt_conditions before at (Assign x e) after = action_conditions at (Is (Yes before) ∷ []) (One x e) after
     stmt_conditions before at (If b branch other) after =
         gives kind.Then at (Is (Yes before) ∷ Is (Yes b) ∷ []) (first_of branch).assertion
         ∷ (seq_conditions branch
@@ -99,7 +105,7 @@ module _ (n : ℕ) where
         ∷ gives kind.Leave at (Is (Yes before) ∷ Is (No b) ∷ []) after
         ∷ [])
     stmt_conditions before at (Await b body) after =
-        action_conditions at (Is (Yes before) ∷ Is (Yes b) ∷ []) body after
+        action_conditions at (Is (Yes before) ∷ Is (Yes b) ∷ []) (Whole body) after
 
     pub else_conditions : Formula → ℕ → Formula → Otherwise → Formula → List Condition
     else_conditions before at b Nothing after = gives kind.Else at (Is (Yes before) ∷ Is (No b) ∷ []) after ∷ []
@@ -125,14 +131,14 @@ module _ (n : ℕ) where
         action_at = Some action.at;
         variables = n;
         hypotheses = Is (Yes note.assertion) ∷ action.hypotheses;
-        action = action.body;
+        action = Some action.does;
         goal = Holds note.assertion;
       }
 
   -- where a variable that the action assigns occurs in the assertion
   abbrev pub pair_condition : Action → Noted → List Condition
   pair_condition action note =
-      if touches action.body note.assertion then interfere_condition action note ∷ [] else []
+      if touches (assigned action) note.assertion then interfere_condition action note ∷ [] else []
 
   -- the actions of one process against the assertions of the others
   abbrev pub against : Sequence → List Sequence → List Condition
@@ -176,7 +182,7 @@ blocking_condition o =
       action_at = None;
       variables = length o.names;
       hypotheses = blocked_hypotheses o.processes;
-      action = [];
+      action = None;
       goal = Never;
     }
 

@@ -2,7 +2,7 @@
 use Rattle.std.specs.Prelude.{ℕ, Bool, List, [], ◌∷◌, ◌++◌, flat_map, if◌then◌else◌}
 use Rattle.og_typed.specs.Syntax.{Formula, Noted, Simple, Sequence}
 use Rattle.og_cond.specs.Condition.{Condition}
-use Rattle.og_cond.specs.Conditions.{Action, actions, notes, interfere_condition}
+use Rattle.og_cond.specs.Conditions.{Action, assigned, actions, notes, interfere_condition}
 use Rattle.og_cond.specs.Sets.{watches, assigns_some}
 
 pub record Side : Type 0 where
@@ -19,7 +19,7 @@ crosses body a = assigns_some (watches a) body
 module _ (test : List Simple → Formula → Bool) (n : ℕ) where
   -- the condition of a pair that passes the test
   abbrev pub pair_if : Action → Noted → List Condition
-  pair_if action note = if test action.body note.assertion then interfere_condition n action note ∷ [] else []
+  pair_if action note = if test (assigned action) note.assertion then interfere_condition n action note ∷ [] else []
 
   abbrev pub pairs_of : Action → List Noted → List Condition
   pairs_of action notes = flat_map (pair_if action) notes

@@ -1,8 +1,10 @@
 pub mod Condition
+pub mod Valid
 pub mod Conditions
 pub mod Seen
 pub mod Blocks
 pub mod Names
+pub mod Limits
 pub mod Sets
 pub mod Crossing
 pub mod Counting

@@ -1,5 +1,5 @@
 -- What an item of the tree stands for.
-use Rattle.og_typed.specs.Syntax.{Piece}
+use Rattle.og_typed.specs.Pieces.{Piece}
 use Rattle.og_typed.specs.Plain.{noted, statement}
 use Rattle.og_typed.specs.declared.statement.Item.{Item}
 use denote.Ref.{Bor}

@@ -1,11 +1,10 @@
 -- The condition that a value of the program's type stands for.
-use Rattle.std.specs.Prelude.{◌≡◌, ℕ, List, [], ◌∷◌, ◌++◌, map, Option, Some, None, Vec}
+use Rattle.std.specs.Prelude.{◌≡◌, ℕ, List, [], ◌∷◌, ◌++◌, map, Option, Some, None, option_map, Vec}
 use Rattle.std.specs.Global.{Global}
-use Rattle.og_typed.specs.Syntax.{Simple}
 use Rattle.og_typed.specs.Plain.{formula}
 use Rattle.og_typed.specs.declared.assertion.Assert.{Assert}
-use Rattle.og_subst.specs.declared.action.Action.{Action}
-use Rattle.og_subst.specs.Actions.{action_body}
+use Rattle.og_subst.specs.Actions.{action_tree}
+use Rattle.og_subst.specs.Trees.{ActionTree}
 use Rattle.og_cond.specs.declared.kind.Kind.{Kind}
 use Rattle.og_cond.specs.declared.condition.Part.{Part}
 use Rattle.og_cond.specs.declared.condition.Part.TheVariants as part
@@ -34,11 +33,6 @@ goal_of (goal.Holds a) = plain.Holds (formula a.now)
 goal_of goal.Fits = plain.Fits
 goal_of goal.Never = plain.Never
 
--- no assignments where there is no action
-abbrev pub body_of : Option Action → List Simple
-body_of None = []
-body_of (Some a) = action_body a
-
 abbrev pub seen : Condition → plain.Condition
 seen c = record {
   kind = c.kind;
@@ -46,12 +40,12 @@ seen c = record {
   action_at = c.action_at;
   variables = c.variables;
   hypotheses = map hypothesis_of c.hypotheses.items;
-  action = body_of c.action;
+  action = option_map action_tree c.action;
   goal = goal_of c.goal;
 }
 
 -- a condition that is not about interference
-abbrev pub claim : Kind → ℕ → ℕ → List plain.Hypothesis → List Simple → plain.Goal → plain.Condition
+abbrev pub claim : Kind → ℕ → ℕ → List plain.Hypothesis → Option ActionTree → plain.Goal → plain.Condition
 claim kind at variables hypotheses action goal = record {
   kind = kind;
   at = at;

@@ -2,7 +2,7 @@
 use Rattle.std.specs.Prelude.{ℕ, ◌/◌, ◌%◌, ◌==◌, ◌||◌, ◌&&◌, Bool, false, List, [], ◌∷◌, slice_index, nat_lt}
 use Rattle.std.specs.Int.{bit_at}
 use Rattle.og_typed.specs.Syntax.{Formula, Simple, Pass, Set}
-use Rattle.og_typed.specs.Truth.{occurs}
+use Rattle.og_typed.specs.Occurs.{occurs}
 use Rattle.og_cond.specs.declared.varset.VarSet.{VarSet}
 
 -- the variable is in the set

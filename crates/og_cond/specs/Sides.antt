@@ -2,7 +2,7 @@
 use Rattle.std.specs.Prelude.{map}
 use Rattle.og_typed.specs.Syntax.{Noted}
 use Rattle.og_typed.specs.Plain.{noted}
-use Rattle.og_subst.specs.Actions.{action_body}
+use Rattle.og_subst.specs.Actions.{action_tree}
 use Rattle.og_cond.specs.Conditions as plain
 use Rattle.og_cond.specs.Crossing as crossing
 use Rattle.og_cond.specs.Seen.{guarded}
@@ -11,7 +11,7 @@ use Rattle.og_cond.specs.declared.watched.Watched.{Watched}
 use Rattle.og_cond.specs.declared.watched.Side.{Side}
 
 abbrev pub action_of : Move → plain.Action
-action_of m = record { at = m.at; hypotheses = guarded m.before m.guard; body = action_body m.action }
+action_of m = record { at = m.at; hypotheses = guarded m.before m.guard; does = action_tree m.action }
 
 abbrev pub note_of : Watched → Noted
 note_of w = noted w.note.now

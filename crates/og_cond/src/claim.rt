@@ -1,7 +1,7 @@
 //! Conditions without an action, and with one.
 
-ghost use Rattle.std.specs.Prelude.{◌≡◌, [], map};
-ghost use Rattle.og_subst.specs.Actions.{action_body};
+ghost use Rattle.std.specs.Prelude.{◌≡◌, None, Some, map};
+ghost use Rattle.og_subst.specs.Actions.{action_tree};
 ghost use Rattle.og_cond.specs.Seen.{seen, hypothesis_of, goal_of, claim};
 
 use crate::condition::{Condition, Goal, Hypothesis};
@@ -17,7 +17,7 @@ impl<'a> Condition<'a> {
         hypotheses: Vec<Hypothesis<'a>>,
         goal: Goal<'a>,
     ) -> Condition<'a>
-        ensures { seen result ≡ claim kind at variables (map hypothesis_of hypotheses.entry.items) [] (goal_of goal.entry) }
+        ensures { seen result ≡ claim kind at variables (map hypothesis_of hypotheses.entry.items) None (goal_of goal.entry) }
     {
         Condition {
             kind,
@@ -39,7 +39,7 @@ impl<'a> Condition<'a> {
         action: Action<'a>,
         goal: Goal<'a>,
     ) -> Condition<'a>
-        ensures { seen result ≡ claim kind at variables (map hypothesis_of hypotheses.entry.items) (action_body action.entry) (goal_of goal.entry) }
+        ensures { seen result ≡ claim kind at variables (map hypothesis_of hypotheses.entry.items) (Some (action_tree action.entry)) (goal_of goal.entry) }
     {
         Condition {
             kind,

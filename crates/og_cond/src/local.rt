@@ -3,7 +3,7 @@
 ghost use Rattle.std.specs.Prelude.{◌≡◌, ◌<◌, ◌+◌, option_map, ◌++◌, ◌∷◌, [], IfOk, OnOk, map, drop, length};
 ghost use Rattle.og_typed.specs.declared.statement.Seq.{out-Seq};
 ghost use Rattle.og_typed.specs.Plain.{formula, statement, noted, sequence, first_or};
-ghost use Rattle.og_subst.specs.Actions.{action_body};
+ghost use Rattle.og_subst.specs.Actions.{action_tree};
 ghost use Rattle.og_cond.specs.Conditions.{gives, action_conditions, stmt_conditions, seq_conditions};
 ghost use Rattle.og_cond.specs.Blocks.{block_conditions};
 ghost use Rattle.og_cond.specs.Seen.{Adds, hypothesis_of, given, guarded};
@@ -84,7 +84,7 @@ fn add_action<'a>(
     after: &'a Assert,
 ) -> Result<(), AllocError>
     ensures { OnOk result (Adds conditions.old conditions.new
-        (action_conditions variables at (guarded before.entry guard.entry) (action_body action.entry)
+        (action_conditions variables at (guarded before.entry guard.entry) (action_tree action.entry)
         (formula after.now))) }
 {
     let alloc = *conditions.allocator();

@@ -1,7 +1,7 @@
 //! The statements of a process, outside the bodies of awaits, in text order.
 
 ghost use Rattle.std.specs.Prelude.{◌≡◌, ◌++◌, map, IfOk, OnOk};
-ghost use Rattle.og_typed.specs.Syntax.{pieces, pieces_of_stmt};
+ghost use Rattle.og_typed.specs.Pieces.{pieces, pieces_of_stmt};
 ghost use Rattle.og_typed.specs.Plain.{sequence, statement};
 ghost use Rattle.og_cond.specs.Pieces.{piece_of};
 

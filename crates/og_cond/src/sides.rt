@@ -6,7 +6,7 @@ ghost use Rattle.og_cond.specs.Conditions.{stmt_action};
 ghost use Rattle.og_cond.specs.Crossing.{side_of};
 ghost use Rattle.og_cond.specs.Pieces.{piece_of};
 ghost use Rattle.og_cond.specs.Seen.{guarded};
-ghost use Rattle.og_subst.specs.Actions.{action_body};
+ghost use Rattle.og_subst.specs.Actions.{action_tree};
 ghost use Rattle.og_cond.specs.Sides.{action_of, note_of, side_seen};
 
 use crate::pieces::pieces_of;
@@ -23,7 +23,7 @@ fn new_move<'a>(
     action: Action<'a>,
 ) -> Move<'a>
     ensures { action_of result ≡
-        record { at = at; hypotheses = guarded before.entry guard.entry; body = action_body action.entry } }
+        record { at = at; hypotheses = guarded before.entry guard.entry; does = action_tree action.entry } }
 {
     let assigned = assigned_by(action);
     Move {

@@ -4,6 +4,7 @@ ghost use Rattle.std.specs.Prelude.{◌≡◌, ◌++◌, ◌∷◌, [], ◌≤�
 ghost use Rattle.og_typed.specs.Plain.{sequence};
 ghost use Rattle.og_cond.specs.Answer.{IsListed};
 ghost use Rattle.og_cond.specs.Conditions as plain;
+ghost use Rattle.og_cond.specs.Limits.{condition_limit};
 ghost use Rattle.og_cond.specs.Seen.{Adds, hypothesis_of};
 
 use crate::blocking::blocked_hypotheses;
@@ -223,7 +224,7 @@ pub fn conditions<'a>(
     alloc: Global,
     outline: &'a Outline,
 ) -> Result<Vec<Condition<'a>>, ConditionsError>
-    ensures { IsListed CONDITION_LIMIT (plain.conditions outline.now) result }
+    ensures { IsListed condition_limit (plain.conditions outline.now) result }
 {
     outline.follows_rule();
     let left = match left_after_conditions(CONDITION_LIMIT, outline) {

@@ -4,7 +4,7 @@ use Rattle.std.specs.Io.KnownBytes.{Appends}
 use Rattle.og_input.specs.Joined.{IsSplit}
 use Rattle.og_typed.specs.Syntax.{Program}
 use Rattle.og_cond.specs.Conditions.{conditions}
-use Rattle.og_cond.specs.declared.limits.TheConstants.{CONDITION_LIMIT}
+use Rattle.og_cond.specs.Limits.{condition_limit}
 use Rattle.og_cond.specs.declared.fault.TooMany.{TooMany}
 use Rattle.og_source.specs.Source.{IsSource}
 use Rattle.og_answer.specs.Told.{Says, IsTold, IsUnread}
@@ -28,10 +28,10 @@ turned_down json source certs why a h told = inr (record { why = why; refused = 
 
 -- an answer such as P says of it, or the line that says that there are too many conditions
 pub too_many : {E : Type 0} (P : Answer → Type 0) (source bytes : List ℕ) (o p : Program) (fault : TooMany) (r : Result Answer E) → bytes ≡ source → p ≡ o
-    → CONDITION_LIMIT < length (conditions p) → IfOk r (IsTold bytes (faults.Conditions fault)) → IfOk r (λ a. P a ⊎ HasTooMany o source a)
+    → condition_limit < length (conditions p) → IfOk r (IsTold bytes (faults.Conditions fault)) → IfOk r (λ a. P a ⊎ HasTooMany o source a)
 too_many P source bytes o p fault (Err e) same_bytes same h told = tt
 too_many P source bytes o p fault (Ok a) same_bytes same h told =
-    inr (subst (λ (q : Program). CONDITION_LIMIT < length (conditions q)) same h, (fault, subst (λ (s : List ℕ). IsTold s (faults.Conditions fault) a) same_bytes told))
+    inr (subst (λ (q : Program). condition_limit < length (conditions q)) same h, (fault, subst (λ (s : List ℕ). IsTold s (faults.Conditions fault) a) same_bytes told))
 
 -- such an answer is that of the outline's source
 pub of_source : {E : Type 0} (P : Program → Answer → Type 0) (source : List ℕ) (o : Program) (r : Result Answer E) → IsSource source o

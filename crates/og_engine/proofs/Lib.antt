@@ -1,3 +1,4 @@
 pub mod Answering
 pub mod Fronts
 pub mod Promised
+pub mod Unfinished

@@ -4,13 +4,16 @@ use Rattle.std.proofs.lemmas.List.{append_cancel_left}
 use Rattle.std.specs.Io.KnownBytes.{Appends}
 use Rattle.og_typed.specs.Syntax.{Program}
 use Rattle.og_source.specs.Source.{IsSource}
-use Rattle.og_judge.specs.Proven.{IsProvenSource, IsNeverStuckSource}
+use Rattle.og_judge.specs.Proven.{IsProvenSource}
+use Rattle.og_judge.specs.NeverStuck.{IsNeverStuckSource}
 use Rattle.og_report.specs.Yes.{SaysUnblocked}
 use Rattle.og_answer.specs.declared.answer.Answer.{Answer}
 use Rattle.og_input.specs.Joined.{IsSplit}
-use Rattle.og_engine.specs.Answers.{HasProvenSource, HasNeverStuckSource}
+use Rattle.og_engine.specs.NeverStuck.{HasNeverStuckSource}
+use Rattle.og_engine.specs.Proven.{HasProvenSource}
 use Rattle.og_engine.specs.Inputs.{source_of, joined_of}
-use Rattle.og_engine.specs.Promised.{Promises, Wrote}
+use Rattle.og_engine.specs.Promised.{Promises}
+use Rattle.og_engine.specs.Wrote.{Wrote}
 use Rattle.og_engine.proofs.Fronts.{of_front, of_source_front}
 
 pub sound_source : (json : Bool) (source : List ℕ) (o : Program) (a : Answer) → IsSource source o → Promises json o a → a.status ≡ 0 → IsProvenSource source

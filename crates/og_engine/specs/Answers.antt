@@ -5,7 +5,6 @@ use Rattle.og_input.specs.Joined.{IsSplit}
 use Rattle.og_typed.specs.Syntax.{Program}
 use Rattle.og_judge.specs.declared.entry.Entry.{Entry}
 use Rattle.og_judge.specs.Entries.{is_safe}
-use Rattle.og_judge.specs.Proven.{IsProvenSource, IsNeverStuckSource}
 use Rattle.og_judge.specs.Report.{IsReport, IsRefused}
 use Rattle.og_report.specs.Report.{report_text}
 use Rattle.og_report.specs.Json.{json_text}
@@ -50,10 +49,3 @@ Writes json source certs before after status = (text : List ℕ) × IsOutput jso
 -- the answer for the one split of the input
 abbrev pub WritesJoined : Bool → List ℕ → Option (List ℕ) → Option (List ℕ) → ℕ → Type 0
 WritesJoined json input before after status = (source certs : List ℕ) × IsSplit input source certs × Writes json source certs before after status
-
--- the source that an input begins with is proven, or never gets stuck
-abbrev pub HasProvenSource : List ℕ → Type 0
-HasProvenSource input = (source certs : List ℕ) × IsSplit input source certs × IsProvenSource source
-
-abbrev pub HasNeverStuckSource : List ℕ → Type 0
-HasNeverStuckSource input = (source certs : List ℕ) × IsSplit input source certs × IsNeverStuckSource source

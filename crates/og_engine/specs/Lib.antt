@@ -1,6 +1,10 @@
 pub mod Answers
+pub mod NeverStuck
+pub mod Proven
 pub mod Commands
 pub mod Inputs
 pub mod Making
 pub mod Names
 pub mod Promised
+pub mod Wrote
+pub mod Unfinished

@@ -1,12 +1,12 @@
 -- What is printed of certificates that are made, and the status.
-use Rattle.std.specs.Prelude.{◌≡◌, ◌<◌, ◌≤◌, ◌⊎◌, ℕ, List, [], length, IsSome, ⊤}
+use Rattle.std.specs.Prelude.{◌≡◌, ◌<◌, ◌≤◌, ◌⊎◌, ℕ, List, [], length, IsSome}
 use Rattle.og_typed.specs.Syntax.{Program}
 use Rattle.og_cond.specs.Conditions.{conditions}
-use Rattle.og_cond.specs.declared.limits.TheConstants.{CONDITION_LIMIT}
+use Rattle.og_cond.specs.Limits.{condition_limit}
 use Rattle.og_cond.specs.declared.fault.ConditionsError.{ConditionsError}
 use Rattle.og_cond.specs.declared.fault.ConditionsError.TheVariants as errors
 use Rattle.og_cert_text.specs.Files.{Entries, certificate_of}
-use Rattle.og_cert_text.specs.Text.{file_text}
+use Rattle.og_cert_text.specs.Listing.{file_text}
 use Rattle.og_cert_text.specs.declared.fault.CertTextFault.{CertTextFault}
 use Rattle.og_cert_read.specs.Read.{IsWrong}
 use Rattle.og_find.specs.Found.{AreOf}
@@ -25,15 +25,15 @@ HasAll count es = (n : ℕ) → 0 < n → n ≤ count → IsSome (certificate_of
 abbrev pub TellsWhetherAll : ℕ → Entries → ℕ → Type 0
 TellsWhetherAll count es status = ((status ≡ 0) × HasAll count es) ⊎ ((status ≡ 1) × (HasAll count es → ⊥))
 
--- the text of certificates, each of a condition of the outline, and whether all have one
+-- the text of certificates, each of a condition of the outline, which are within the limit, and whether all have one
 abbrev pub IsFoundText : Program → Answer → Type 0
 IsFoundText o answer =
-    (es : Entries) × AreOf (conditions o) es × (answer.text.items ≡ file_text es) × TellsWhetherAll (length (conditions o)) es answer.status
+    (length (conditions o) ≤ condition_limit) × (es : Entries) × AreOf (conditions o) es × (answer.text.items ≡ file_text es) × TellsWhetherAll (length (conditions o)) es answer.status
 
--- why the certificates of an outline's conditions are not looked for
+-- why there are no certificates of an outline's conditions: there are too many conditions; or memory ran out, and there are not
 abbrev pub IsTooMany : Program → ConditionsError → Type 0
-IsTooMany o (errors.Fault fault) = CONDITION_LIMIT < length (conditions o)
-IsTooMany o errors.Memory = ⊤
+IsTooMany o (errors.Fault fault) = condition_limit < length (conditions o)
+IsTooMany o errors.Memory = length (conditions o) ≤ condition_limit
 
 -- that text, or the line that says that there are too many conditions
 abbrev pub IsFoundOf : Program → List ℕ → Answer → Type 0

@@ -2,7 +2,8 @@
 
 ghost use Rattle.std.specs.Prelude.{◌≡◌, ◌≤◌, ◌^◌, length, true, IfOk};
 ghost use Rattle.og_judge.specs.Entries.{is_unblocked};
-ghost use Rattle.og_judge.specs.Proven.{IsProvenSource, IsNeverStuckSource};
+ghost use Rattle.og_judge.specs.Proven.{IsProvenSource};
+ghost use Rattle.og_judge.specs.NeverStuck.{IsNeverStuckSource};
 ghost use Rattle.og_judge.specs.Shown.{outline_of, entries_of};
 ghost use Rattle.og_report.specs.Yes.{SaysUnblocked};
 ghost use Rattle.og_answer.specs.Told.{Says};

@@ -1,7 +1,7 @@
 //! The answers of the commands that print what an outline stands for.
 
 ghost use Rattle.std.specs.Prelude.{◌≡◌, IfOk};
-ghost use Rattle.og_parse.specs.Trees.{tree_of};
+ghost use Rattle.og_parse.specs.TreeOf.{tree_of};
 ghost use Rattle.og_typed.specs.Erase.{erased as erased_of};
 ghost use Rattle.og_erase.specs.Collected.{raw_of};
 ghost use Rattle.og_print.specs.Print.{program_text};

@@ -1,17 +1,21 @@
 //! The engines: they read, judge and write.
 
-ghost use Rattle.std.specs.Prelude.{◌≡◌, ◌≢◌, OnOk, IfOk, IfErr, IfSome};
-ghost use Rattle.std.specs.Io.KnownBytes.{Appends, Keeps};
+ghost use Rattle.std.specs.Prelude.{◌≡◌, ◌≢◌, IfOk, IfErr, IfSome, Some};
+ghost use Rattle.std.specs.Io.KnownBytes.{Consumes, Keeps};
 ghost use Rattle.og_engine.specs.Inputs.{source_of, certs_of, joined_of};
-ghost use Rattle.og_engine.specs.Answers.{Writes, WritesJoined, HasProvenSource, HasNeverStuckSource};
-ghost use Rattle.og_engine.specs.Promised.{Wrote};
-ghost use Rattle.og_judge.specs.Proven.{IsProvenSource, IsNeverStuckSource};
+ghost use Rattle.og_engine.specs.Answers.{Writes, WritesJoined};
+ghost use Rattle.og_engine.specs.NeverStuck.{HasNeverStuckSource};
+ghost use Rattle.og_engine.specs.Proven.{HasProvenSource};
+ghost use Rattle.og_engine.specs.Wrote.{Wrote};
+ghost use Rattle.og_engine.specs.Unfinished.{WritesFront, WritesJoinedFront};
+ghost use Rattle.og_judge.specs.Proven.{IsProvenSource};
+ghost use Rattle.og_judge.specs.NeverStuck.{IsNeverStuckSource};
 ghost use Rattle.og_report.specs.Yes.{SaysUnblocked};
 
 use crate::answer::checked;
-use crate::fault::{EngineFault, WriteFailed};
+use crate::fault::EngineFault;
 use crate::inputs::{read_certificates, read_joined, read_source};
-use og_answer::Answer;
+use crate::writing::write_answer;
 use og_input::split;
 use og_limits::Workers;
 use og_pool::Gate;
@@ -29,24 +33,6 @@ pub struct Options {
     pub json: bool,
 }
 
-/// Writes the answer's text and tells its status.
-///
-/// # Errors
-///
-/// The writer failed; some bytes may have been written then.
-pub fn write_answer<W: Write>(out: &mut W, answer: &Answer) -> Result<u8, WriteFailed>
-    ensures written { OnOk result (Appends (W.contents out.old) (W.contents out.new) answer.now.text.items) }
-    ensures status { IfOk result (λ status. status ≡ answer.now.status) }
-{
-    if out.write_all(answer.text.as_slice()).is_err() {
-        return Err(WriteFailed);
-    }
-    if out.flush().is_err() {
-        return Err(WriteFailed);
-    }
-    Ok(answer.status)
-}
-
 /// Reads a source and then certificates, each to its end or to one byte past its limit, judges, and
 /// writes the report, or the line of a refusal, and nothing else. The status is 0 where the outline
 /// is safe, 1 where it is not, 2 at a refusal. What status 0 says of the runs is as in `checked`. Each
@@ -56,7 +42,7 @@ pub fn write_answer<W: Write>(out: &mut W, answer: &Answer) -> Result<u8, WriteF
 ///
 /// `ReadFailed` where a reader failed or had not ended after so many reads, `Spawn` where a thread
 /// could not be started, `Memory` where an allocation was refused: nothing is written then.
-/// `WriteFailed` where the writer failed; some bytes may have been written then.
+/// `WriteFailed` where the writer failed: then a front of what was to be written may stand there.
 pub fn engine<R: Read, S: Read, W: Write, G: Gate, H: Threads + Wait + Sync>(
     rt: &H,
     alloc: Global,
@@ -71,7 +57,11 @@ pub fn engine<R: Read, S: Read, W: Write, G: Gate, H: Threads + Wait + Sync>(
     ensures sound { IfOk result (λ status. IfSome (R.remaining source.old) (λ s. status ≡ 0 → IsProvenSource (source_of s))) }
     ensures unblocked { IfOk result (λ status. IfSome (R.remaining source.old) (λ s. status ≡ 0
         → Wrote (SaysUnblocked options.json) (W.contents out.old) (W.contents out.new) → IsNeverStuckSource (source_of s))) }
+    ensures source { IfOk result (λ _. IfSome (R.remaining source.old) (λ s. Consumes (Some s) (R.remaining source.new) (source_of s))) }
+    ensures certs { IfOk result (λ _. IfSome (S.remaining certs.old) (λ c. Consumes (Some c) (S.remaining certs.new) (certs_of c))) }
     ensures unwritten { IfErr result (λ e. e ≢ EngineFault.WriteFailed → Keeps (W.contents out.old) (W.contents out.new)) }
+    ensures unfinished { IfErr result (λ e. e ≡ EngineFault.WriteFailed → IfSome (R.remaining source.old) (λ s. IfSome (S.remaining certs.old) (λ c.
+        WritesFront options.json (source_of s) (certs_of c) (W.contents out.old) (W.contents out.new)))) }
 {
     let source = read_source(alloc, source)?;
     let certs = read_certificates(alloc, certs)?;
@@ -100,7 +90,10 @@ pub fn engine_joined<R: Read, W: Write, G: Gate, H: Threads + Wait + Sync>(
     ensures sound { IfOk result (λ status. IfSome (R.remaining input.old) (λ i. status ≡ 0 → HasProvenSource (joined_of i))) }
     ensures unblocked { IfOk result (λ status. IfSome (R.remaining input.old) (λ i. status ≡ 0
         → Wrote (SaysUnblocked options.json) (W.contents out.old) (W.contents out.new) → HasNeverStuckSource (joined_of i))) }
+    ensures input { IfOk result (λ _. IfSome (R.remaining input.old) (λ i. Consumes (Some i) (R.remaining input.new) (joined_of i))) }
     ensures unwritten { IfErr result (λ e. e ≢ EngineFault.WriteFailed → Keeps (W.contents out.old) (W.contents out.new)) }
+    ensures unfinished { IfErr result (λ e. e ≡ EngineFault.WriteFailed → IfSome (R.remaining input.old) (λ i.
+        WritesJoinedFront options.json (joined_of i) (W.contents out.old) (W.contents out.new))) }
 {
     let input = read_joined(alloc, input)?;
     let (source, certs) = split(&input);

@@ -1,6 +1,7 @@
 //! Reading sources and certificates, each to one byte past its limit.
 
 ghost use Rattle.std.specs.Prelude.{◌≡◌, IfOk, IfSome};
+ghost use Rattle.std.specs.Io.KnownBytes.{Consumes};
 ghost use Rattle.og_engine.specs.Inputs.{source_of, certs_of, joined_of};
 
 use og_input::{ReadFault, read_up_to};
@@ -24,7 +25,8 @@ const JOINED_BYTES: usize = 68_157_441;
 /// an allocation was refused.
 #[tactic(auto, unfolding(crate::specs::Inputs::source_of))]
 pub fn read_source<R: Read>(alloc: Global, reader: &mut R) -> Result<Vec<u8>, ReadFault>
-    ensures { IfOk result (λ text. IfSome (R.remaining reader.old) (λ input. text.items ≡ source_of input)) }
+    ensures text { IfOk result (λ text. IfSome (R.remaining reader.old) (λ input. text.items ≡ source_of input)) }
+    ensures consumed { IfOk result (λ text. Consumes (R.remaining reader.old) (R.remaining reader.new) text.items) }
 {
     read_up_to(alloc, reader, SOURCE_BYTES)
 }
@@ -36,7 +38,8 @@ pub fn read_source<R: Read>(alloc: Global, reader: &mut R) -> Result<Vec<u8>, Re
 /// As `read_source`.
 #[tactic(auto, unfolding(crate::specs::Inputs::certs_of))]
 pub fn read_certificates<R: Read>(alloc: Global, reader: &mut R) -> Result<Vec<u8>, ReadFault>
-    ensures { IfOk result (λ text. IfSome (R.remaining reader.old) (λ input. text.items ≡ certs_of input)) }
+    ensures text { IfOk result (λ text. IfSome (R.remaining reader.old) (λ input. text.items ≡ certs_of input)) }
+    ensures consumed { IfOk result (λ text. Consumes (R.remaining reader.old) (R.remaining reader.new) text.items) }
 {
     read_up_to(alloc, reader, CERTS_BYTES)
 }
@@ -48,7 +51,8 @@ pub fn read_certificates<R: Read>(alloc: Global, reader: &mut R) -> Result<Vec<u
 /// As `read_source`.
 #[tactic(auto, unfolding(crate::specs::Inputs::joined_of))]
 pub fn read_joined<R: Read>(alloc: Global, reader: &mut R) -> Result<Vec<u8>, ReadFault>
-    ensures { IfOk result (λ text. IfSome (R.remaining reader.old) (λ input. text.items ≡ joined_of input)) }
+    ensures text { IfOk result (λ text. IfSome (R.remaining reader.old) (λ input. text.items ≡ joined_of input)) }
+    ensures consumed { IfOk result (λ text. Consumes (R.remaining reader.old) (R.remaining reader.new) text.items) }
 {
     read_up_to(alloc, reader, JOINED_BYTES)
 }

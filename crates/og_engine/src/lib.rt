@@ -7,11 +7,13 @@ mod engines;
 mod fault;
 mod inputs;
 mod making;
+mod writing;
 
 pub use answer::checked;
 pub use commands::{erased, listed};
-pub use engines::{Options, engine, engine_joined, write_answer};
+pub use engines::{Options, engine, engine_joined};
 pub use fault::{EngineFault, WriteFailed};
 pub use inputs::{read_certificates, read_joined, read_source};
 pub use making::{found, migrated};
 pub use og_answer::Answer;
+pub use writing::write_answer;

@@ -2,7 +2,7 @@
 
 ghost use Rattle.std.specs.Prelude.{◌≡◌, IfOk, IfErr};
 ghost use Rattle.og_cert_text.specs.Shown.{shown};
-ghost use Rattle.og_cert_text.specs.Text.{file_text};
+ghost use Rattle.og_cert_text.specs.Listing.{file_text};
 ghost use Rattle.og_engine.specs.Making.{TellsWhetherAll, IsFoundText, IsTooMany, IsFoundOf, IsFound, IsMigrated};
 
 use og_answer::{Answer, InputFault};

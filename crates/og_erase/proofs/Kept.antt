@@ -7,8 +7,10 @@ use Rattle.std.proofs.lemmas.List.{length-take-le, length-map}
 use mir.Syntax.{w64}
 use Rattle.std.proofs.lemmas.Bool.{and_parts, both_ways, cases_lt, lt-ltb, ltb-true, leb-false}
 use Rattle.og_linear.specs.Linear.{Terms, FormValue, is_term, is_small}
-use Rattle.og_typed.specs.Syntax.{Formula, True, False, Le, Eq, Ne, Not, And, Or, Imp, Formulas, none, more, Simple, Pass, Set, Statement, Skip, Assign, If, While, Await, Otherwise, Nothing, Else, Sequence, Last, Then, Program, Piece, pieces, pieces_of_stmt, pieces_of_else}
-use Rattle.og_typed.specs.Truth.{occurs_in, each_form, each_form_in}
+use Rattle.og_typed.specs.Syntax.{Formula, True, False, Le, Eq, Ne, Not, And, Or, Imp, Formulas, none, more, Simple, Pass, Set, Statement, Skip, Assign, If, While, Await, Otherwise, Nothing, Else, Sequence, Last, Then, Program}
+use Rattle.og_typed.specs.Pieces.{Piece, pieces, pieces_of_stmt, pieces_of_else}
+use Rattle.og_typed.specs.Forms.{each_form, each_form_in}
+use Rattle.og_typed.specs.Occurs.{occurs_in}
 use Rattle.og_typed.specs.Rule.{IsPlain, IsPlainForm, SimpleFollows, StatementFollows, SequenceFollows, is_usable_form, IsUsable, IsUsableSimple, IsUsableSequence, IsUsableStatement, IsUsableOtherwise, IsOutline}
 use Rattle.og_typed.specs.Erase.{is_aux_assign, is_kept, blank, erase_seq, erase_stmt, erase_else, erased}
 use Rattle.og_typed.proofs.Each.{each_append, each_left, each_right}

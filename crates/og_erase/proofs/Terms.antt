@@ -5,7 +5,8 @@ use Rattle.std.specs.List.{list_all}
 use Rattle.std.proofs.lemmas.Bool.{and_parts, ne_eqb}
 use Rattle.std.proofs.lemmas.Option.{none-some, same_Some, slice_get_within, get_or_from_slice_get}
 use Rattle.std.proofs.lemmas.List.{map_push, take_more}
-use Rattle.og_linear.specs.Linear.{Terms, IsTidyFrom, IsTidy}
+use Rattle.og_linear.specs.Linear.{Terms}
+use Rattle.og_linear.specs.Tidy.{IsTidyFrom, IsTidy}
 use Rattle.og_parse.specs.declared.raw.RawTerm.{RawTerm}
 use Rattle.og_erase.specs.Collected.{number, term, with_constant}
 use Rattle.og_erase.proofs.Turns.{if_false}

@@ -1,7 +1,8 @@
 -- The loops over a list of which some elements stay.
 use Rattle.std.proofs.Common.{◌≡◌, ℕ, suc, ◌+◌, ◌<◌, ◌≤◌, List, [], ◌∷◌, ◌++◌, map, length, drop, get_or, Bool, true, false, if◌then◌else◌, refl, sym, ap, ◌∙◌, append_assoc, drop-cons, add-one, drop_of_length-le}
 use Rattle.std.proofs.lemmas.List.{map_push, append-nil}
-use Rattle.og_typed.specs.Syntax.{Noted, Statement, Then, sequence_list}
+use Rattle.og_typed.specs.Syntax.{Noted, Statement, Then}
+use Rattle.og_typed.specs.Lists.{sequence_list}
 use Rattle.og_typed.specs.Erase.{is_aux_assign, blank, erase_seq, erase_stmt}
 
 pub drop_at : {X : Type 0} (all : List X) (i : ℕ) (x : X) → i < length all → x ≡ get_or all i x → drop i all ≡ x ∷ drop (i + 1) all

@@ -2,11 +2,12 @@
 
 ghost use Rattle.std.specs.Prelude.{◌≡◌, true, IfOk, length, map};
 ghost use Rattle.og_erase.specs.Collected as collected;
-ghost use Rattle.og_parse.specs.Trees.{assertion_of, listed, note_of};
+ghost use Rattle.og_parse.specs.Trees.{listed};
+ghost use Rattle.og_parse.specs.TreeOf.{assertion_of, note_of};
 ghost use Rattle.og_typed.specs.Plain.{formula, noted};
 ghost use Rattle.og_typed.specs.Rule.{is_usable_form, IsUsable};
-ghost use Rattle.og_typed.specs.Syntax.{formula_list};
-ghost use Rattle.og_typed.specs.Truth.{each_form_in};
+ghost use Rattle.og_typed.specs.Lists.{formula_list};
+ghost use Rattle.og_typed.specs.Forms.{each_form_in};
 
 use crate::forms::{NOWHERE, sum, zero};
 use og_linear::Form;

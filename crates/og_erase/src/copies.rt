@@ -1,8 +1,9 @@
 //! Copies of the parts of an outline that stay.
 
-ghost use Rattle.std.specs.Prelude.{◌≡◌, IfOk};
+ghost use Rattle.std.specs.Prelude.{◌≡◌, IfOk, IsOk};
 ghost use Rattle.og_typed.specs.Erase.{blank};
 ghost use Rattle.og_typed.specs.Plain.{noted, simple};
+ghost use Rattle.og_typed.specs.Syntax.{Pass};
 
 use og_text::Name;
 use og_typed::{Assert, Basic, Note};
@@ -43,8 +44,10 @@ pub(crate) fn blank_note(note: &Note) -> Note
     }
 }
 
+// Takes no memory for `skip`.
 pub(crate) fn copy_basic(basic: &Basic) -> Result<Basic, AllocError>
-    ensures { IfOk result (λ copy. simple copy ≡ simple basic.now) }
+    ensures copy { IfOk result (λ copy. simple copy ≡ simple basic.now) }
+    ensures skip { simple basic.now ≡ Pass → IsOk result }
 {
     match basic {
         Basic::Skip => Ok(Basic::Skip),

@@ -3,7 +3,7 @@
 ghost use Rattle.std.specs.Prelude.{◌≡◌, ◌<◌, ◌≤◌, ◌^◌, true, IfOk, length, nat_abs};
 ghost use Rattle.og_erase.specs.Collected as collected;
 ghost use Rattle.og_linear.specs.Linear.{fits_i64};
-ghost use Rattle.og_parse.specs.Trees.{sum_of};
+ghost use Rattle.og_parse.specs.TreeOf.{sum_of};
 ghost use Rattle.og_typed.specs.Rule.{is_usable_form};
 
 use crate::copies::copy_name;

@@ -3,7 +3,7 @@
 ghost use Rattle.std.specs.Prelude.{◌≡◌, ◌<◌, IfOk, IfSome, length, map, option_map};
 ghost use Rattle.std.specs.List.{AllByRecursion};
 ghost use Rattle.og_erase.specs.Collected as collected;
-ghost use Rattle.og_parse.specs.Trees.{seq_of, seqs_of, tree_of};
+ghost use Rattle.og_parse.specs.TreeOf.{seq_of, seqs_of, tree_of};
 ghost use Rattle.og_typed.specs.Plain as plain;
 ghost use Rattle.og_typed.specs.Rule.{IsUsableSequence};
 

@@ -3,7 +3,7 @@
 ghost use Rattle.std.specs.Prelude.{◌≡◌, IfOk, length, map};
 ghost use Rattle.std.specs.List.{AllByRecursion};
 ghost use Rattle.og_erase.specs.Collected as collected;
-ghost use Rattle.og_parse.specs.Trees.{assertion_of, basic_of, element_of, stmt_of, seq_of};
+ghost use Rattle.og_parse.specs.TreeOf.{assertion_of, basic_of, element_of, stmt_of, seq_of};
 ghost use Rattle.og_typed.specs.Plain as plain;
 ghost use Rattle.og_typed.specs.Syntax.{Set};
 ghost use Rattle.og_typed.specs.Rule.{IsUsable, IsUsableSimple, IsUsableStatement, IsUsableSequence};

@@ -1,6 +1,6 @@
 -- Counts of lists of assertions, one after another.
 use Rattle.std.proofs.Common.{◌≡◌, ◌≢◌, ℕ, List, [], ◌∷◌, map, length, get_or, Bool, true, false, Vec, Global, refl, ap, ◌∙◌, arith}
-use Rattle.og_typed.specs.Syntax.{formula_list}
+use Rattle.og_typed.specs.Lists.{formula_list}
 use Rattle.og_typed.specs.Plain.{formula}
 use Rattle.og_typed.specs.declared.assertion.Assert.{Assert}
 use Rattle.og_typed.specs.declared.assertion.Assert.TheViews as its

@@ -3,8 +3,8 @@ use Rattle.std.proofs.Common.{◌≡◌, ℕ, suc, ◌+◌, ◌<◌, ◌≤◌, 
 use Rattle.std.specs.Prelude.{option_map}
 use Rattle.std.proofs.lemmas.Option.{none-some, same_Some, option_and_then_some}
 use Rattle.og_linear.specs.Linear.{FormValue}
-use Rattle.og_linear.specs.Arith.{MapValue}
-use Rattle.og_typed.specs.Syntax.{formula_list}
+use Rattle.og_linear.specs.Bounded.{MapValue}
+use Rattle.og_typed.specs.Lists.{formula_list}
 use Rattle.og_typed.specs.Plain.{formula}
 use Rattle.og_typed.specs.declared.assertion.Assert.{Assert}
 use Rattle.og_typed.specs.declared.assertion.Assert.TheViews as its

@@ -5,8 +5,10 @@ use Rattle.std.specs.Ordering.{int_eq}
 use Rattle.std.proofs.lemmas.Int.{ints}
 use Rattle.std.proofs.lemmas.Bool.{false_from_ne_true, ltb-true, lt-ltb, and_from}
 use Rattle.std.proofs.lemmas.Bool.Decides.{Decides-int_eq}
-use Rattle.og_linear.specs.Linear.{Terms, FormValue, form_value, IsTidyFrom, IsTidy}
-use Rattle.og_linear.specs.Arith.{with_term, scale_terms, scaled, plus, add_scaled, variable, fits_i128, fits_terms, fits_form}
+use Rattle.og_linear.specs.Linear.{Terms, FormValue, form_value}
+use Rattle.og_linear.specs.Tidy.{IsTidyFrom, IsTidy}
+use Rattle.og_linear.specs.Arith.{with_term, scale_terms, scaled, plus, variable}
+use Rattle.og_linear.specs.Bounded.{add_scaled, fits_i128, fits_terms, fits_form}
 use Rattle.og_linear.specs.Answer.{checked}
 use Rattle.og_facts.specs.Facts.{Atom, plus_one, negated, equal, apart, split, checked_facts}
 use Rattle.og_facts.specs.Walk.{joined, part_and}

@@ -4,15 +4,17 @@ use Rattle.std.specs.Prelude.{option_map, nat_lt, Ok, Err}
 use Rattle.std.proofs.lemmas.List.{length-append}
 use Rattle.std.proofs.lemmas.Option.{none-some, same_Some, cond_some, option_and_then_some}
 use Rattle.og_linear.specs.Linear.{FormValue}
-use Rattle.og_linear.specs.Arith.{MapValue, apply}
+use Rattle.og_linear.specs.Bounded.{MapValue, apply}
 use Rattle.og_typed.specs.Syntax.{Formula, Formulas, True, False, Le, Eq, Ne, Not, And, Or, Imp, none, more, Simple}
 use Rattle.og_typed.specs.Truth.{truth}
-use Rattle.og_cond.specs.Condition.{Part, Yes, No, Hypothesis, Is, Starts, OneOf, Goal, Holds, Fits, Never, Condition, hypotheses_true, goal_true}
+use Rattle.og_cond.specs.Condition.{assignments, Part, Yes, No, Hypothesis, Is, Starts, OneOf, Goal, Holds, Fits, Never, Condition}
+use Rattle.og_cond.specs.Valid.{hypotheses_true, goal_true}
 use Rattle.og_subst.specs.Subst.{forward, values, after, after_all, low, high, ranges}
 use Rattle.og_subst.proofs.Moved.{after_action_said, fits_said}
 use Rattle.og_facts.specs.declared.fault.FactsFault.TheVariants as faults
 use Rattle.og_facts.specs.Counts.{split_count, count_yes, count_no, count_yes_all, count_no_all, counts_yes, counts_no, count_part, count_parts, count_hypothesis, count_hypotheses, count_goal, count}
-use Rattle.og_facts.specs.Facts.{Fact, all_true_at, no, facts_of_part, facts_of_parts, facts_of_hypothesis, facts_of_hypotheses, goal_before, all_fit_in, checked_facts, exact_facts, most_facts, or_too_large, facts_of}
+use Rattle.og_facts.specs.Facts.{Fact, no, facts_of_part, facts_of_parts, facts_of_hypothesis, facts_of_hypotheses, goal_before, all_fit_in, checked_facts, exact_facts, most_facts, or_too_large, facts_of}
+use Rattle.og_facts.specs.Truth.{all_true_at}
 use Rattle.og_facts.proofs.Truths.{all_append, no_true, hypotheses_said, length-yes, length-no, split_length}
 
 pub mapped : {A B : Type 0} (f : A → B) (o : Option A) (y : B) → option_map f o ≡ Some y → (x : A) × (o ≡ Some x) × (f x ≡ y)
@@ -26,20 +28,20 @@ goal_said action (Holds a) b s e = after_action_said action a b s e
 goal_said action Fits b s e = fits_said action b s e
 goal_said action Never b s e = let p = mapped (λ (m : MapValue). False) (forward action) b e in ap (λ c. truth c s) (sym p.2)
 
-exact_said : (c : Condition) (fs : List Fact) (s : List ℤ) → exact_facts c ≡ Some fs → all_true_at s fs ≡ (hypotheses_true s c.hypotheses && not (goal_true s c.action c.goal))
+exact_said : (c : Condition) (fs : List Fact) (s : List ℤ) → exact_facts c ≡ Some fs → all_true_at s fs ≡ (hypotheses_true s c.hypotheses && not (goal_true s (assignments c.action) c.goal))
 exact_said c fs s e =
-    option_and_then_some (λ a. checked_facts (facts_of_hypotheses c.hypotheses ++ no a)) (goal_before c.action c.goal) fs e
+    option_and_then_some (λ a. checked_facts (facts_of_hypotheses c.hypotheses ++ no a)) (goal_before (assignments c.action) c.goal) fs e
     (λ a p q.
     ap (all_true_at s) (sym (cond_some (all_fit_in (facts_of_hypotheses c.hypotheses ++ no a)) _ fs q).1)
     ∙ all_append s (facts_of_hypotheses c.hypotheses) (no a)
-    ∙ ap₂ ◌&&◌ (hypotheses_said c.hypotheses s) (no_true a s ∙ ap not (goal_said c.action c.goal a s p)))
+    ∙ ap₂ ◌&&◌ (hypotheses_said c.hypotheses s) (no_true a s ∙ ap not (goal_said (assignments c.action) c.goal a s p)))
 
 chosen_ok : (b : Bool) (o : Option (List Fact)) (fs : List Fact) → cond b (Err faults.TooManyFacts) (or_too_large o) ≡ Ok fs → (b ≡ false) × (o ≡ Some fs)
 chosen_ok true o fs e = absurd (cc)
 chosen_ok false None fs e = absurd (cc)
 chosen_ok false (Some gs) fs e = (refl, cc)
 
-pub facts_said : (c : Condition) (fs : List Fact) (s : List ℤ) → facts_of c ≡ Ok fs → all_true_at s fs ≡ (hypotheses_true s c.hypotheses && not (goal_true s c.action c.goal))
+pub facts_said : (c : Condition) (fs : List Fact) (s : List ℤ) → facts_of c ≡ Ok fs → all_true_at s fs ≡ (hypotheses_true s c.hypotheses && not (goal_true s (assignments c.action) c.goal))
 facts_said c fs s e = exact_said c fs s (chosen_ok (nat_lt most_facts (count c)) (exact_facts c) fs e).1
 
 -- ---- counts
@@ -119,11 +121,11 @@ hypotheses_counted (h ∷ hs) = length-append (facts_of_hypothesis h) (facts_of_
 
 exact_counted : (c : Condition) (fs : List Fact) → exact_facts c ≡ Some fs → length fs ≡ count c
 exact_counted c fs e =
-    option_and_then_some (λ a. checked_facts (facts_of_hypotheses c.hypotheses ++ no a)) (goal_before c.action c.goal) fs e
+    option_and_then_some (λ a. checked_facts (facts_of_hypotheses c.hypotheses ++ no a)) (goal_before (assignments c.action) c.goal) fs e
     (λ a p q.
     ap length (sym (cond_some (all_fit_in (facts_of_hypotheses c.hypotheses ++ no a)) _ fs q).1)
     ∙ length-append (facts_of_hypotheses c.hypotheses) (no a)
-    ∙ ap₂ ◌+◌ (hypotheses_counted c.hypotheses) (length-no a ∙ goal_counted c.action c.goal a p))
+    ∙ ap₂ ◌+◌ (hypotheses_counted c.hypotheses) (length-no a ∙ goal_counted (assignments c.action) c.goal a p))
 
 pub facts_counted : (c : Condition) (fs : List Fact) → facts_of c ≡ Ok fs → length fs ≡ count c
 facts_counted c fs e = exact_counted c fs (chosen_ok (nat_lt most_facts (count c)) (exact_facts c) fs e).1

@@ -9,8 +9,10 @@ use Rattle.std.proofs.lemmas.Bool.{false_from_ne_true, both_ways}
 use Rattle.og_linear.specs.Linear.{FormValue, form_value, val, value_at}
 use Rattle.og_typed.specs.Syntax.{Formula, Formulas, True, False, Le, Eq, Ne, Not, And, Or, Imp, none, more}
 use Rattle.og_typed.specs.Truth.{truth, all_true, some_true}
-use Rattle.og_cond.specs.Condition.{Part, Yes, No, Hypothesis, Is, Starts, OneOf, part_true, all_parts, some_parts, hypothesis_true, hypotheses_true}
-use Rattle.og_facts.specs.Facts.{Fact, Atom, facts_of_list, parts_of_list, fact_true, some_part_true, facts_true, all_true_at, plus_one, negated, split, equal, apart, yes, no, yes_all, no_all, yes_each, no_each, facts_of_part, facts_of_parts, facts_of_hypothesis, facts_of_hypotheses}
+use Rattle.og_cond.specs.Condition.{Part, Yes, No, Hypothesis, Is, Starts, OneOf}
+use Rattle.og_cond.specs.Valid.{part_true, all_parts, some_parts, hypothesis_true, hypotheses_true}
+use Rattle.og_facts.specs.Facts.{Fact, Atom, facts_of_list, parts_of_list, plus_one, negated, split, equal, apart, yes, no, yes_all, no_all, yes_each, no_each, facts_of_part, facts_of_parts, facts_of_hypothesis, facts_of_hypotheses}
+use Rattle.og_facts.specs.Truth.{fact_true, some_part_true, facts_true, all_true_at}
 use Rattle.og_facts.specs.Counts.{split_count, count_yes, count_no, count_yes_all, count_no_all, counts_yes, counts_no}
 use Rattle.og_linear.proofs.Values.{val-scaled}
 

@@ -2,10 +2,10 @@
 use Rattle.std.proofs.Common.{◌≡◌, List, [], ◌∷◌, ◌++◌, map, Bool, true, false, ◌&&◌, cond, Option, Some, None, refl, sym, ap, ap₂, ◌∙◌}
 use Rattle.std.specs.Prelude.{option_and_then, option_map}
 use Rattle.og_linear.specs.Linear.{FormValue}
-use Rattle.og_linear.specs.Arith.{MapValue}
+use Rattle.og_linear.specs.Bounded.{MapValue}
 use Rattle.og_typed.specs.Syntax.{Formula, Formulas, True, False, Le, Eq, Ne, Not, And, Or, Imp, none, more, Simple}
 use Rattle.og_subst.specs.Subst.{forward, values, after, after_all, low, high, ranges}
-use Rattle.og_cond.specs.Condition.{Part, Yes, No, Hypothesis, Is, Starts, OneOf, Goal, Holds, Fits, Never, Condition}
+use Rattle.og_cond.specs.Condition.{assignments, Part, Yes, No, Hypothesis, Is, Starts, OneOf, Goal, Holds, Fits, Never, Condition}
 use Rattle.og_facts.specs.Facts.{Fact, parts_of_list, fact_fits, parts_fit, split, yes, no, yes_all, no_all, yes_each, no_each, facts_of_part, facts_of_parts, facts_of_hypothesis, facts_of_hypotheses, goal_before, all_fit_in, checked_facts, exact_facts}
 use Rattle.og_facts.specs.Walk.{said, under, joined, part_and, walk, walk_all, walk_each, walk_part, walk_parts, walk_lists, walk_hypothesis, walk_hypotheses, beyond, walk_values, walk_goal}
 
@@ -254,10 +254,10 @@ goal_walked action m vs Never e f = ap (λ o. option_and_then (λ x. checked_fac
 
 -- ---- a condition
 
-pub facts_walked : (c : Condition) (m : MapValue) (vs : List FormValue) → forward c.action ≡ Some m → values c.action ≡ Some vs → joined (walk_hypotheses c.hypotheses) (walk_goal m vs c.goal) ≡ exact_facts c
+pub facts_walked : (c : Condition) (m : MapValue) (vs : List FormValue) → forward (assignments c.action) ≡ Some m → values (assignments c.action) ≡ Some vs → joined (walk_hypotheses c.hypotheses) (walk_goal m vs c.goal) ≡ exact_facts c
 facts_walked c m vs e f =
-    ap₂ joined (hypotheses_walked c.hypotheses) (goal_walked c.action m vs c.goal e f)
-    ∙ go (goal_before c.action c.goal)
+    ap₂ joined (hypotheses_walked c.hypotheses) (goal_walked (assignments c.action) m vs c.goal e f)
+    ∙ go (goal_before (assignments c.action) c.goal)
   where
     go : (o : Option Formula) → joined (checked_facts (facts_of_hypotheses c.hypotheses)) (option_and_then (λ a. checked_facts (no a)) o) ≡ option_and_then (λ a. checked_facts (facts_of_hypotheses c.hypotheses ++ no a)) o
     go None = joined_none (checked_facts (facts_of_hypotheses c.hypotheses))
@@ -269,5 +269,5 @@ unprepared action (Holds a) e f = ap (option_and_then (λ m. after m a)) e
 unprepared action Fits e f = ap (option_and_then (λ vs. option_map And (ranges vs))) f
 unprepared action Never e f = ap (option_map (λ (m : MapValue). False)) e
 
-pub facts_refused : (c : Condition) → forward c.action ≡ None → values c.action ≡ None → exact_facts c ≡ None
-facts_refused c e f = ap (option_and_then (λ a. checked_facts (facts_of_hypotheses c.hypotheses ++ no a))) (unprepared c.action c.goal e f)
+pub facts_refused : (c : Condition) → forward (assignments c.action) ≡ None → values (assignments c.action) ≡ None → exact_facts c ≡ None
+facts_refused c e f = ap (option_and_then (λ a. checked_facts (facts_of_hypotheses c.hypotheses ++ no a))) (unprepared (assignments c.action) c.goal e f)

@@ -1,10 +1,11 @@
 -- The facts of a condition: linear inequalities, and splits into parts, that are all true exactly where the hypotheses are true and the goal is false.
-use Rattle.std.specs.Prelude.{ℕ, ℤ, pos, negsuc, neg_ℤ, ◌+ℤ◌, List, [], ◌∷◌, ◌++◌, map, Bool, true, false, ◌&&◌, ◌||◌, if◌then◌else◌, nat_lt, Option, Some, None, Result, Ok, Err, option_and_then, option_map, int_le}
-use Rattle.og_linear.specs.Linear.{FormValue, form_value, val}
-use Rattle.og_linear.specs.Arith.{scaled, fits_form}
+use Rattle.std.specs.Prelude.{ℕ, ℤ, pos, negsuc, neg_ℤ, ◌+ℤ◌, List, [], ◌∷◌, ◌++◌, map, Bool, true, ◌&&◌, if◌then◌else◌, nat_lt, Option, Some, None, Result, Ok, Err, option_and_then, option_map}
+use Rattle.og_linear.specs.Linear.{FormValue, form_value}
+use Rattle.og_linear.specs.Arith.{scaled}
+use Rattle.og_linear.specs.Bounded.{fits_form}
 use Rattle.og_typed.specs.Syntax.{Formula, Formulas, True, False, Le, Eq, Ne, Not, And, Or, Imp, none, more, Simple}
 use Rattle.og_subst.specs.Subst.{forward, after_action, fits}
-use Rattle.og_cond.specs.Condition.{Part, Yes, No, Hypothesis, Is, Starts, OneOf, Goal, Holds, Fits, Never, Condition}
+use Rattle.og_cond.specs.Condition.{assignments, Part, Yes, No, Hypothesis, Is, Starts, OneOf, Goal, Holds, Fits, Never, Condition}
 use Rattle.og_facts.specs.declared.fault.FactsFault.{FactsFault}
 use Rattle.og_facts.specs.declared.fault.FactsFault.TheVariants as faults
 use Rattle.og_facts.specs.Counts.{count}
@@ -39,25 +40,6 @@ parts_of_list (p ∷ ps) = part (facts_of_list p) (parts_of_list ps)
 abbrev pub list_of_parts : Parts → List (List Fact)
 list_of_parts no_part = []
 list_of_parts (part p ps) = list_of_facts p ∷ list_of_parts ps
-
--- ---- when facts are true
-
-abbrev mutual
-  pub fact_true : List ℤ → Fact → Bool
-  fact_true s (Atom f) = int_le (val f s) (pos 0)
-  fact_true s (Split ps) = some_part_true s ps
-
-  pub some_part_true : List ℤ → Parts → Bool
-  some_part_true s no_part = false
-  some_part_true s (part p ps) = facts_true s p || some_part_true s ps
-
-  pub facts_true : List ℤ → Facts → Bool
-  facts_true s no_fact = true
-  facts_true s (fact f fs) = fact_true s f && facts_true s fs
-
-abbrev pub all_true_at : List ℤ → List Fact → Bool
-all_true_at s [] = true
-all_true_at s (f ∷ fs) = fact_true s f && all_true_at s fs
 
 -- ---- the table
 
@@ -171,7 +153,7 @@ checked_facts fs = if all_fit_in fs then Some fs else None
 
 -- the facts of a condition, if every number on the way to them fits
 abbrev pub exact_facts : Condition → Option (List Fact)
-exact_facts c = option_and_then (λ a. checked_facts (facts_of_hypotheses c.hypotheses ++ no a)) (goal_before c.action c.goal)
+exact_facts c = option_and_then (λ a. checked_facts (facts_of_hypotheses c.hypotheses ++ no a)) (goal_before (assignments c.action) c.goal)
 
 -- ---- the answer
 

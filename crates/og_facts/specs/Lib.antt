@@ -1,6 +1,7 @@
 pub mod Names
 pub mod Counts
 pub mod Facts
+pub mod Truth
 pub mod Plain
 pub mod Listed
 pub mod Codes

@@ -1,7 +1,7 @@
 -- The facts as they are made, form by form: each number is refused where it does not fit.
 use Rattle.std.specs.Prelude.{pos, neg_ℤ, List, [], ◌∷◌, ◌++◌, Bool, true, false, Option, Some, None, option_and_then, option_map}
 use Rattle.og_linear.specs.Linear.{FormValue, form_value}
-use Rattle.og_linear.specs.Arith.{MapValue, apply}
+use Rattle.og_linear.specs.Bounded.{MapValue, apply}
 use Rattle.og_typed.specs.Syntax.{Formula, Formulas, True, False, Le, Eq, Ne, Not, And, Or, Imp, none, more}
 use Rattle.og_subst.specs.Subst.{low, high}
 use Rattle.og_cond.specs.Condition.{Part, Yes, No, Hypothesis, Is, Starts, OneOf, Goal, Holds, Fits, Never}

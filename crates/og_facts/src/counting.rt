@@ -5,7 +5,7 @@
 
 ghost use Rattle.std.specs.Prelude.{map};
 ghost use Rattle.og_typed.specs.Plain.{formula};
-ghost use Rattle.og_typed.specs.Syntax.{formula_list};
+ghost use Rattle.og_typed.specs.Lists.{formula_list};
 ghost use Rattle.og_cond.specs.Counting.{Leaves};
 ghost use Rattle.og_cond.specs.Seen.{part_of, parts_of, hypothesis_of, seen};
 ghost use Rattle.og_facts.specs.Counts.{split_count, count_part, count_parts, count_hypothesis, count_hypotheses, count};

@@ -22,4 +22,4 @@ pub use fault::{FactsError, FactsFault};
 pub use laws::facts_law;
 pub use limits::FACT_LIMIT;
 pub use list::FactList;
-pub use listing::{facts, facts_with};
+pub use listing::{facts, facts_with, has_few_facts};

@@ -1,8 +1,10 @@
 //! The list of the facts of a condition.
 
-ghost use Rattle.std.specs.Prelude.{◌≤◌};
+ghost use Rattle.std.specs.Prelude.{◌≤◌, ◌↔◌, IsErrOf, IsTrue};
 ghost use Rattle.og_linear.specs.Answer.{IsAnswer};
 ghost use Rattle.og_linear.specs.declared.fault.FormFault.TheVariants as faults;
+ghost use Rattle.og_linear.specs.declared.fault.FormError.TheVariants as form_errors;
+ghost use Rattle.og_facts.specs.declared.fault.FactsError.TheVariants as errors;
 ghost use Rattle.og_cond.specs.Seen.{seen};
 ghost use Rattle.og_facts.specs.Answer.{IsFacts, IsPrepared, shown};
 ghost use Rattle.og_facts.specs.Counts.{count};
@@ -70,13 +72,21 @@ fn listed(
 ) -> Result<FactList, FactsError>
     requires few { count (seen condition.now) ≤ most_facts }
     requires facts { IsAnswer shown faults.TooLarge facts (exact_facts (seen condition.now)) }
-    ensures { IsFacts (seen condition.now) result }
+    ensures facts { IsFacts (seen condition.now) result }
+    ensures memory { IsErrOf result errors.Memory → IsErrOf facts form_errors.Memory }
 {
     match facts {
         Ok(facts) => Ok(FactList::new(facts, condition.variables)),
         Err(FormError::Memory) => Err(FactsError::Memory),
         Err(FormError::Fault(_)) => Err(FactsError::Fault(FactsFault::TooLarge)),
     }
+}
+
+/// Whether a condition has at most `FACT_LIMIT` facts, whatever their numbers. Takes no memory.
+pub fn has_few_facts(condition: &Condition) -> bool
+    ensures { IsTrue result ↔ (count (seen condition.now) ≤ most_facts) }
+{
+    size_of(condition).is_some()
 }
 
 /// The facts of a condition: those of its hypotheses in order, and then those that say that its

@@ -2,7 +2,7 @@
 
 ghost use Rattle.std.specs.Prelude.{◌≡◌, [], ◌∷◌, IfOk};
 ghost use Rattle.og_linear.specs.Linear.{form_value};
-ghost use Rattle.og_linear.specs.Arith.{add_scaled};
+ghost use Rattle.og_linear.specs.Bounded.{add_scaled};
 ghost use Rattle.og_linear.specs.Answer.{IsAnswer, checked};
 ghost use Rattle.og_linear.specs.declared.fault.FormFault.TheVariants as faults;
 ghost use Rattle.og_facts.specs.Answer.{shown, added_to};

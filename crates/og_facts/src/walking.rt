@@ -4,7 +4,7 @@ ghost use Rattle.std.specs.Prelude.{◌≡◌, [], ◌∷◌, ◌++◌, Some, ma
 ghost use Rattle.og_linear.specs.Answer.{IsAnswer};
 ghost use Rattle.og_linear.specs.declared.fault.FormFault.TheVariants as faults;
 ghost use Rattle.og_typed.specs.Plain.{formula};
-ghost use Rattle.og_typed.specs.Syntax.{formula_list};
+ghost use Rattle.og_typed.specs.Lists.{formula_list};
 ghost use Rattle.og_facts.specs.Answer.{shown, added_to};
 ghost use Rattle.og_facts.specs.Facts.{impossible, split};
 ghost use Rattle.og_facts.specs.Walk.{walk_relation, walk, walk_all, walk_each};

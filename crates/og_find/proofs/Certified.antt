@@ -3,8 +3,10 @@ use Rattle.std.proofs.Common.{◌≡◌, inl, inr, ℕ, ◌-◌, ◌<◌, ℤ, L
 use Rattle.std.specs.Prelude.{nat_lt, slice_get, IsOkAnd, IfOk, OnOk, Result, Err, if◌then◌else◌}
 use Rattle.std.specs.List.{AllByRecursion}
 use Rattle.og_linear.specs.Linear.{IsProper}
-use Rattle.og_cond.specs.Condition.{Condition, IsValid, hypotheses_true, goal_true}
-use Rattle.og_facts.specs.Facts.{Fact, facts_of, all_true_at}
+use Rattle.og_cond.specs.Condition.{assignments, Condition}
+use Rattle.og_cond.specs.Valid.{IsValid, hypotheses_true, goal_true}
+use Rattle.og_facts.specs.Facts.{Fact, facts_of}
+use Rattle.og_facts.specs.Truth.{all_true_at}
 use Rattle.og_facts.specs.Listed.{Listed}
 use Rattle.og_facts.specs.declared.fault.FactsFault.{FactsFault}
 use Rattle.og_facts.proofs.Refuted.{facts_said}
@@ -35,8 +37,8 @@ certified_valid c proof h = go (facts_of c) refl h.1
 -- facts that are true at a state say that the condition is false there
 pub falsified : (c : Condition) (list : Listed) (s : List ℤ) → facts_of c ≡ Ok list.facts → list.variables ≡ c.variables → IsProper s → length s ≡ list.variables → all_true_at s list.facts ≡ true → IsFalseAt c s
 falsified c list s e v p l t =
-    let both : (hypotheses_true s c.hypotheses && not (goal_true s c.action c.goal)) ≡ true = sym (facts_said c list.facts s e) ∙ t in
-    let parts = split (hypotheses_true s c.hypotheses) (goal_true s c.action c.goal) both in
+    let both : (hypotheses_true s c.hypotheses && not (goal_true s (assignments c.action) c.goal)) ≡ true = sym (facts_said c list.facts s e) ∙ t in
+    let parts = split (hypotheses_true s c.hypotheses) (goal_true s (assignments c.action) c.goal) both in
     (p, l ∙ v, parts.0, parts.1)
   where
     split : (a b : Bool) → (a && not b) ≡ true → (a ≡ true) × (b ≡ false)

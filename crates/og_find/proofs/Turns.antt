@@ -5,7 +5,8 @@ use Rattle.std.proofs.lemmas.Option.{slice_get_within, get_or_from_slice_get, no
 use Rattle.std.proofs.lemmas.Int.{ints}
 use Rattle.og_linear.specs.Linear.{Terms, FormValue, value_at, val_terms, val}
 use Rattle.og_facts.specs.declared.fact.Fact as its
-use Rattle.og_facts.specs.Facts.{fact_true, some_part_true, all_true_at, facts_true, facts_of_list, parts_of_list}
+use Rattle.og_facts.specs.Facts.{facts_of_list, parts_of_list}
+use Rattle.og_facts.specs.Truth.{fact_true, some_part_true, all_true_at, facts_true}
 use Rattle.og_facts.specs.Plain.{plain_fact}
 use Rattle.og_facts.specs.Answer.{shown}
 use Rattle.og_facts.proofs.Adding.{drop_item}

@@ -2,12 +2,14 @@
 use Rattle.std.specs.Prelude.{◌≡◌, ◌⊎◌, ℕ, ◌-◌, ◌<◌, ℤ, List, length, true, false, ⊤, IsSomeAnd, IsOkAnd, slice_get}
 use Rattle.std.specs.List.{AllByRecursion}
 use Rattle.og_linear.specs.Linear.{IsProper}
-use Rattle.og_cond.specs.Condition.{Condition, hypotheses_true, goal_true}
-use Rattle.og_facts.specs.Facts.{facts_of, all_true_at}
+use Rattle.og_cond.specs.Condition.{assignments, Condition}
+use Rattle.og_cond.specs.Valid.{hypotheses_true, goal_true}
+use Rattle.og_facts.specs.Facts.{facts_of}
+use Rattle.og_facts.specs.Truth.{all_true_at}
 use Rattle.og_facts.specs.Listed.{Listed}
 use Rattle.og_cert_text.specs.Tree.{Cert}
 use Rattle.og_cert_text.specs.Plain.{plain_cert}
-use Rattle.og_cert_text.specs.Lines.{is_well_formed}
+use Rattle.og_cert_text.specs.Shallow.{is_well_formed}
 use Rattle.og_cert_text.specs.Files.{Entries, with_entry}
 use Rattle.og_cert.specs.Closes.{closes}
 use Rattle.og_find.specs.declared.verdict.Verdict.{Verdict}
@@ -19,7 +21,7 @@ Certifies c proof = (is_well_formed proof ≡ true) × IsOkAnd (facts_of c) (λ 
 
 -- a state of i64 values, one for each variable, in which the hypotheses are true and the goal is false
 abbrev pub IsFalseAt : Condition → List ℤ → Type 0
-IsFalseAt c s = IsProper s × (length s ≡ c.variables) × (hypotheses_true s c.hypotheses ≡ true) × (goal_true s c.action c.goal ≡ false)
+IsFalseAt c s = IsProper s × (length s ≡ c.variables) × (hypotheses_true s c.hypotheses ≡ true) × (goal_true s (assignments c.action) c.goal ≡ false)
 
 -- what is told of the condition is so
 abbrev pub IsVerdict : Condition → Verdict → Type 0

@@ -1,9 +1,9 @@
 //! Certificates of conditions, and states in which conditions are false.
 
 ghost use Rattle.std.specs.Prelude.{◌≡◌, length, true, IfOk, IfSome, OnSome, IsTrue, vec_len};
-ghost use Rattle.og_cond.specs.Condition as plain;
+ghost use Rattle.og_cond.specs.Valid.{IsValid};
 ghost use Rattle.og_cond.specs.Seen.{seen};
-ghost use Rattle.og_facts.specs.Facts.{all_true_at};
+ghost use Rattle.og_facts.specs.Truth.{all_true_at};
 ghost use Rattle.og_cert_text.specs.Plain.{plain_cert};
 ghost use Rattle.og_find.specs.Found.{Certifies, Closes, IsVerdict, IsVerdictOn};
 
@@ -119,7 +119,7 @@ pub fn examine(alloc: Global, condition: &Condition, budget: u64) -> Result<Verd
 /// `AllocError` where an allocation was refused.
 pub fn find(alloc: Global, condition: &Condition, budget: u64) -> Result<Option<Cert>, AllocError>
     ensures certified { IfOk result (λ found. IfSome found (λ cert. Certifies (seen condition.now) (plain_cert cert))) }
-    ensures valid { IfOk result (λ found. OnSome found (plain.IsValid (seen condition.now))) }
+    ensures valid { IfOk result (λ found. OnSome found (IsValid (seen condition.now))) }
 {
     match examine(alloc, condition, budget)? {
         Verdict::True(cert) => Ok(Some(cert)),

@@ -3,7 +3,8 @@
 ghost use Rattle.std.specs.Prelude.{◌≡◌, ◌+ℤ◌, ◌*ℤ◌, map, true, IsTrue, IfSome};
 ghost use Rattle.og_linear.specs.Linear.{val, value_at};
 ghost use Rattle.og_facts.specs.Answer.{shown};
-ghost use Rattle.og_facts.specs.Facts.{Atom, fact_true, some_part_true, all_true_at, parts_of_list};
+ghost use Rattle.og_facts.specs.Facts.{Atom, parts_of_list};
+ghost use Rattle.og_facts.specs.Truth.{fact_true, some_part_true, all_true_at};
 ghost use Rattle.og_facts.specs.Plain.{plain_fact};
 
 use og_facts::Fact;

@@ -13,3 +13,9 @@ Fails (refusals.Fault kind) left outcome = outcome ≡ Err (kind, left)
 abbrev pub IsRead : {X Y : Type 0} → (X → Y) → Result X Refusal → List Token → Outcome Y → Type 0
 IsRead view (Ok x) left outcome = outcome ≡ Ok (view x, left)
 IsRead view (Err e) left outcome = Fails e left outcome
+
+-- P, where memory ran out
+abbrev pub OnMemory : {X : Type 0} → Result X Refusal → Type 0 → Type 0
+OnMemory (Ok x) P = Unit {0}
+OnMemory (Err refusals.Memory) P = P
+OnMemory (Err (refusals.Fault kind)) P = Unit {0}

@@ -3,7 +3,7 @@
 ghost use Rattle.std.specs.Prelude.{◌≡◌, List, ◌∷◌, [], Ok, drop, MatchOption};
 ghost use Rattle.std.specs.Bool.{MatchBool};
 ghost use Rattle.og_text.specs.declared.token.Token.{Token};
-ghost use Rattle.og_grammar.specs.Gives.{IsRead};
+ghost use Rattle.og_grammar.specs.Gives.{IsRead, OnMemory};
 ghost use Rattle.og_grammar.specs.Language.{first_place};
 ghost use Rattle.og_grammar.specs.Reading.{starts, is_a, symbol_at};
 
@@ -90,10 +90,11 @@ impl<'a> Cursor<'a> {
         found
     }
 
-    /// Reads a keyword or symbol, and returns its place. A fault goes past nothing.
+    /// Reads a keyword or symbol, and returns its place. A fault goes past nothing. Takes no memory.
     #[tactic(auto, using(crate::proofs::Symbols::no_symbol))]
     pub fn expect(&mut self, kind: &TokenKind) -> Result<Span, Refusal>
-        ensures { IsRead (λ span. span) result self.new (symbol_at kind.now self.old) }
+        ensures read { IsRead (λ span. span) result self.new (symbol_at kind.now self.old) }
+        ensures memory { OnMemory result ⊥ }
     {
         let span = self.span();
         if !self.eat(kind) {

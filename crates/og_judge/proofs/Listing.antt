@@ -5,7 +5,8 @@ use Rattle.std.proofs.Math.Seq.{take-append_seam}
 use Rattle.std.proofs.lemmas.List.{length-map}
 use Rattle.std.proofs.lemmas.Option.{same_Some, slice_get_within, get_or_from_slice_get}
 use Rattle.std.proofs.lemmas.Bool.{and_parts}
-use Rattle.og_cond.specs.Condition.{Condition, IsValid, AreValid}
+use Rattle.og_cond.specs.Condition.{Condition}
+use Rattle.og_cond.specs.Valid.{IsValid, AreValid}
 use Rattle.og_facts.specs.Facts.{Fact, facts_of}
 use Rattle.og_facts.specs.declared.fault.FactsFault.{FactsFault}
 use Rattle.og_cert_text.specs.Tree.{Cert}
@@ -17,7 +18,8 @@ use Rattle.og_cert_text.specs.declared.file.CertFile.{CertFile}
 use Rattle.og_cert.specs.Faults.{first_fault}
 use Rattle.og_cert.specs.Law.{ClosesWithoutFault, ClosedIsValid}
 use Rattle.og_cert.specs.declared.fault.ReplayFault.{ReplayFault}
-use Rattle.og_pool.specs.Status.{by_fault, by_facts, by_cert, by_condition, status_of}
+use Rattle.og_pool.specs.Status.{by_fault, by_facts, by_cert}
+use Rattle.og_pool.specs.Numbered.{by_condition, status_of}
 use Rattle.og_pool.specs.declared.status.Status.{Status}
 use Rattle.og_judge.specs.declared.entry.Entry.{Entry}
 use Rattle.og_judge.specs.Entries.{entry_of, entries_from, is_proved, is_safe, is_there_and_proved, is_unblocked}

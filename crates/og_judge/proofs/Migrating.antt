@@ -1,7 +1,8 @@
 -- Two texts that give one file answer alike.
 use Rattle.std.proofs.Common.{◌≡◌, ◌≤◌, sym, subst, List, ℕ, length, Result, Ok, Err, true, arith}
 use Rattle.og_typed.specs.Syntax.{Program}
-use Rattle.og_cert_text.specs.Files.{Entries, is_file}
+use Rattle.og_cert_text.specs.Files.{Entries}
+use Rattle.og_cert_text.specs.Rising.{is_file}
 use Rattle.og_cert_read.specs.Text.{most_text}
 use Rattle.og_cert_read.specs.Reading.{LineFault}
 use Rattle.og_cert_read.specs.Read.{Gives}

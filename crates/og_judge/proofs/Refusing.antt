@@ -1,36 +1,38 @@
 -- From the errors of the parts to the refusal of the whole.
 use Rattle.std.proofs.Common.{◌≡◌, ℕ, ◌≤◌, List, length, Ok, Err, Some, sym, subst}
 use Rattle.og_typed.specs.Syntax.{Program}
-use Rattle.og_source.specs.Source.{IsSource, IsNotRead}
+use Rattle.og_source.specs.Source.{IsSource}
+use Rattle.og_source.specs.Refused.{IsNotRead}
 use Rattle.og_source.specs.declared.fault.SourceError.{SourceError}
 use Rattle.og_source.specs.declared.fault.SourceError.TheVariants as errors
 use Rattle.og_cond.specs.Conditions.{conditions}
-use Rattle.og_cond.specs.declared.limits.TheConstants.{CONDITION_LIMIT}
+use Rattle.og_cond.specs.Limits.{condition_limit}
 use Rattle.og_cond.specs.declared.fault.ConditionsError.{ConditionsError}
 use Rattle.og_cond.specs.declared.fault.ConditionsError.TheVariants as listed
 use Rattle.og_cond.specs.Answer.{IsListed}
-use Rattle.og_cert_text.specs.Files.{Entries, IsLeastAbove}
+use Rattle.og_cert_text.specs.Files.{Entries}
+use Rattle.og_cert_text.specs.Rising.{IsLeastAbove}
 use Rattle.og_cert_text.specs.declared.fault.CertTextError.{CertTextError}
 use Rattle.og_cert_text.specs.declared.fault.CertTextError.TheVariants as certs
-use Rattle.og_cert_read.specs.Read.{Gives, IsRead}
+use Rattle.og_cert_read.specs.Read.{Gives}
+use Rattle.og_cert_read.specs.Answered.{IsRead}
 use Rattle.og_answer.specs.declared.fault.InputFault.TheVariants as faults
 use Rattle.og_judge.specs.declared.refusal.Refusal.{Refusal}
 use Rattle.og_judge.specs.declared.refusal.Refusal.TheVariants as refusal
 use Rattle.og_judge.specs.Errors.{of_source, of_conditions, of_certs}
-use Rattle.og_judge.specs.Entries.{AreNotFound}
-use Rattle.og_judge.specs.Report.{IsNotJudged}
+use Rattle.og_judge.specs.NotJudged.{AreNotFound, IsNotJudged}
 
 pub conditions_refused : (certs : List ℕ) (o : Program) (e : ConditionsError) (why : Refusal)
-    → IsListed CONDITION_LIMIT (conditions o) (Err e) → why ≡ of_conditions e → AreNotFound certs o why
+    → IsListed condition_limit (conditions o) (Err e) → why ≡ of_conditions e → AreNotFound certs o why
 conditions_refused certs o listed.Memory why h is = subst (AreNotFound certs o) (sym is) tt
 conditions_refused certs o (listed.Fault fault) why h is = subst (AreNotFound certs o) (sym is) h
 
 pub certs_refused : (text : List ℕ) (o : Program) (e : CertTextError) (why : Refusal)
-    → length (conditions o) ≤ CONDITION_LIMIT → IsRead text (Err e) → why ≡ of_certs e → AreNotFound text o why
+    → length (conditions o) ≤ condition_limit → IsRead text (Err e) → why ≡ of_certs e → AreNotFound text o why
 certs_refused text o certs.Memory why few h is = subst (AreNotFound text o) (sym is) tt
 certs_refused text o (certs.Fault fault) why few h is = subst (AreNotFound text o) (sym is) (few, h)
 
-pub stray_refused : (text : List ℕ) (o : Program) (file : Entries) (count n : ℕ) → length (conditions o) ≤ CONDITION_LIMIT → Gives text (Ok file)
+pub stray_refused : (text : List ℕ) (o : Program) (file : Entries) (count n : ℕ) → length (conditions o) ≤ condition_limit → Gives text (Ok file)
     → count ≡ length (conditions o) → IsLeastAbove count file (Some n) → AreNotFound text o (refusal.Input (faults.Stray n))
 stray_refused text o file count n few read same h =
     let least = subst (λ (m : ℕ). IsLeastAbove m file (Some n)) same h in

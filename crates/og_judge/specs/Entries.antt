@@ -1,10 +1,10 @@
 -- What is found of the conditions of an outline by a text of certificates.
-use Rattle.std.specs.Prelude.{◌≡◌, ℕ, suc, ◌<◌, ◌≤◌, List, [], ◌∷◌, length, Bool, true, false, Option, Some, None, IsSome, Ok, ⊤, take, slice_get, ◌-◌}
+use Rattle.std.specs.Prelude.{◌≡◌, ℕ, suc, ◌<◌, ◌≤◌, List, [], ◌∷◌, length, Bool, true, false, Option, Some, None, IsSome, Ok, take, slice_get, ◌-◌}
 use Rattle.std.specs.List.{list_all}
 use Rattle.og_typed.specs.Syntax.{Program}
 use Rattle.og_cond.specs.Condition.{Condition}
 use Rattle.og_cond.specs.Conditions.{conditions}
-use Rattle.og_cond.specs.declared.limits.TheConstants.{CONDITION_LIMIT}
+use Rattle.og_cond.specs.Limits.{condition_limit}
 use Rattle.og_cert_text.specs.Files.{Entries, certificate_of}
 use Rattle.og_cert_read.specs.Read.{Gives, IsWrong}
 use Rattle.og_pool.specs.Status.{by_cert}
@@ -13,8 +13,6 @@ use Rattle.og_pool.specs.declared.status.Status.TheVariants as status
 use Rattle.og_answer.specs.declared.fault.InputFault.{InputFault}
 use Rattle.og_answer.specs.declared.fault.InputFault.TheVariants as faults
 use Rattle.og_judge.specs.declared.entry.Entry.{Entry}
-use Rattle.og_judge.specs.declared.refusal.Refusal.{Refusal}
-use Rattle.og_judge.specs.declared.refusal.Refusal.TheVariants as refusal
 
 -- ---- conditions with their statuses
 
@@ -32,7 +30,7 @@ HasNoneAbove n file = (m : ℕ) → n < m → certificate_of m file ≡ None
 
 -- the statuses of the outline's conditions by the certificates of the text
 pub record AreEntries (certs : List ℕ) (o : Program) (entries : List Entry) : Type 0 where
-  pub few : length (conditions o) ≤ CONDITION_LIMIT
+  pub few : length (conditions o) ≤ condition_limit
   pub file : Entries
   pub read : Gives certs (Ok file)
   pub none_stray : HasNoneAbove (length (conditions o)) file
@@ -42,7 +40,7 @@ pub record AreEntries (certs : List ℕ) (o : Program) (entries : List Entry) : 
 
 -- the least number that has a certificate and no condition
 pub record IsStray (certs : List ℕ) (o : Program) (n : ℕ) : Type 0 where
-  pub few : length (conditions o) ≤ CONDITION_LIMIT
+  pub few : length (conditions o) ≤ condition_limit
   pub file : Entries
   pub read : Gives certs (Ok file)
   pub above : length (conditions o) < n
@@ -52,15 +50,9 @@ pub record IsStray (certs : List ℕ) (o : Program) (n : ℕ) : Type 0 where
 -- what is wrong with an outline and the text of its certificates
 abbrev pub AreRefused : List ℕ → Program → InputFault → Type 0
 AreRefused certs o (faults.Source fault) = ⊥
-AreRefused certs o (faults.Conditions fault) = CONDITION_LIMIT < length (conditions o)
-AreRefused certs o (faults.Certs fault) = (length (conditions o) ≤ CONDITION_LIMIT) × IsWrong certs fault
+AreRefused certs o (faults.Conditions fault) = condition_limit < length (conditions o)
+AreRefused certs o (faults.Certs fault) = (length (conditions o) ≤ condition_limit) × IsWrong certs fault
 AreRefused certs o (faults.Stray n) = IsStray certs o n
-
--- that fault; want of threads, or of memory, says nothing of the texts
-abbrev pub AreNotFound : List ℕ → Program → Refusal → Type 0
-AreNotFound certs o (refusal.Input fault) = AreRefused certs o fault
-AreNotFound certs o refusal.Spawn = ⊤
-AreNotFound certs o refusal.Memory = ⊤
 
 -- ---- what follows from the statuses
 

@@ -1,12 +1,11 @@
 -- What is reported of a source and a text of certificates: the first fault, or the status of each condition.
-use Rattle.std.specs.Prelude.{ℕ, List, ⊤}
+use Rattle.std.specs.Prelude.{ℕ, List}
 use Rattle.og_typed.specs.Syntax.{Program}
-use Rattle.og_source.specs.Source.{IsSource, IsSourceFault}
+use Rattle.og_source.specs.Source.{IsSource}
+use Rattle.og_source.specs.Refused.{IsSourceFault}
 use Rattle.og_answer.specs.declared.fault.InputFault.{InputFault}
 use Rattle.og_answer.specs.declared.fault.InputFault.TheVariants as faults
 use Rattle.og_judge.specs.declared.entry.Entry.{Entry}
-use Rattle.og_judge.specs.declared.refusal.Refusal.{Refusal}
-use Rattle.og_judge.specs.declared.refusal.Refusal.TheVariants as refusal
 use Rattle.og_judge.specs.Entries.{AreEntries, AreRefused}
 
 -- the outline of the source, and the statuses of its conditions by the certificates of the text
@@ -24,9 +23,3 @@ IsRefused source certs (faults.Source fault) = IsSourceFault source fault
 IsRefused source certs (faults.Conditions fault) = IsOutlineRefused source certs (faults.Conditions fault)
 IsRefused source certs (faults.Certs fault) = IsOutlineRefused source certs (faults.Certs fault)
 IsRefused source certs (faults.Stray n) = IsOutlineRefused source certs (faults.Stray n)
-
--- that fault; want of threads, or of memory, says nothing of the texts
-abbrev pub IsNotJudged : List ℕ → List ℕ → Refusal → Type 0
-IsNotJudged source certs (refusal.Input fault) = IsRefused source certs fault
-IsNotJudged source certs refusal.Spawn = ⊤
-IsNotJudged source certs refusal.Memory = ⊤

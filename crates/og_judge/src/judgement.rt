@@ -2,7 +2,8 @@
 
 ghost use Rattle.std.specs.Prelude.{◌≡◌, true, is_some, IfSome};
 ghost use Rattle.og_typed.specs.Erase.{erased};
-ghost use Rattle.og_theorem.specs.Sound.{IsSound, IsSoundErased, IsNeverStuck};
+ghost use Rattle.og_theorem.specs.Sound.{IsSound, IsSoundErased};
+ghost use Rattle.og_theorem.specs.NeverStuck.{IsNeverStuck};
 ghost use Rattle.og_judge.specs.Entries.{is_safe, is_unblocked};
 
 use crate::entry::Entry;

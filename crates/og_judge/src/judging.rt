@@ -2,8 +2,9 @@
 
 ghost use Rattle.std.specs.Prelude.{◌≡◌, ◌<◌, ◌≤◌, ◌^◌, length, map, IfOk, IfErr};
 ghost use Rattle.og_cond.specs.Seen.{seen};
-ghost use Rattle.og_judge.specs.Entries.{entry_of, AreEntries, AreNotFound, is_safe, is_unblocked};
-ghost use Rattle.og_judge.specs.Report.{IsReport, IsNotJudged};
+ghost use Rattle.og_judge.specs.Entries.{entry_of, AreEntries, is_safe, is_unblocked};
+ghost use Rattle.og_judge.specs.NotJudged.{AreNotFound, IsNotJudged};
+ghost use Rattle.og_judge.specs.Report.{IsReport};
 ghost use Rattle.og_judge.specs.Parts.{AreListed, told_from};
 ghost use Rattle.og_judge.specs.Shown.{looked_at, found_of, outline_of, entries_of};
 

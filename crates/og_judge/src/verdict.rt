@@ -2,7 +2,7 @@
 
 ghost use Rattle.std.specs.Prelude.{◌≡◌, true, is_some, IfSome};
 ghost use Rattle.og_judge.specs.Judged.{judged};
-ghost use Rattle.og_theorem.specs.Sound.{IsSafe, IsUnblocked};
+ghost use Rattle.og_theorem.specs.Proved.{IsSafe, IsUnblocked};
 
 use og_theorem::Proved;
 use og_typed::Outline;
@@ -21,7 +21,7 @@ pub(crate) struct Verdict {
 impl Model for Verdict {
     ghost use Rattle.std.specs.Prelude.{◌≡◌, true};
     ghost use Rattle.og_judge.specs.Judged.{Judged, judged, judged_code};
-    ghost use Rattle.og_theorem.specs.Sound.{IsSafe, IsUnblocked};
+    ghost use Rattle.og_theorem.specs.Proved.{IsSafe, IsUnblocked};
 
     ghost Value = { Judged };
 

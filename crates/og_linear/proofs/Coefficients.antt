@@ -6,8 +6,11 @@ use Rattle.std.proofs.lemmas.Int.{ints}
 use Rattle.std.proofs.lemmas.Bool.{cond_both, cond-true, cond-false, ne_eqb, eq-eqb, ltb-true, ltb-false, eqb-true, eqb-false, and_parts, both_ways}
 use Rattle.std.proofs.lemmas.Bool.Decides.{Decides-int_eq}
 use Rattle.std.proofs.Math.IntN.{*ℤ-zero, +ℤ_idl}
-use Rattle.og_linear.specs.Linear.{Terms, FormValue, IsTidyFrom, IsTidy}
-use Rattle.og_linear.specs.Arith.{with_term, scale_terms, merge_in, merge, scaled, plus, coefficient, without, fits_i128, fits_terms, fits_form, add_scaled, EachFits}
+use Rattle.og_linear.specs.Linear.{Terms, FormValue}
+use Rattle.og_linear.specs.Tidy.{IsTidyFrom, IsTidy}
+use Rattle.og_linear.specs.Arith.{with_term, scale_terms, merge_in, merge, scaled, plus}
+use Rattle.og_linear.specs.Bounded.{fits_i128, fits_terms, fits_form, add_scaled}
+use Rattle.og_linear.specs.Replaced.{coefficient, without, EachFits}
 use Rattle.og_linear.proofs.Steps.{tidy_scale, tidy_merge}
 
 -- below the first variable no term has a coefficient

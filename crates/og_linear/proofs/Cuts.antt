@@ -8,7 +8,7 @@ use Rattle.std.proofs.lemmas.Int.{ints, quot-rem, rem_below}
 use Rattle.std.proofs.lemmas.Bool.{and_parts}
 use Rattle.std.proofs.lemmas.Option.{cond_some}
 use Rattle.og_linear.specs.Linear.{Terms, FormValue, val, val_terms, value_at}
-use Rattle.og_linear.specs.Arith.{divides, divide_terms, ceil_div, cut}
+use Rattle.og_linear.specs.Bounded.{divides, divide_terms, ceil_div, cut}
 use Rattle.og_linear.proofs.Steps.{divided}
 use Rattle.og_linear.proofs.Ring.{mul-add, add-mul, mul_assoc}
 

@@ -11,8 +11,11 @@ use Rattle.std.proofs.lemmas.Int.{ints, quot-rem, quot_fits}
 use Rattle.std.proofs.Math.IntN.{zero-*ℤ}
 use Rattle.std.proofs.lemmas.Option.{none-some, same_Some, cond_some}
 use Rattle.std.proofs.lemmas.Grind.{common_steps}
-use Rattle.og_linear.specs.Linear.{Terms, IsTidyFrom, IsTidy}
-use Rattle.og_linear.specs.Arith.{with_term, scale_terms, merge_in, merge, other_terms, fits_i128, fits_terms, divides, divide_terms}
+use Rattle.og_linear.specs.Linear.{Terms}
+use Rattle.og_linear.specs.Tidy.{IsTidyFrom, IsTidy}
+use Rattle.og_linear.specs.Arith.{with_term, scale_terms, merge_in, merge}
+use Rattle.og_linear.specs.Bounded.{fits_i128, fits_terms, divides, divide_terms}
+use Rattle.og_linear.specs.Replaced.{other_terms}
 use Rattle.og_linear.specs.Answer.{checked_int, checked_terms, divided_int, divided_terms, FailsAs, IsAnswer}
 use Rattle.og_linear.specs.declared.fault.FormError.{FormError}
 use Rattle.og_linear.specs.declared.fault.FormError.TheVariants as errors

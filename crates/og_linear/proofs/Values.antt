@@ -7,8 +7,11 @@ use Rattle.std.proofs.lemmas.Bool.{cond_both, cond-true, cond-false, ne_eqb, ltb
 use Rattle.std.proofs.lemmas.Bool.Decides.{Decides-int_eq}
 use Rattle.std.proofs.lemmas.Option.{same_Some, cond_some, option_and_then_some}
 use Rattle.std.proofs.Math.IntN.{*ℤ-zero, zero-*ℤ, +ℤ_idl, +ℤ_idr}
-use Rattle.og_linear.specs.Linear.{Terms, FormValue, form_value, value_at, val_terms, val, put, IsTidy, IsTidyFrom}
-use Rattle.og_linear.specs.Arith.{with_term, scale_terms, merge_in, merge, scaled, plus, coefficient, without, add_scaled, MapValue, map_set, image, apply_terms, apply, replace}
+use Rattle.og_linear.specs.Linear.{Terms, FormValue, form_value, value_at, val_terms, val, put}
+use Rattle.og_linear.specs.Tidy.{IsTidy, IsTidyFrom}
+use Rattle.og_linear.specs.Arith.{with_term, scale_terms, merge_in, merge, scaled, plus}
+use Rattle.og_linear.specs.Bounded.{add_scaled, MapValue, map_set, image, apply_terms, apply}
+use Rattle.og_linear.specs.Replaced.{coefficient, without, replace}
 use Rattle.og_linear.proofs.Put.{put_same, put_other}
 use Rattle.og_linear.proofs.Ring.{mul-add, add-mul, mul_assoc, swap_middle, to_front}
 

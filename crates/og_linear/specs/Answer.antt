@@ -5,7 +5,7 @@ use Rattle.og_linear.specs.declared.fault.FormFault.{FormFault}
 use Rattle.og_linear.specs.declared.fault.FormError.{FormError}
 use Rattle.og_linear.specs.declared.fault.FormError.TheVariants as errors
 use Rattle.og_linear.specs.Linear.{Terms, FormValue}
-use Rattle.og_linear.specs.Arith.{fits_i128, fits_terms, fits_form, divides, divide_terms}
+use Rattle.og_linear.specs.Bounded.{fits_i128, fits_terms, fits_form, divides, divide_terms}
 
 -- the error is the fault, and there is no answer; or memory ran out
 abbrev pub FailsAs : {Y : Type 0} → FormError → FormFault → Option Y → Type 0
@@ -16,6 +16,12 @@ FailsAs (errors.Fault e) fault answer = (e ≡ fault) × (answer ≡ None)
 abbrev pub IsAnswer : {X Y : Type 0} → (X → Y) → FormFault → Result X FormError → Option Y → Type 0
 IsAnswer view fault (Ok x) answer = answer ≡ Some (view x)
 IsAnswer view fault (Err e) answer = FailsAs e fault answer
+
+-- P, where memory ran out
+abbrev pub OnMemory : {X : Type 0} → Result X FormError → Type 0 → Type 0
+OnMemory (Ok x) P = ⊤
+OnMemory (Err errors.Memory) P = P
+OnMemory (Err (errors.Fault e)) P = ⊤
 
 -- these, if each number fits 128 bits
 abbrev pub checked_int : ℤ → Option ℤ

@@ -1,5 +1,5 @@
 -- Forms, states, and the value of a form at a state.
-use Rattle.std.specs.Prelude.{◌≢◌, ℕ, zero, suc, ◌+◌, ◌<◌, ℤ, pos, negsuc, ◌+ℤ◌, ◌*ℤ◌, List, [], ◌∷◌, All, get_or, FitsSigned, ⊤, Bool, ◌==◌, ◌&&◌, nat_lt, nat_le, ◌^◌, nat_abs}
+use Rattle.std.specs.Prelude.{ℕ, zero, suc, ◌+◌, ℤ, pos, negsuc, ◌+ℤ◌, ◌*ℤ◌, List, [], ◌∷◌, All, get_or, FitsSigned, Bool, ◌==◌, ◌&&◌, nat_lt, nat_le, ◌^◌, nat_abs}
 use Rattle.std.specs.List.{list_any, list_all}
 use mir.Syntax.{w64}
 
@@ -14,14 +14,6 @@ pub record FormValue : Type 0 where
 
 abbrev pub form_value : Terms → ℤ → FormValue
 form_value terms constant = record { terms = terms; constant = constant }
-
--- the variables rise from low on, and no coefficient is 0
-abbrev pub IsTidyFrom : ℕ → Terms → Type 0
-IsTidyFrom low [] = ⊤
-IsTidyFrom low (t ∷ ts) = (low < t.0 + 1) × (t.1 ≢ pos 0) × IsTidyFrom (t.0 + 1) ts
-
-abbrev pub IsTidy : Terms → Type 0
-IsTidy = IsTidyFrom 0
 
 -- the variable x has a term among these
 abbrev pub is_term : ℕ → Terms → Bool

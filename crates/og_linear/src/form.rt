@@ -1,9 +1,12 @@
 //! Linear forms.
 
-ghost use Rattle.std.specs.Prelude.{◌≡◌, [], ◌<◌, ◌≤◌, true, IfOk, OnErr, All, length, slice_get};
-ghost use Rattle.og_linear.specs.Linear.{form_value, is_term, val, is_small, IsTidy};
+ghost use Rattle.std.specs.Prelude.{◌≡◌, [], ◌<◌, ◌≤◌, pos, ◌≤ℤ◌, true, IfOk, OnErr, All, length, slice_get};
+ghost use Rattle.og_linear.specs.Linear.{form_value, is_term, val, is_small};
+ghost use Rattle.og_linear.specs.Tidy.{IsTidy};
 ghost use Rattle.og_linear.specs.Arith as arith;
-ghost use Rattle.og_linear.specs.Answer.{IsAnswer, checked};
+ghost use Rattle.og_linear.specs.Bounded as bounded;
+ghost use Rattle.og_linear.specs.Replaced as replaced;
+ghost use Rattle.og_linear.specs.Answer.{IsAnswer, OnMemory, checked};
 ghost use Rattle.og_linear.specs.declared.fault.FormFault.TheVariants as faults;
 
 use crate::fault::{FormError, FormFault};
@@ -27,8 +30,9 @@ pub struct Form {
 
 impl Model for Form {
     ghost use Rattle.std.specs.Prelude.{◌≡◌, true};
-    ghost use Rattle.og_linear.specs.Linear.{FormValue, form_value, IsTidy};
-    ghost use Rattle.og_linear.specs.Arith.{fits_terms};
+    ghost use Rattle.og_linear.specs.Linear.{FormValue, form_value};
+    ghost use Rattle.og_linear.specs.Tidy.{IsTidy};
+    ghost use Rattle.og_linear.specs.Bounded.{fits_terms};
 
     ghost Value = { FormValue };
 
@@ -61,7 +65,7 @@ impl Form {
     /// constant. Takes no memory.
     pub fn of_terms(terms: Vec<(u32, i128)>, constant: i128) -> Form
         requires tidy { IsTidy terms.items }
-        requires fits { arith.fits_terms terms.items ≡ true }
+        requires fits { bounded.fits_terms terms.items ≡ true }
         ensures { result ≡ form_value terms.items constant }
     {
         Form { terms, constant }
@@ -123,7 +127,7 @@ impl Form {
     /// `TooLarge` where a product of k and a number of the other form, or a sum of such a product
     /// and a number of this form, leaves `i128`. An error leaves the form as it was.
     pub fn add_scaled(&mut self, k: i128, other: &Form) -> Result<(), FormError>
-        ensures answer { IsAnswer (λ _. self.new) faults.TooLarge result (arith.add_scaled self.old k other.now) }
+        ensures answer { IsAnswer (λ _. self.new) faults.TooLarge result (bounded.add_scaled self.old k other.now) }
         ensures unchanged { OnErr result (self.new ≡ self.old) }
     {
         let sum = self.plus(&other.scaled(k)?)?;
@@ -133,7 +137,7 @@ impl Form {
 
     // The coefficient of the variable, 0 where it doesn't occur.
     fn coefficient(&self, var: u32) -> i128
-        ensures { result ≡ arith.coefficient var self.now.terms }
+        ensures { result ≡ replaced.coefficient var self.now.terms }
     {
         for t in &self.terms {
             if var == t.0 {
@@ -145,7 +149,7 @@ impl Form {
 
     // The form without the variable.
     fn without(&self, var: u32) -> Result<Form, AllocError>
-        ensures { IfOk result (λ f. f ≡ arith.without var self.now) }
+        ensures { IfOk result (λ f. f ≡ replaced.without var self.now) }
     {
         Ok(Form {
             terms: others(*self.terms.allocator(), var, &self.terms)?,
@@ -158,7 +162,7 @@ impl Form {
     ///
     /// `TooLarge` where that addition leaves `i128`, as in `add_scaled`.
     pub fn replace(&self, var: u32, form: &Form) -> Result<Form, FormError>
-        ensures { IsAnswer (λ f. f) faults.TooLarge result (arith.replace var form.now self.now) }
+        ensures { IsAnswer (λ f. f) faults.TooLarge result (replaced.replace var form.now self.now) }
     {
         let mut sum = self.without(var)?;
         sum.add_scaled(self.coefficient(var), form)?;
@@ -168,7 +172,7 @@ impl Form {
     // Adds k times the form that stands for the variable.
     fn add_image(&mut self, k: i128, map: &Map, var: u32) -> Result<(), FormError>
         ensures { IsAnswer (λ _. self.new) faults.TooLarge result
-            (arith.add_scaled self.old k (arith.image map.now var)) }
+            (bounded.add_scaled self.old k (bounded.image map.now var)) }
     {
         match map.named(var) {
             Some(form) => self.add_scaled(k, form),
@@ -184,7 +188,7 @@ impl Form {
     ///
     /// `TooLarge` where one of these additions leaves `i128`, as in `add_scaled`.
     pub fn apply(&self, map: &Map) -> Result<Form, FormError>
-        ensures { IsAnswer (λ f. f) faults.TooLarge result (arith.apply map.now self.now) }
+        ensures { IsAnswer (λ f. f) faults.TooLarge result (bounded.apply map.now self.now) }
     {
         let mut sum = Form::constant(*self.terms.allocator(), self.constant);
         for t in &self.terms {
@@ -196,9 +200,11 @@ impl Form {
     /// The form cut by d: each coefficient divided by d, and the constant divided and rounded up.
     /// Over whole numbers it is at most 0 exactly where the form is.
     ///
-    /// `NotDivisible` where d is below 1 or doesn't divide some coefficient.
+    /// `NotDivisible` where d is below 1 or doesn't divide some coefficient. Below 1 no memory is
+    /// asked for.
     pub fn cut(&self, d: i128) -> Result<Form, FormError>
-        ensures { IsAnswer (λ f. f) faults.NotDivisible result (arith.cut self.now d) }
+        ensures answer { IsAnswer (λ f. f) faults.NotDivisible result (bounded.cut self.now d) }
+        ensures memory { OnMemory result (pos 1 ≤ℤ d) }
     {
         if d < 1 {
             return Err(FormError::Fault(FormFault::NotDivisible));

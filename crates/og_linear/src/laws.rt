@@ -5,8 +5,11 @@
 
 ghost use Rattle.std.specs.Prelude.{◌≡◌, ℕ, ℤ, pos, ◌+ℤ◌, ◌*ℤ◌, ◌≤ℤ◌, ◌<◌, ◌==◌, ◌↔◌, if◌then◌else◌, List, [], Some, IsSome, length, set, FitsSigned};
 ghost use mir.Syntax.{w64};
-ghost use Rattle.og_linear.specs.Linear.{Terms, FormValue, form_value, IsTidy, IsProper, val, value_at, put};
+ghost use Rattle.og_linear.specs.Linear.{Terms, FormValue, form_value, IsProper, val, value_at, put};
+ghost use Rattle.og_linear.specs.Tidy.{IsTidy};
 ghost use Rattle.og_linear.specs.Arith as arith;
+ghost use Rattle.og_linear.specs.Bounded as bounded;
+ghost use Rattle.og_linear.specs.Replaced as replaced;
 
 /// The value of each form that the arithmetic makes, at every state.
 ///
@@ -20,24 +23,24 @@ pub fn value_laws()
     ensures plus { (f g : FormValue) (s : List ℤ) → val (arith.plus f g) s ≡ val f s +ℤ val g s }
     ensures scaled { (k : ℤ) (f : FormValue) (s : List ℤ) → val (arith.scaled k f) s ≡ k *ℤ val f s }
     ensures add_scaled { (f g r : FormValue) (k : ℤ) (s : List ℤ)
-        → arith.add_scaled f k g ≡ Some r
+        → bounded.add_scaled f k g ≡ Some r
         → val r s ≡ val f s +ℤ k *ℤ val g s }
     ensures replace { (x : ℕ) (f g r : FormValue) (s : List ℤ)
         → IsTidy f.terms
-        → arith.replace x g f ≡ Some r
+        → replaced.replace x g f ≡ Some r
         → val r s ≡ val f (put s x (val g s)) }
-    ensures apply { (m : arith.MapValue) (f r : FormValue) (s t : List ℤ)
-        → arith.apply m f ≡ Some r
-        → ((x : ℕ) → value_at t x ≡ val (arith.image m x) s)
+    ensures apply { (m : bounded.MapValue) (f r : FormValue) (s t : List ℤ)
+        → bounded.apply m f ≡ Some r
+        → ((x : ℕ) → value_at t x ≡ val (bounded.image m x) s)
         → val r s ≡ val f t }
-    ensures image { (m : arith.MapValue) (x y : ℕ) (g : FormValue)
-        → arith.image (arith.map_set m x g) y ≡ (if y == x then g else arith.image m y) }
+    ensures image { (m : bounded.MapValue) (x y : ℕ) (g : FormValue)
+        → bounded.image (bounded.map_set m x g) y ≡ (if y == x then g else bounded.image m y) }
     ensures cut { (f g : FormValue) (d : ℤ) (s : List ℤ)
-        → arith.cut f d ≡ Some g
+        → bounded.cut f d ≡ Some g
         → (val f s ≤ℤ pos 0) ↔ (val g s ≤ℤ pos 0) }
     ensures ceiling { (c d : ℤ)
         → pos 1 ≤ℤ d
-        → (c ≤ℤ (arith.ceil_div c d *ℤ d)) × ((arith.ceil_div c d *ℤ d +ℤ pos 1) ≤ℤ (c +ℤ d)) }
+        → (c ≤ℤ (bounded.ceil_div c d *ℤ d)) × ((bounded.ceil_div c d *ℤ d +ℤ pos 1) ≤ℤ (c +ℤ d)) }
 {}
 
 /// A state with one value put into it.
@@ -59,20 +62,20 @@ pub fn coefficient_laws()
     ensures same { (a b : Terms)
         → IsTidy a
         → IsTidy b
-        → ((x : ℕ) → arith.coefficient x a ≡ arith.coefficient x b)
+        → ((x : ℕ) → replaced.coefficient x a ≡ replaced.coefficient x b)
         → a ≡ b }
     ensures plus { (a b : Terms) (x : ℕ)
         → IsTidy a
         → IsTidy b
-        → arith.coefficient x (arith.merge a b) ≡ arith.coefficient x a +ℤ arith.coefficient x b }
+        → replaced.coefficient x (arith.merge a b) ≡ replaced.coefficient x a +ℤ replaced.coefficient x b }
     ensures scaled { (k : ℤ) (a : Terms) (x : ℕ)
         → IsTidy a
-        → arith.coefficient x (arith.scale_terms k a) ≡ k *ℤ arith.coefficient x a }
+        → replaced.coefficient x (arith.scale_terms k a) ≡ k *ℤ replaced.coefficient x a }
     ensures without { (f : FormValue) (x y : ℕ)
-        → arith.coefficient y (arith.without x f).terms
-        ≡ (if y == x then pos 0 else arith.coefficient y f.terms) }
+        → replaced.coefficient y (replaced.without x f).terms
+        ≡ (if y == x then pos 0 else replaced.coefficient y f.terms) }
     ensures fits { (f g : FormValue) (k : ℤ)
         → IsTidy f.terms
         → IsTidy g.terms
-        → IsSome (arith.add_scaled f k g) ↔ arith.EachFits f k g }
+        → IsSome (bounded.add_scaled f k g) ↔ replaced.EachFits f k g }
 {}

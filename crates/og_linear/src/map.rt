@@ -1,7 +1,8 @@
 //! Maps from variables to forms.
 
-ghost use Rattle.std.specs.Prelude.{◌≡◌, [], OnOk, OnErr, IfSome, IfNone};
+ghost use Rattle.std.specs.Prelude.{◌≡◌, ◌≢◌, [], All, OnOk, OnErr, IfSome, IfNone};
 ghost use Rattle.og_linear.specs.Arith as arith;
+ghost use Rattle.og_linear.specs.Bounded as bounded;
 
 use crate::form::Form;
 use std::alloc::{AllocError, Global};
@@ -16,7 +17,7 @@ pub struct Map {
 }
 
 impl Model for Map {
-    ghost use Rattle.og_linear.specs.Arith.{MapValue};
+    ghost use Rattle.og_linear.specs.Bounded.{MapValue};
 
     ghost Value = { MapValue };
 
@@ -33,10 +34,12 @@ impl Map {
         }
     }
 
-    /// Names the variable, in place of an earlier form. An error leaves the map as it was.
+    /// Names the variable, in place of an earlier form, which takes no memory. An error leaves the
+    /// map as it was.
     pub fn set(&mut self, var: u32, form: Form) -> Result<(), AllocError>
-        ensures ok { OnOk result (self.new ≡ arith.map_set self.old var form) }
+        ensures ok { OnOk result (self.new ≡ bounded.map_set self.old var form) }
         ensures err { OnErr result (self.new ≡ self.old) }
+        ensures memory { OnErr result (All (λ e. e.0 ≢ var) self.old) }
     {
         for i in 0..self.entries.len() {
             if var == self.entries[i].0 {
@@ -50,8 +53,8 @@ impl Map {
 
     // The form that is named for the variable.
     pub(crate) fn named(&self, var: u32) -> Option<&Form>
-        ensures some { IfSome result (λ f. f.now ≡ arith.image self.now var) }
-        ensures none { IfNone result (arith.image self.now var ≡ arith.variable var) }
+        ensures some { IfSome result (λ f. f.now ≡ bounded.image self.now var) }
+        ensures none { IfNone result (bounded.image self.now var ≡ arith.variable var) }
     {
         for e in &self.entries {
             if var == e.0 {

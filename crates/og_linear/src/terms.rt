@@ -1,11 +1,13 @@
 //! Arithmetic on lists of terms: rising variables, each with its nonzero coefficient.
 
-ghost use Rattle.std.specs.Prelude.{◌≡◌, ◌++◌, [], ℤ, pos, ◌+ℤ◌, ◌*ℤ◌, ◌≤ℤ◌, ◌^◌, ◌≤◌, nat_abs, nat_le, true, IfOk, IfErr, OnOk};
+ghost use Rattle.std.specs.Prelude.{◌≡◌, ◌++◌, [], ℤ, pos, ◌+ℤ◌, ◌*ℤ◌, ◌≤ℤ◌, ◌^◌, ◌≤◌, nat_abs, nat_le, true, ◌≢◌, IfOk, IfErr, OnOk, OnErr};
 ghost use Rattle.std.specs.List.{list_all};
 ghost use Rattle.og_linear.specs.Linear.{fits_i64};
-ghost use Rattle.og_linear.specs.Arith.{with_term, scale_terms, merge, fits_terms};
-ghost use Rattle.og_linear.specs.Arith as arith;
-ghost use Rattle.og_linear.specs.Answer.{IsAnswer, checked_terms, checked_int, divided_int, divided_terms};
+ghost use Rattle.og_linear.specs.Arith.{with_term, scale_terms, merge};
+ghost use Rattle.og_linear.specs.Bounded.{fits_terms};
+ghost use Rattle.og_linear.specs.Bounded as bounded;
+ghost use Rattle.og_linear.specs.Replaced as replaced;
+ghost use Rattle.og_linear.specs.Answer.{IsAnswer, OnMemory, checked_terms, checked_int, divided_int, divided_terms};
 ghost use Rattle.og_linear.specs.declared.fault.FormFault.TheVariants as faults;
 ghost use Rattle.og_linear.specs.declared.fault.FormError.TheVariants as errors;
 
@@ -13,14 +15,16 @@ use crate::fault::{FormError, FormFault};
 use std::alloc::{AllocError, Global};
 
 pub(crate) fn product_of(k: i128, c: i128) -> Result<i128, FormError>
-    ensures { IsAnswer (λ x. x) faults.TooLarge result (checked_int (k *ℤ c)) }
+    ensures answer { IsAnswer (λ x. x) faults.TooLarge result (checked_int (k *ℤ c)) }
+    ensures memory { OnMemory result ⊥ }
 {
     k.checked_mul(c)
         .ok_or(FormError::Fault(FormFault::TooLarge))
 }
 
 pub(crate) fn sum_of(c: i128, d: i128) -> Result<i128, FormError>
-    ensures { IsAnswer (λ x. x) faults.TooLarge result (checked_int (c +ℤ d)) }
+    ensures answer { IsAnswer (λ x. x) faults.TooLarge result (checked_int (c +ℤ d)) }
+    ensures memory { OnMemory result ⊥ }
 {
     c.checked_add(d)
         .ok_or(FormError::Fault(FormFault::TooLarge))
@@ -43,7 +47,7 @@ pub(crate) fn are_small(terms: &[(u32, i128)]) -> bool
 // The least whole number that is not below c / d.
 pub(crate) fn ceil_div(c: i128, d: i128) -> i128
     requires { pos 1 ≤ℤ d }
-    ensures { result ≡ arith.ceil_div c d }
+    ensures { result ≡ bounded.ceil_div c d }
 {
     let quotient = c / d;
     if c % d > 0 { quotient + 1 } else { quotient }
@@ -53,6 +57,7 @@ pub(crate) fn ceil_div(c: i128, d: i128) -> i128
 fn push_term(terms: &mut Vec<(u32, i128)>, var: u32, c: i128) -> Result<(), FormError>
     ensures added { OnOk result (terms.new.items ≡ terms.old.items ++ with_term var c []) }
     ensures memory { IfErr result (λ e. e ≡ errors.Memory) }
+    ensures asked { OnErr result (c ≢ pos 0) }
 {
     if c != 0 {
         terms.push((var, c))?;
@@ -113,7 +118,8 @@ pub(crate) fn sums(
 // c / d, if d divides c.
 fn quotient_of(c: i128, d: i128) -> Result<i128, FormError>
     requires { pos 1 ≤ℤ d }
-    ensures { IsAnswer (λ x. x) faults.NotDivisible result (divided_int d c) }
+    ensures answer { IsAnswer (λ x. x) faults.NotDivisible result (divided_int d c) }
+    ensures memory { OnMemory result ⊥ }
 {
     if c % d == 0 {
         Ok(c / d)
@@ -145,7 +151,7 @@ pub(crate) fn others(
     var: u32,
     terms: &[(u32, i128)],
 ) -> Result<Vec<(u32, i128)>, AllocError>
-    ensures { IfOk result (λ v. v.items ≡ arith.other_terms var terms.now) }
+    ensures { IfOk result (λ v. v.items ≡ replaced.other_terms var terms.now) }
 {
     terms.iter().filter(|t| var != t.0).copied().collect(alloc)
 }

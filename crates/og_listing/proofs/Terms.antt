@@ -4,7 +4,8 @@ use Rattle.std.specs.Prelude.{slice_get, nat_abs}
 use Rattle.std.proofs.lemmas.Option.{none-some, same_Some, slice_get_within, get_or_from_slice_get}
 use Rattle.std.proofs.lemmas.List.{append-nil}
 use Rattle.std.proofs.Math.Seq.{drop-nil}
-use Rattle.og_linear.specs.Linear.{Terms, IsTidyFrom, IsTidy}
+use Rattle.og_linear.specs.Linear.{Terms}
+use Rattle.og_linear.specs.Tidy.{IsTidyFrom, IsTidy}
 use Rattle.og_listing.specs.Listing.{sign_text, times_text, terms_text}
 
 -- the i-th variable is at least i

@@ -1,5 +1,5 @@
 -- The listing of conditions with their facts.
-use Rattle.std.specs.Prelude.{◌≡◌, ◌<◌, ◌==◌, ◌&&◌, ℕ, suc, ℤ, pos, negsuc, nat_abs, Bool, true, false, not, if◌then◌else◌, List, [], ◌∷◌, length, slice_get, Option, Some, None, is_none, codes, Result, Ok, Err, Vec, ⊤}
+use Rattle.std.specs.Prelude.{◌≡◌, ◌<◌, ◌≤◌, ◌==◌, ◌&&◌, ℕ, suc, ℤ, pos, negsuc, nat_abs, Bool, true, false, not, if◌then◌else◌, List, [], ◌∷◌, length, slice_get, Option, Some, None, is_none, codes, Result, Ok, Err, Vec}
 use Rattle.std.specs.Fmt.{decimal}
 use Rattle.std.specs.Global.{Global}
 use Rattle.og_linear.specs.Linear.{Terms, FormValue}
@@ -100,8 +100,8 @@ module _ (names : List (List ℕ)) where
   conditions_lines source n [] = []
   conditions_lines source n (c ∷ cs) = condition_lines source n c & conditions_lines source (suc n) cs
 
--- the conditions of an outline, numbered from 1; or that there are too many; or memory ran out
+-- the conditions of an outline, numbered from 1; or that there are too many; or memory ran out, and there are not too many
 abbrev pub IsListing : ℕ → Program → List ℕ → Result (Vec ℕ Global) ConditionsError → Type 0
-IsListing limit o source (Ok text) = text.items ≡ conditions_lines o.names source 1 (conditions o)
+IsListing limit o source (Ok text) = (text.items ≡ conditions_lines o.names source 1 (conditions o)) × (length (conditions o) ≤ limit)
 IsListing limit o source (Err (errors.Fault fault)) = limit < length (conditions o)
-IsListing limit o source (Err errors.Memory) = ⊤
+IsListing limit o source (Err errors.Memory) = length (conditions o) ≤ limit

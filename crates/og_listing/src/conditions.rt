@@ -1,6 +1,7 @@
 //! The listing of all conditions.
 
 ghost use Rattle.std.specs.Prelude.{◌≡◌, ◌++◌, ◌≤◌, ◌^◌, length, map, OnOk};
+ghost use Rattle.og_cond.specs.Limits.{condition_limit};
 ghost use Rattle.og_cond.specs.Seen.{seen};
 ghost use Rattle.og_facts.specs.Facts.{facts_of};
 ghost use Rattle.og_facts.specs.Plain.{plain_fact};
@@ -9,7 +10,7 @@ ghost use Rattle.og_listing.specs.Listing.{places_text, header_text, facts_lines
 use crate::facts::put_fact;
 use crate::places::Places;
 use crate::words::{put_action_place, put_number, put_position};
-use og_cond::{CONDITION_LIMIT, Condition, ConditionsError, conditions};
+use og_cond::{Condition, ConditionsError, conditions};
 use og_facts::{Fact, FactsError, facts};
 use og_text::Name;
 use og_typed::Outline;
@@ -113,7 +114,7 @@ pub fn conditions_text(
     source: &[u8],
 ) -> Result<Vec<u8>, ConditionsError>
     requires { length source.now ≤ 2 ^ 20 }
-    ensures { IsListing CONDITION_LIMIT outline.now source.now result }
+    ensures { IsListing condition_limit outline.now source.now result }
 {
     let conditions = conditions(alloc, outline)?;
     let places = Places::new(alloc, source)?;

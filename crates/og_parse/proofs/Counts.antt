@@ -2,7 +2,8 @@
 use Rattle.std.proofs.Common.{◌≡◌, ℕ, suc, ◌+◌, ◌<◌, ◌≤◌, Bool, true, false, cond, ◌&&◌, List, [], ◌∷◌, ◌++◌, length, take, drop, get_or, ◌-◌, refl, sym, ap, ◌∙◌, arith, append_assoc}
 use Rattle.std.proofs.lemmas.List.{take_more, take-append-drop}
 use Rattle.og_text.specs.declared.token.Token.{Token}
-use Rattle.og_parse.specs.Faults.{begins_statement, closes_note, statements_after, statement_count, last_end, end_place, place_of}
+use Rattle.og_parse.specs.Faults.{last_end, end_place, place_of}
+use Rattle.og_parse.specs.Limits.{begins_statement, closes_note, statements_after, statement_count}
 use Rattle.og_parse.specs.Answers.{IsExcess}
 
 -- whether the last token closes an assertion

@@ -8,7 +8,8 @@ use Rattle.og_parse.specs.declared.fault.ParseFault.{ParseFault}
 use Rattle.og_parse.specs.declared.fault.ParseFault.TheVariants as faults
 use Rattle.og_parse.specs.Trees.{Outline}
 use Rattle.og_parse.specs.Grammar.{IsOutline}
-use Rattle.og_parse.specs.Faults.{statement_count, place_of, ComesTo, GoesNowhere, IsTooDeep, IsTooMany, IsFault}
+use Rattle.og_parse.specs.Faults.{place_of, ComesTo, GoesNowhere, IsTooDeep, IsTooMany, IsFault}
+use Rattle.og_parse.specs.Limits.{statement_count}
 use Rattle.og_parse.proofs.Parsing.{few_in, next_parts, begins_less, begins_any}
 
 module _ (levels statements : ℕ) (tokens : List Token) where

@@ -14,10 +14,13 @@ use Rattle.og_grammar.proofs.Whole.{IsStop, whole_found, whole_fault, one_value}
 use Rattle.og_parse.specs.declared.raw.Raw.{Raw}
 use Rattle.og_parse.specs.declared.fault.ParseFault.TheVariants as faults
 use Rattle.og_parse.specs.declared.fault.ParseError.TheVariants as errors
-use Rattle.og_parse.specs.Trees.{Outline, tree_of}
+use Rattle.og_parse.specs.Trees.{Outline}
+use Rattle.og_parse.specs.TreeOf.{tree_of}
 use Rattle.og_parse.specs.Grammar.{IsOutline, IsAnyOutline}
 use Rattle.og_parse.specs.Reads.{outline_at}
-use Rattle.og_parse.specs.Faults.{statement_count, place_of, ComesTo, IsFault, IsParsed}
+use Rattle.og_parse.specs.Faults.{place_of, ComesTo, IsFault}
+use Rattle.og_parse.specs.Parsed.{IsParsed}
+use Rattle.og_parse.specs.Limits.{statement_count}
 use Rattle.og_parse.specs.Answers.{error_of, IsExcess, expected_at, too_deep_at, excess_error}
 use Rattle.og_parse.proofs.OutlineLaws.{outline_reads}
 use Rattle.og_parse.proofs.Counts.{statements-append}

@@ -10,7 +10,9 @@ use Rattle.og_parse.specs.declared.raw.RawStmt.{RawStmt}
 use Rattle.og_parse.specs.declared.raw.RawItem.{RawItem}
 use Rattle.og_parse.specs.declared.raw.RawStmt.TheViews.{roll-RawItem}
 use Rattle.og_parse.specs.declared.raw.RawStmt.TheFolds.{fold-roll-RawItem}
-use Rattle.og_parse.specs.Trees.{Note, Item, Step, Stmt, Seq, item, sequence, items_then, item_of, note_of, stmt_of, step_of, stmt_step, item_step, seq_step}
+use Rattle.og_parse.specs.Trees.{Note, Step, Stmt, Seq, item, sequence}
+use Rattle.og_parse.specs.Parts.{step_of}
+use Rattle.og_parse.specs.TreeOf.{Item, items_then, item_of, note_of, stmt_of, stmt_step, item_step, seq_step}
 
 -- the items so far, the assertion after them, and what is still read
 abbrev pub with_items : List Item → Note → Outcome (List Step) → Outcome Seq

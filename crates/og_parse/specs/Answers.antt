@@ -8,7 +8,8 @@ use Rattle.og_grammar.specs.declared.fault.Refusal.TheVariants as refusals
 use Rattle.og_parse.specs.declared.fault.ParseFault.TheVariants as faults
 use Rattle.og_parse.specs.declared.fault.ParseError.{ParseError}
 use Rattle.og_parse.specs.declared.fault.ParseError.TheVariants as errors
-use Rattle.og_parse.specs.Faults.{statement_count, place_of}
+use Rattle.og_parse.specs.Faults.{place_of}
+use Rattle.og_parse.specs.Limits.{statement_count}
 
 abbrev pub error_of : List Token → Refusal → List Token → ParseError
 error_of tokens refusals.Memory left = errors.Memory

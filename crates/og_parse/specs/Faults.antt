@@ -1,49 +1,13 @@
 -- What a list of tokens stands for, or where it stops to be an outline.
-use Rattle.std.specs.Prelude.{◌≡◌, ℕ, ◌+◌, ◌<◌, ◌≤◌, Bool, true, false, ◌&&◌, List, [], ◌∷◌, ◌++◌, Result, Ok, Err, codes, if◌then◌else◌}
+use Rattle.std.specs.Prelude.{◌≡◌, ℕ, ◌+◌, ◌<◌, ◌≤◌, List, [], ◌∷◌, ◌++◌, codes}
 use Rattle.og_text.specs.declared.place.Span.{Span}
-use Rattle.og_text.specs.declared.token.TokenKind.{TokenKind}
-use Rattle.og_text.specs.declared.token.TokenKind.TheVariants as kinds
 use Rattle.og_text.specs.declared.token.Token.{Token}
 use Rattle.og_grammar.specs.Language.{Begins}
-use Rattle.og_parse.specs.declared.raw.Raw.{Raw}
 use Rattle.og_parse.specs.declared.fault.ParseFault.{ParseFault}
 use Rattle.og_parse.specs.declared.fault.ParseFault.TheVariants as faults
-use Rattle.og_parse.specs.declared.fault.ParseError.{ParseError}
-use Rattle.og_parse.specs.declared.fault.ParseError.TheVariants as errors
-use Rattle.og_parse.specs.Trees.{Outline, tree_of}
+use Rattle.og_parse.specs.Trees.{Outline}
 use Rattle.og_parse.specs.Grammar.{IsOutline, IsAnyOutline}
-
--- ---- the limits
-
--- levels of assertions, and levels of statements
-unfoldable pub level_limit : ℕ
-level_limit = 100
-
--- statements outside the bodies of awaits
-unfoldable pub statement_limit : ℕ
-statement_limit = 4096
-
--- ---- how many statements: each one outside the bodies of awaits begins right after the '}' of its assertion
-
-abbrev pub begins_statement : TokenKind → Bool
-begins_statement (kinds.Name bytes) = true
-begins_statement kinds.Skip = true
-begins_statement kinds.If = true
-begins_statement kinds.While = true
-begins_statement kinds.Await = true
-begins_statement _ = false
-
-abbrev pub closes_note : TokenKind → Bool
-closes_note kinds.CloseBrace = true
-closes_note _ = false
-
--- in tokens that stand after a '}', or don't
-abbrev pub statements_after : Bool → List Token → ℕ
-statements_after closed [] = 0
-statements_after closed (token ∷ tokens) = (if closed && begins_statement token.kind then 1 else 0) + statements_after (closes_note token.kind) tokens
-
-abbrev pub statement_count : List Token → ℕ
-statement_count tokens = statements_after false tokens
+use Rattle.og_parse.specs.Limits.{statement_count}
 
 -- ---- the place of a fault: the next token, or the end of the last one
 
@@ -90,12 +54,6 @@ IsFault levels statements tokens (faults.TooDeep span) =
     (before after : List Token) × (token : Token) × ComesTo levels statements tokens before (token ∷ after) × IsTooDeep levels before token × (statement_count (before ++ token ∷ []) ≤ statements) × (span ≡ token.span)
 IsFault levels statements tokens (faults.TooManyStatements span) =
     (before after : List Token) × (token : Token) × ComesTo levels statements tokens before (token ∷ after) × IsTooMany statements before token × (span ≡ token.span)
-
--- the outline that the tokens stand for, or the first fault, unless memory ran out
-abbrev pub IsParsed : ℕ → ℕ → List Token → Result Raw ParseError → Type 0
-IsParsed levels statements tokens (Ok raw) = IsOutline levels (tree_of raw) tokens × (statement_count tokens ≤ statements)
-IsParsed levels statements tokens (Err errors.Memory) = Unit {0}
-IsParsed levels statements tokens (Err (errors.Fault fault)) = IsFault levels statements tokens fault
 
 -- ---- how a fault is told
 

@@ -1,6 +1,11 @@
 pub mod Trees
+pub mod Counts
+pub mod Parts
+pub mod TreeOf
 pub mod Words
 pub mod Grammar
 pub mod Reads
 pub mod Faults
+pub mod Parsed
+pub mod Limits
 pub mod Answers

@@ -13,7 +13,8 @@ use Rattle.og_parse.specs.declared.raw.Sign.TheVariants.{Plus, Minus}
 use Rattle.og_parse.specs.declared.raw.RawFactor.{RawFactor}
 use Rattle.og_parse.specs.declared.raw.RawFactor.TheVariants.{Variable}
 use Rattle.og_parse.specs.declared.raw.RawTerm.{RawTerm}
-use Rattle.og_parse.specs.Trees.{Sum, Assertion, Truth, Falsity, Comparison, Negation, Implication, conjunction, disjunction, Note, Basic, Skip, Assign, Stmt, Simple, While, Await, choice, Step, sequence, Seq, Outline, Front, Back, joined}
+use Rattle.og_parse.specs.Trees.{Sum, Assertion, Truth, Falsity, Comparison, Negation, Implication, conjunction, disjunction, Note, Basic, Skip, Assign, Stmt, Simple, While, Await, choice, Step, sequence, Seq, Outline}
+use Rattle.og_parse.specs.Parts.{Front, Back, joined}
 use Rattle.og_parse.specs.Words.{name_of, value_of, sign_of, relation_of}
 use Rattle.og_parse.specs.Grammar.{product, term}
 

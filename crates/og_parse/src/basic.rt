@@ -2,7 +2,7 @@
 
 ghost use Rattle.std.specs.Prelude.{◌≡◌, map};
 ghost use Rattle.og_grammar.specs.Gives.{IsRead};
-ghost use Rattle.og_parse.specs.Trees.{basic_of, element_of};
+ghost use Rattle.og_parse.specs.TreeOf.{basic_of, element_of};
 ghost use Rattle.og_parse.specs.Reads.{basic_at, element_at, separated_elements_at, body_at};
 
 use crate::raw::{RawBasic, RawElement};

@@ -4,7 +4,8 @@ ghost use Rattle.std.specs.Prelude.{◌≡◌, option_map, unwrap_or, []};
 ghost use Rattle.og_text.specs.declared.token.TokenKind.TheVariants.{Var, Aux};
 ghost use Rattle.og_grammar.specs.Gives.{IsRead};
 ghost use Rattle.og_grammar.specs.Reading.{if_symbol_at, whole_at};
-ghost use Rattle.og_parse.specs.Trees.{note_of, seq_of, seqs_of, front_of, back_of, joined, tree_of};
+ghost use Rattle.og_parse.specs.TreeOf.{front_of, back_of, note_of, seq_of, seqs_of, tree_of};
+ghost use Rattle.og_parse.specs.Parts.{joined};
 ghost use Rattle.og_parse.specs.Reads.{aux_at, names_at, auxes_at, listed_by, seq_at, main_at, processes_at, declarations_at, opening_at, front_at, cobegin_at, closing_at, back_at, outline_at};
 
 use crate::assertions::note;

@@ -4,7 +4,8 @@ ghost use Rattle.std.specs.Prelude.{◌≡◌, option_map};
 ghost use Rattle.og_text.specs.declared.token.TokenKind.TheVariants.{Else};
 ghost use Rattle.og_grammar.specs.Gives.{IsRead};
 ghost use Rattle.og_grammar.specs.Reading.{starts, if_symbol_at};
-ghost use Rattle.og_parse.specs.Trees.{assertion_of, stmt_of, seq_of, note_of, step_of};
+ghost use Rattle.og_parse.specs.Parts.{step_of};
+ghost use Rattle.og_parse.specs.TreeOf.{assertion_of, stmt_of, seq_of, note_of};
 ghost use Rattle.og_parse.specs.Reads.{a_stmt, await_at, rest_of_block_by, block_by, tested_by, if_by, while_by, stmt_by, step_by, compound_at, seq_at};
 
 use crate::assertions::{note, test};

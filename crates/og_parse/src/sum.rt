@@ -1,8 +1,8 @@
 //! Reading sums, initial values and comparisons.
 
 ghost use Rattle.std.specs.Prelude.{◌≡◌, Ok};
-ghost use Rattle.og_grammar.specs.Gives.{IsRead};
-ghost use Rattle.og_parse.specs.Trees.{sum_of, assertion_of};
+ghost use Rattle.og_grammar.specs.Gives.{IsRead, OnMemory};
+ghost use Rattle.og_parse.specs.TreeOf.{sum_of, assertion_of};
 ghost use Rattle.og_parse.specs.Reads.{leading_at, product_at, factor_at, term_after_at, terms_at, sum_at, int_at, comparison_at};
 
 use crate::raw::{RawAssert, RawFactor, RawInt, RawSum, RawTerm, Sign};
@@ -77,10 +77,11 @@ pub(crate) fn sum(alloc: Global, cursor: &mut Cursor) -> Result<RawSum, Refusal>
     Ok(RawSum { terms, span })
 }
 
-/// Reads an initial value.
+/// Reads an initial value. Takes no memory.
 #[tactic(auto, unfolding(crate::specs::Reads::int_at, crate::specs::Reads::signed_at))]
 pub(crate) fn int(cursor: &mut Cursor) -> Result<RawInt, Refusal>
-    ensures { IsRead (λ int. int) result cursor.new (int_at cursor.old) }
+    ensures read { IsRead (λ int. int) result cursor.new (int_at cursor.old) }
+    ensures memory { OnMemory result ⊥ }
 {
     let span = cursor.span();
     let sign = leading(cursor);

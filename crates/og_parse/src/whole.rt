@@ -3,9 +3,12 @@
 ghost use Rattle.std.specs.Prelude.{◌≡◌, ℕ, ◌<◌, ◌≤◌, ◌&&◌, List, Result, Ok, Err, MatchOption, length};
 ghost use Rattle.og_text.specs.declared.token.Token.{Token};
 ghost use Rattle.og_parse.specs.declared.fault.ParseFault.{ParseFault};
-ghost use Rattle.og_parse.specs.Trees.{Outline, outline_count};
+ghost use Rattle.og_parse.specs.Trees.{Outline};
+ghost use Rattle.og_parse.specs.Counts.{outline_count};
 ghost use Rattle.og_parse.specs.Grammar.{IsOutline, IsAnyOutline};
-ghost use Rattle.og_parse.specs.Faults.{level_limit, statement_limit, begins_statement, closes_note, statement_count, place_of, IsFault, IsParsed};
+ghost use Rattle.og_parse.specs.Faults.{place_of, IsFault};
+ghost use Rattle.og_parse.specs.Parsed.{IsParsed};
+ghost use Rattle.og_parse.specs.Limits.{level_limit, statement_limit, begins_statement, closes_note, statement_count};
 ghost use Rattle.og_parse.specs.Answers.{IsExcess, error_of, excess_error};
 
 use crate::fault::{ParseError, ParseFault};

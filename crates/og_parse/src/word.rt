@@ -1,7 +1,7 @@
 //! Reading tokens that have a value.
 
 ghost use Rattle.std.specs.Prelude.{◌≡◌, IfOk};
-ghost use Rattle.og_grammar.specs.Gives.{IsRead};
+ghost use Rattle.og_grammar.specs.Gives.{IsRead, OnMemory};
 ghost use Rattle.og_grammar.specs.Reading.{starts, token_at};
 ghost use Rattle.og_parse.specs.Words.{name_of, value_of, sign_of, relation_of};
 ghost use Rattle.og_parse.specs.Reads.{a_name, a_sign};
@@ -50,7 +50,8 @@ pub(crate) fn name(alloc: Global, cursor: &mut Cursor) -> Result<RawName, Refusa
 }
 
 pub(crate) fn number(cursor: &mut Cursor) -> Result<u64, Refusal>
-    ensures { IsRead (λ n. n) result cursor.new (token_at value_of cursor.old) }
+    ensures read { IsRead (λ n. n) result cursor.new (token_at value_of cursor.old) }
+    ensures memory { OnMemory result ⊥ }
 {
     match cursor.peek() {
         Some(TokenKind::Number(n)) => {
@@ -62,7 +63,8 @@ pub(crate) fn number(cursor: &mut Cursor) -> Result<u64, Refusal>
 }
 
 pub(crate) fn sign(cursor: &mut Cursor) -> Result<Sign, Refusal>
-    ensures { IsRead (λ sign. sign) result cursor.new (token_at sign_of cursor.old) }
+    ensures read { IsRead (λ sign. sign) result cursor.new (token_at sign_of cursor.old) }
+    ensures memory { OnMemory result ⊥ }
 {
     let sign = match cursor.peek() {
         Some(TokenKind::Plus) => Sign::Plus,
@@ -74,7 +76,8 @@ pub(crate) fn sign(cursor: &mut Cursor) -> Result<Sign, Refusal>
 }
 
 pub(crate) fn relation(cursor: &mut Cursor) -> Result<Relation, Refusal>
-    ensures { IsRead (λ relation. relation) result cursor.new (token_at relation_of cursor.old) }
+    ensures read { IsRead (λ relation. relation) result cursor.new (token_at relation_of cursor.old) }
+    ensures memory { OnMemory result ⊥ }
 {
     let relation = match cursor.peek() {
         Some(TokenKind::LessEqual) => Relation::LessEqual,

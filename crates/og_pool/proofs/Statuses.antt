@@ -12,7 +12,8 @@ use Rattle.og_cert_text.specs.Shown.{shown}
 use Rattle.og_cert_text.specs.declared.file.CertFile.{CertFile}
 use Rattle.og_cert.specs.Faults.{first_fault}
 use Rattle.og_pool.specs.declared.status.Status.TheVariants as status
-use Rattle.og_pool.specs.Status.{by_fault, by_facts, by_condition, status_of}
+use Rattle.og_pool.specs.Status.{by_fault, by_facts}
+use Rattle.og_pool.specs.Numbered.{by_condition, status_of}
 
 seen_at : (cs : List Condition) (i : ℕ) (c : Condition) → slice_get cs i ≡ Some c → slice_get (map seen cs) i ≡ Some (seen c)
 seen_at [] i c at = absurd (cc)

@@ -2,4 +2,5 @@ pub mod Drawing
 pub mod Last
 pub mod Names
 pub mod Status
+pub mod Numbered
 pub mod Telling

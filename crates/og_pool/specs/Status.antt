@@ -1,14 +1,9 @@
 -- The status of a condition: a function of the condition and of its certificate.
-use Rattle.std.specs.Prelude.{ℕ, ◌-◌, List, map, slice_get, Option, Some, None, Result, Ok, Err}
+use Rattle.std.specs.Prelude.{ℕ, List, Option, Some, None, Result, Ok, Err}
 use Rattle.og_cond.specs.Condition as plain
-use Rattle.og_cond.specs.declared.condition.Condition.{Condition}
-use Rattle.og_cond.specs.Seen.{seen}
 use Rattle.og_facts.specs.Facts.{Fact, facts_of}
 use Rattle.og_facts.specs.declared.fault.FactsFault.{FactsFault}
 use Rattle.og_cert_text.specs.Tree.{Cert}
-use Rattle.og_cert_text.specs.Files.{certificate_of}
-use Rattle.og_cert_text.specs.Shown.{shown}
-use Rattle.og_cert_text.specs.declared.file.CertFile.{CertFile}
 use Rattle.og_cert.specs.Faults.{first_fault}
 use Rattle.og_cert.specs.declared.fault.ReplayFault.{ReplayFault}
 use Rattle.og_pool.specs.declared.status.Status.{Status}
@@ -28,11 +23,3 @@ by_facts n (Ok fs) proof = by_fault (first_fault n fs proof)
 abbrev pub by_cert : plain.Condition → Option Cert → Status
 by_cert c None = status.Missing
 by_cert c (Some proof) = by_facts c.variables (facts_of c) proof
-
-abbrev pub by_condition : Option plain.Condition → Option Cert → Status
-by_condition None proof = status.Missing
-by_condition (Some c) proof = by_cert c proof
-
--- the status of condition n, counted from 1
-unfoldable pub status_of : List Condition → CertFile → ℕ → Status
-status_of cs file n = by_condition (slice_get (map seen cs) (n - 1)) (certificate_of n (shown file))

@@ -6,7 +6,8 @@ ghost use Rattle.og_facts.specs.Answer.{IsFacts, IsPrepared};
 ghost use Rattle.og_cert_text.specs.Plain.{plain_cert};
 ghost use Rattle.og_cert.specs.Faults.{first_fault};
 ghost use Rattle.og_pool.specs.Last.{IsLast, Keeps};
-ghost use Rattle.og_pool.specs.Status.{by_fault, status_of};
+ghost use Rattle.og_pool.specs.Status.{by_fault};
+ghost use Rattle.og_pool.specs.Numbered.{status_of};
 
 use crate::draws::{Drawer, Draws};
 use crate::fault::PoolFault;
@@ -17,7 +18,8 @@ use crate::workers::{Numbered, Workers};
 use og_cert::{ReplayError, replay};
 use og_cert_text::{Cert, CertFile};
 use og_cond::Condition;
-use og_facts::{FactList, FactsError, facts, facts_with};
+use og_facts::{FactList, FactsError, facts, facts_with, has_few_facts};
+use og_linear::FormError;
 use og_subst::{Action, ActionMap};
 use og_threads::ThreadFault;
 use std::alloc::{AllocError, Global};
@@ -47,6 +49,21 @@ fn replayed(alloc: Global, list: &FactList, cert: &Cert) -> Result<Status, Alloc
         Err(ReplayError::Memory) => Err(AllocError),
         Err(ReplayError::Fault(fault)) => Ok(Status::Failed(fault)),
     }
+}
+
+// What is answered where the map of the action could not be made. A map that does not fit is told
+// in its turn: where there are too many facts, that is the fault.
+fn unprepared(
+    alloc: Global,
+    condition: &Condition,
+    error: FormError,
+) -> Result<FactList, FactsError>
+    ensures { IsFacts (seen condition.now) result }
+{
+    if error == FormError::Memory && has_few_facts(condition) {
+        return Err(FactsError::Memory);
+    }
+    facts(alloc, condition)
 }
 
 impl<'a, 'c> Checks<'a, 'c> {
@@ -82,8 +99,9 @@ impl<'a, 'c> Checks<'a, 'c> {
                 return facts_with(alloc, condition, &kept.map);
             }
         }
-        let Ok(map) = action.prepare(alloc) else {
-            return facts(alloc, condition);
+        let map = match action.prepare(alloc) {
+            Ok(map) => map,
+            Err(error) => return unprepared(alloc, condition, error),
         };
         let list = facts_with(alloc, condition, &map);
         *last = Some(Last { index, map });
@@ -115,7 +133,7 @@ impl<'a, 'c> Checks<'a, 'c> {
 
 impl<'a, 'c> Numbered for Checks<'a, 'c> {
     ghost use Rattle.std.specs.Prelude.{length};
-    ghost use Rattle.og_pool.specs.Status.{status_of};
+    ghost use Rattle.og_pool.specs.Numbered.{status_of};
 
     ghost count = { λ c. length c.conditions.now };
 

@@ -2,7 +2,7 @@
 
 ghost use Rattle.std.specs.Prelude.{◌≡◌, ◌≢◌, ℕ, ◌+◌, ◌-◌, ◌<◌, ◌≤◌, length, Some, IfOk, slice_get, vec_len};
 ghost use Rattle.std.specs.List.{All};
-ghost use Rattle.og_pool.specs.Status.{status_of};
+ghost use Rattle.og_pool.specs.Numbered.{status_of};
 ghost use Rattle.og_pool.specs.Telling.{IsRight, Tells};
 
 use crate::checks::Checks;

@@ -12,8 +12,8 @@ use Rattle.og_text.specs.declared.token.TokenKind.{TokenKind}
 use Rattle.og_text.specs.declared.token.TokenKind.TheVariants as kinds
 use Rattle.og_text.specs.declared.token.Token.{Token}
 use Rattle.og_text.proofs.Pieces.{longest_len, symbol_len, is_longest, letter_apart, digit_apart}
-use Rattle.og_print.specs.Print.{spelling}
-use Rattle.og_print.proofs.Reprint.{kinds_of, IsGood, AreGood}
+use Rattle.og_print.specs.Print.{spelling, kinds_of}
+use Rattle.og_print.proofs.Reprint.{IsGood, AreGood}
 
 -- ---- the lexemes of a cut
 

@@ -15,8 +15,8 @@ use Rattle.og_parse.specs.declared.raw.RawFactor.{RawFactor}
 use Rattle.og_parse.specs.declared.raw.RawFactor.TheVariants as factors
 use Rattle.og_parse.specs.declared.raw.RawTerm.{RawTerm}
 use Rattle.og_parse.specs.Trees.{Assertion, Assertions, Truth, Falsity, Comparison, Negation, Conjunction, Disjunction, Implication, none, more, Note, Basic, Skip, Assign, Stmt, Simple, If, IfElse, While, Await, Seq, item, finish, Outline}
-use Rattle.og_print.specs.Print.{written, spelling, sign_word, relation_word, looseness, leading_in, factor_in, later_terms_in, terms_in, fitted_in, assertion_in, joined_in, later_in, basic_in, later_elements_in, body_in, note_in, stmt_in, seq_in, later_names_in, vars_in, aux_in, later_auxes_in, auxes_in, main_in, later_processes_in, processes_in, cobegin_in, outline_in, outline_text}
-use Rattle.og_print.proofs.Reprint.{alone, AreGood}
+use Rattle.og_print.specs.Print.{written, spelling, sign_word, relation_word, looseness, leading_in, factor_in, later_terms_in, terms_in, fitted_in, assertion_in, joined_in, later_in, basic_in, later_elements_in, body_in, note_in, stmt_in, seq_in, later_names_in, vars_in, aux_in, later_auxes_in, auxes_in, main_in, later_processes_in, processes_in, cobegin_in, outline_in, outline_text, alone}
+use Rattle.og_print.proofs.Reprint.{AreGood}
 use Rattle.og_print.proofs.CutText.{first_of, decimal_is, Cuts, cuts_nothing}
 use Rattle.og_print.proofs.CutParts.{Fits, Tail, Lines, fit_word, fit_tail, fit_minus, fit_cond, tail_nil, tail_blank, tail_close, tail_star, tail_append, fit_blank, fit_parens, fit_braces, line_of, lines_nil, lines_append}
 

@@ -2,7 +2,8 @@
 use Rattle.std.proofs.Common.{◌≡◌, List, [], ◌∷◌, map, Option, Some, None, option_map, refl, arith}
 use Rattle.std.specs.Prelude.{sum_by}
 use Rattle.std.proofs.lemmas.List.Sums.{sum_by-cons}
-use Rattle.og_parse.specs.Trees.{Stmt, Simple, If, IfElse, While, Await, Seq, item, finish, Outline, inner_count, seq_count, main_count, outline_count}
+use Rattle.og_parse.specs.Trees.{Stmt, Simple, If, IfElse, While, Await, Seq, item, finish, Outline}
+use Rattle.og_parse.specs.Counts.{inner_count, seq_count, main_count, outline_count}
 use Rattle.og_print.specs.Plain.{plain_stmt, plain_seq, plain}
 
 mutual

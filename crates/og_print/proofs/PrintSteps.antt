@@ -3,7 +3,8 @@ use Rattle.std.proofs.Common.{◌≡◌, ℕ, suc, ◌+◌, ◌-◌, ◌<◌, Bo
 use Rattle.std.proofs.lemmas.Bool.Decides.{nat_tests}
 use Rattle.og_parse.specs.declared.raw.RawItem.{RawItem}
 use Rattle.og_parse.specs.declared.raw.RawStmt.TheFolds.{fold_out-RawItem}
-use Rattle.og_parse.specs.Trees.{Note, Stmt, Item, Seq, note_of, item_of, stmt_of, stmt_step, item_step, seq_step, items_then, finish}
+use Rattle.og_parse.specs.Trees.{Note, Stmt, Seq, finish}
+use Rattle.og_parse.specs.TreeOf.{Item, note_of, item_of, stmt_of, stmt_step, item_step, seq_step, items_then}
 use Rattle.og_print.specs.Print.{written, note_in, stmt_in, ending_in, seq_in}
 
 last_test : (i n rest : ℕ) → i < n → rest ≡ n - (i + 1) → eqb (i + 1) n ≡ eqb rest 0

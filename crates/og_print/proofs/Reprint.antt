@@ -8,14 +8,7 @@ use Rattle.og_text.specs.declared.token.TokenKind.TheVariants as kinds
 use Rattle.og_text.specs.declared.token.Token.{Token}
 use Rattle.og_grammar.specs.Language.{Language, Symbol, One, Gives, Then, Either, Many, After, Separated, IfSymbol, WithPlace, Placed, first_place}
 use Rattle.og_print.specs.Plain.{nowhere, placed}
-use Rattle.og_print.specs.Print.{Medium}
-
--- the kinds of the lexemes alone
-abbrev pub alone : Medium TokenKind
-alone = record { word = λ kind. kind ∷ []; blank = []; line = λ indent printed. printed; deeper = λ indent. indent }
-
-abbrev pub kinds_of : List Token → List TokenKind
-kinds_of tokens = map (λ (t : Token). t.kind) tokens
+use Rattle.og_print.specs.Print.{kinds_of}
 
 -- names and numbers as a source may have them
 abbrev pub IsGood : TokenKind → Type 0

@@ -11,8 +11,8 @@ use Rattle.og_parse.specs.declared.raw.Relation.{Relation}
 use Rattle.og_parse.specs.Trees.{Sum, Assertion, Assertions, Truth, Falsity, Comparison, Negation, Conjunction, Disjunction, Implication, listed, conjunction, disjunction}
 use Rattle.og_parse.specs.Grammar.{Openings, openings, IsComparison, IsUnitWith, IsConjunctionWith, IsDisjunctionWith, IsAssertionWith}
 use Rattle.og_print.specs.Plain.{plain_sum, plain_assertion}
-use Rattle.og_print.specs.Print.{looseness, fitted_in, assertion_in, later_in, relation_word, terms_in}
-use Rattle.og_print.proofs.Reprint.{alone, Prints, prints_same, prints_as, prints_within, front_good, prints_then, prints_last, prints_word, prints_end, prints_inl, prints_inr, prints_separated, joined, back_good}
+use Rattle.og_print.specs.Print.{looseness, fitted_in, assertion_in, later_in, relation_word, terms_in, alone}
+use Rattle.og_print.proofs.Reprint.{Prints, prints_same, prints_as, prints_within, front_good, prints_then, prints_last, prints_word, prints_end, prints_inl, prints_inr, prints_separated, joined, back_good}
 use Rattle.og_print.proofs.ReprintSums.{prints_sum, prints_relation}
 
 -- the part of the grammar that holds what binds no more loosely

@@ -18,8 +18,8 @@ use Rattle.og_parse.specs.Trees.{Sum}
 use Rattle.og_parse.specs.Words.{name_kind, name_of, number_kind, value_of, sign_kind, sign_of, relation_kind, relation_of}
 use Rattle.og_parse.specs.Grammar.{IsLeading, IsFactor, product, term, IsTermAfter, IsTerms, IsSum, IsSigned, IsInt}
 use Rattle.og_print.specs.Plain.{plain_name, plain_factor, plain_term, plain_sum, plain_int}
-use Rattle.og_print.specs.Print.{sign_word, relation_word, leading_in, factor_in, later_terms_in, terms_in}
-use Rattle.og_print.proofs.Reprint.{alone, IsGood, Prints, prints_same, prints_gives, prints_then, prints_last, prints_end, prints_one, prints_inl, prints_inr, prints_placed, prints_many, prints_if_symbol, good_one, behind_some}
+use Rattle.og_print.specs.Print.{sign_word, relation_word, leading_in, factor_in, later_terms_in, terms_in, alone}
+use Rattle.og_print.proofs.Reprint.{IsGood, Prints, prints_same, prints_gives, prints_then, prints_last, prints_end, prints_one, prints_inl, prints_inr, prints_placed, prints_many, prints_if_symbol, good_one, behind_some}
 
 -- ---- tokens with a value
 

@@ -1,8 +1,9 @@
 -- How a tree is printed, as its text or as the kinds of its lexemes alone.
-use Rattle.std.specs.Prelude.{ℕ, Bool, true, false, nat_le, if◌then◌else◌, List, [], ◌∷◌, ◌++◌, Option, Some, None, codes}
+use Rattle.std.specs.Prelude.{ℕ, Bool, true, false, nat_le, if◌then◌else◌, List, [], ◌∷◌, ◌++◌, map, Option, Some, None, codes}
 use Rattle.std.specs.Fmt.{decimal}
 use Rattle.og_text.specs.declared.token.TokenKind.{TokenKind}
 use Rattle.og_text.specs.declared.token.TokenKind.TheVariants as kinds
+use Rattle.og_text.specs.declared.token.Token.{Token}
 use Rattle.og_text.specs.Lexemes.{text_of}
 use Rattle.og_grammar.specs.Language.{Placed}
 use Rattle.og_parse.specs.declared.raw.RawName.{RawName}
@@ -214,6 +215,17 @@ spelling kind = text_of kind
 -- bytes: each line ends with LF, and a level has two blanks
 abbrev pub written : Medium ℕ
 written = record { word = spelling; blank = codes " "; line = λ indent printed. indent & printed & 10 ∷ []; deeper = λ indent. 32 ∷ 32 ∷ indent }
+
+-- the kinds of the lexemes alone
+abbrev pub alone : Medium TokenKind
+alone = record { word = λ kind. kind ∷ []; blank = []; line = λ indent printed. printed; deeper = λ indent. indent }
+
+abbrev pub kinds_of : List Token → List TokenKind
+kinds_of tokens = map (λ (t : Token). t.kind) tokens
+
+-- the lexemes of an outline, with its assertions
+abbrev pub outline_words : Outline → List TokenKind
+outline_words o = outline_in alone true o
 
 -- the text of an outline, with its assertions
 abbrev pub outline_text : Outline → List ℕ

@@ -2,7 +2,8 @@
 
 ghost use Rattle.std.specs.Prelude.{◌≡◌, ◌++◌, ◌≤◌, map, OnOk, IsTrue, nat_le};
 ghost use Rattle.og_text.specs.declared.token.TokenKind.TheVariants as kinds;
-ghost use Rattle.og_parse.specs.Trees.{assertion_of, listed, sum_of, Comparison};
+ghost use Rattle.og_parse.specs.Trees.{listed, Comparison};
+ghost use Rattle.og_parse.specs.TreeOf.{assertion_of, sum_of};
 ghost use Rattle.og_print.specs.Print.{written, relation_word, looseness, fitted_in, assertion_in, joined_in, later_in};
 
 use crate::terms::put_sum;

@@ -2,7 +2,7 @@
 
 ghost use Rattle.std.specs.Prelude.{◌≡◌, ◌≤◌, ◌^◌, ◌++◌, ℕ, length, option_map, IfOk, OnOk};
 ghost use Rattle.og_print.specs.Again.{IsRead, ReadsBack};
-ghost use Rattle.og_parse.specs.Trees.{tree_of, seq_of, seqs_of};
+ghost use Rattle.og_parse.specs.TreeOf.{tree_of, seq_of, seqs_of};
 ghost use Rattle.og_print.specs.Print.{written, vars_in, aux_in, auxes_in, main_in, cobegin_in, processes_in, outline_in, outline_text, program_text};
 
 use crate::statements::{put_line, put_note, put_seq};

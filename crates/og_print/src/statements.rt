@@ -1,7 +1,8 @@
 //! Printing statements and sequences, one line after the other.
 
 ghost use Rattle.std.specs.Prelude.{◌≡◌, ◌++◌, [], true, map, codes, IfOk, OnOk, if◌then◌else◌};
-ghost use Rattle.og_parse.specs.Trees.{Await, Simple, note_of, basic_of, element_of, item_of, stmt_of, seq_of, assertion_of, items_then, finish};
+ghost use Rattle.og_parse.specs.Trees.{Await, Simple, finish};
+ghost use Rattle.og_parse.specs.TreeOf.{note_of, basic_of, element_of, item_of, stmt_of, seq_of, assertion_of, items_then};
 ghost use Rattle.og_print.specs.Print.{written, assertion_in, basic_in, body_in, note_in, stmt_in, seq_in};
 
 use crate::assertions::put_assertion;

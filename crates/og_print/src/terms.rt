@@ -2,7 +2,7 @@
 
 ghost use Rattle.std.specs.Prelude.{◌≡◌, ◌++◌, [], ◌∷◌, OnOk};
 ghost use Rattle.std.specs.Fmt.{decimal};
-ghost use Rattle.og_parse.specs.Trees.{sum_of};
+ghost use Rattle.og_parse.specs.TreeOf.{sum_of};
 ghost use Rattle.og_print.specs.Print.{written, name_in, leading_in, sign_word, factor_in, terms_in};
 
 use og_parse::{RawFactor, RawName, RawSum, Sign};

@@ -175,16 +175,39 @@ fn counts_of_many(rt: HostRuntime) -> Result<(), Fail> {
     Ok(())
 }
 
+// So many processes that skip.
+fn skips(alloc: Global, others: usize) -> Result<String, AllocError> {
+    let head = "{true}\ncobegin\n";
+    equal_processes(
+        alloc,
+        head,
+        "{true} skip {true}\n",
+        others,
+        "coend\n{true}\n",
+    )
+}
+
 #[test]
 fn counts_of_skips(rt: HostRuntime) -> Result<(), Fail> {
-    let skips = equal_processes(
-        rt.alloc(),
-        "{true}\ncobegin\n",
-        "{true} skip {true}\n",
-        255,
-        "coend\n{true}\n",
-    )?;
-    expect_counts(&rt, rt.alloc(), skips.as_str(), "256 0 1 of 514")
+    let alloc = rt.alloc();
+    expect_counts(&rt, alloc, skips(alloc, 64)?.as_str(), "65 0 1 of 132")?;
+    expect_counts(&rt, alloc, skips(alloc, 255)?.as_str(), "256 0 1 of 514")
+}
+
+fn expect_little_room<R: Abort>(rt: &R, alloc: Global, outline: &Outline) -> Result<(), Fail> {
+    let list = conditions(alloc, outline)?;
+    assert!(rt; list.len() == 132 && list.capacity() <= 264);
+    drop(list);
+    Ok(())
+}
+
+// A short list takes no more room than twice its length.
+#[test]
+fn room_of_a_list(rt: HostRuntime) -> Result<(), Fail> {
+    let outline = outline_of(rt.alloc(), skips(rt.alloc(), 64)?.as_str())?;
+    let told = expect_little_room(&rt, rt.alloc(), &outline);
+    drop(outline);
+    told
 }
 
 // Two processes, one of assignments and one of skips. With a assignments and s skips there are

@@ -222,6 +222,47 @@ fn depth_is_limited(rt: HostRuntime) -> Result<(), Fail> {
     expect_told(&rt, alloc, &rows)
 }
 
+#[test]
+fn depth_of_splits_is_limited(rt: HostRuntime) -> Result<(), Fail> {
+    let alloc = rt.alloc();
+    let mut text = String::from_str(alloc, "og-cert 1|cond 1|")?;
+    text.push_str("split 1 2|".repeat(alloc, 199)?.as_str())?;
+    let mut deep = text.clone()?;
+    text.push_str("split 1 0|")?;
+    text.push_str("close 1*1|".repeat(alloc, 199)?.as_str())?;
+    deep.push_str("split 1 1|split 1 0|")?;
+    let rows = [
+        (text.as_str(), "read"),
+        (deep.as_str(), "22 TooDeep at line 203"),
+    ];
+    expect_told(&rt, alloc, &rows)
+}
+
+// A first line of a certificate with so many times these words after it.
+fn long_line(alloc: Global, first: &str, words: &str, end: &str) -> Result<String, AllocError> {
+    let many = words.repeat(alloc, 20_000)?;
+    ["og-cert 1|cond 1|", first, many.as_str(), end].concat(alloc)
+}
+
+// Lines of more than 64 KiB.
+#[test]
+fn long_lines(rt: HostRuntime) -> Result<(), Fail> {
+    let alloc = rt.alloc();
+    let sum = long_line(alloc, "sum", " 1*1", "|close 1*1|")?;
+    let close = long_line(alloc, "close", " 1*1", "|")?;
+    let bad = long_line(alloc, "close", " 1*1", " 1|")?;
+    let blanks = long_line(alloc, "close", "    ", "|")?;
+    let branch = long_line(alloc, "branch 0", " 1*v0", "|")?;
+    let rows = [
+        (sum.as_str(), "read"),
+        (close.as_str(), "read"),
+        (bad.as_str(), "20 BadLine at line 3"),
+        (blanks.as_str(), "20 BadLine at line 3"),
+        (branch.as_str(), "20 BadLine at line 3"),
+    ];
+    expect_told(&rt, alloc, &rows)
+}
+
 const VERSION_2: &[(&str, &str)] = &[
     ("og-cert 2|cond 1|close 1*1|cond 2|same 1|", "read"),
     (

@@ -263,12 +263,32 @@ const CUTS: &[(&str, &str)] = &[
     ),
 ];
 
-#[test]
-fn cuts(rt: HostRuntime) -> Result<(), Fail> {
-    let alloc = rt.alloc();
-    for (lines, expected) in CUTS {
+// Multiples of the bounds of a variable, which are 63 bits long.
+const BOUNDS: &[(&str, &str)] = &[
+    (
+        "sum 9223372036854775807*l0 9223372036854775807*l0|close 1*1|",
+        "1: NotClosed at step 2; 3 of 4 proved",
+    ),
+    (
+        "sum 9223372036854775807*l0 9223372036854775807*l0 9223372036854775807*l0|close 1*1|",
+        "1: TooLarge at step 1; 3 of 4 proved",
+    ),
+    (
+        "sum 9223372036854775807*u1 9223372036854775807*u1|close 1*1|",
+        "1: NotClosed at step 2; 3 of 4 proved",
+    ),
+    (
+        "close 9223372036854775807*u1 9223372036854775807*u1 9223372036854775807*u1|",
+        "1: TooLarge at step 1; 3 of 4 proved",
+    ),
+    ("close 1*u2|", "1: NoSuchFact at step 1; 3 of 4 proved"),
+];
+
+// What becomes of the first condition of a program with two variables.
+fn expect_odd(rt: &impl Abort, alloc: Global, rows: &[(&str, &str)]) -> Result<(), Fail> {
+    for (lines, expected) in rows {
         expect_told(
-            &rt,
+            rt,
             alloc,
             ODD,
             &[(&[1], lines), (&[2, 3, 4], "close 1*1|")],
@@ -276,6 +296,16 @@ fn cuts(rt: HostRuntime) -> Result<(), Fail> {
         )?;
     }
     Ok(())
+}
+
+#[test]
+fn cuts(rt: HostRuntime) -> Result<(), Fail> {
+    expect_odd(&rt, rt.alloc(), CUTS)
+}
+
+#[test]
+fn multiples_of_bounds(rt: HostRuntime) -> Result<(), Fail> {
+    expect_odd(&rt, rt.alloc(), BOUNDS)
 }
 
 const SPLITS: &[(&str, &str)] = &[

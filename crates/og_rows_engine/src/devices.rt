@@ -212,16 +212,23 @@ fn expect_failed_writes<R: Threads + Wait + Sync + Abort>(rt: &R, alloc: Global)
         let mut paper = Paper::new(alloc, fails_at);
         let got = write_to(rt, &mut paper);
         assert!(rt; got == Err(EngineFault::WriteFailed), "at {fails_at}");
+        let written = paper.bytes.as_slice();
+        assert!(rt;
+            REPORT.starts_with(written) && written.len() == fails_at - 1,
+            "at {fails_at}"
+        );
     }
     let mut paper = Paper::new(alloc, REPORT.len() + 1);
     assert!(rt; write_to(rt, &mut paper) == Ok(0));
     assert!(rt; paper.bytes.as_slice() == REPORT);
+    let mut paper = Paper::new(alloc, 0);
     paper.fails_flush = true;
-    paper.fails_at = 0;
     assert!(rt; write_to(rt, &mut paper) == Err(EngineFault::WriteFailed));
+    assert!(rt; paper.bytes.as_slice() == REPORT);
 }
 
-// A writer that fails after the last byte is not asked for more.
+// A writer that fails has what came before. One that fails after the last byte is not asked for more,
+// nor is one whose flush fails.
 #[test]
 fn failing_writers(rt: HostRuntime) {
     expect_failed_writes(&rt, rt.alloc());

@@ -9,6 +9,8 @@ mod cases;
 #[cfg(test)]
 mod devices;
 #[cfg(test)]
+mod gates;
+#[cfg(test)]
 mod not_safe;
 #[cfg(test)]
 mod printed;

@@ -7,6 +7,8 @@
 #[cfg(test)]
 mod acts;
 #[cfg(test)]
+mod answered;
+#[cfg(test)]
 mod boards;
 #[cfg(test)]
 mod gates;

@@ -3,12 +3,14 @@
 use og_input::{ReadFault, read_up_to, split};
 use std::alloc::Global;
 use std::io::{Error, ErrorKind, Read};
+use std::test::Fail;
 
-// Gives one byte at each read, and fails at the read of this number, counted from 1.
+// Gives one byte at each read, and fails in this way at the read of this number, counted from 1.
 #[derive(Drop)]
 struct OneByOne<'a> {
     bytes: &'a [u8],
     fails_at: usize,
+    kind: ErrorKind,
     reads: usize,
 }
 
@@ -16,7 +18,7 @@ impl<'a> Read for OneByOne<'a> {
     fn read(&mut self, buffer: &mut [u8]) -> Result<usize, Error> {
         self.reads = self.reads.saturating_add(1);
         if self.reads == self.fails_at {
-            return Err(Error::from(ErrorKind::Other));
+            return Err(Error::from(self.kind));
         }
         if buffer.is_empty() || self.bytes.is_empty() {
             return Ok(0);
@@ -27,16 +29,18 @@ impl<'a> Read for OneByOne<'a> {
     }
 }
 
-fn one_by_one(fails_at: usize) -> OneByOne<'static> {
+fn one_by_one(bytes: &[u8], fails_at: usize, kind: ErrorKind) -> OneByOne<'_> {
     OneByOne {
-        bytes: b"var x;",
+        bytes,
         fails_at,
+        kind,
         reads: 0,
     }
 }
 
 fn fails_to_read(alloc: Global, fails_at: usize) -> bool {
-    let got = read_up_to(alloc, &mut one_by_one(fails_at), 100);
+    let mut reader = one_by_one(b"var x;", fails_at, ErrorKind::Other);
+    let got = read_up_to(alloc, &mut reader, 100);
     matches!(&got, Err(ReadFault::Failed))
 }
 
@@ -47,11 +51,33 @@ fn failing_reads(rt: HostRuntime) {
     }
 }
 
-fn reads_up_to(alloc: Global, most: usize, expected: &str) -> bool {
-    match read_up_to(alloc, &mut one_by_one(0), most) {
-        Ok(got) => got.as_slice() == expected.as_bytes(),
+fn reads(alloc: Global, reader: &mut OneByOne, most: usize, expected: &[u8]) -> bool {
+    match read_up_to(alloc, reader, most) {
+        Ok(got) => got.as_slice() == expected,
         Err(_) => false,
     }
+}
+
+// A read that is interrupted is tried again, the first one too, and the one that finds the end.
+#[test]
+fn interrupted_reads(rt: HostRuntime) {
+    for at in 1..8 {
+        let mut reader = one_by_one(b"var x;", at, ErrorKind::Interrupted);
+        assert!(rt; reads(rt.alloc(), &mut reader, 100, b"var x;"), "at {at}");
+    }
+}
+
+#[test]
+fn many_reads(rt: HostRuntime) -> Result<(), Fail> {
+    let bytes = vec![in rt.alloc(); b'x'; 100_000]?;
+    let mut reader = one_by_one(&bytes, 0, ErrorKind::Other);
+    assert!(rt; reads(rt.alloc(), &mut reader, 200_000, &bytes));
+    Ok(())
+}
+
+fn reads_up_to(alloc: Global, most: usize, expected: &str) -> bool {
+    let mut reader = one_by_one(b"var x;", 0, ErrorKind::Other);
+    reads(alloc, &mut reader, most, expected.as_bytes())
 }
 
 // The most bytes to read, and what is read.

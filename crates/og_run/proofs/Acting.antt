@@ -5,7 +5,8 @@ use Rattle.std.proofs.lemmas.Bool.Decides.{eqb_tells, nat_tests}
 use Rattle.std.proofs.lemmas.Option.{slice_get_within}
 use Rattle.atomic_table.specs.Seated.{TableId}
 use Rattle.atomic_table.specs.declared.shared.Seat.{Seat}
-use Rattle.og_board.specs.Runs.{Given, process_count, moves_of}
+use Rattle.og_board.specs.Runs.{Given}
+use Rattle.og_board.specs.Histories.{process_count, moves_of}
 use Rattle.og_board.specs.declared.turn.RunTurn.{RunTurn}
 use Rattle.og_board.specs.declared.turn.RunTurn.TheVariants.{Overflow, Done, Stuck, Limit, Early, Waits, Moved}
 use Rattle.og_run.specs.declared.rule.Card.{Card}

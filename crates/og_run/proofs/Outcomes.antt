@@ -3,7 +3,8 @@ use Rattle.std.proofs.Common.{◌≡◌, Bool, true, ap, ◌∙◌, subst}
 use Rattle.std.proofs.lemmas.Bool.{both_ways}
 use Rattle.og_typed.specs.Truth.{truth}
 use Rattle.og_typed.specs.Machine.{overflows}
-use Rattle.og_theorem.specs.Sound.{IsSound, IsNeverStuck}
+use Rattle.og_theorem.specs.Sound.{IsSound}
+use Rattle.og_theorem.specs.NeverStuck.{IsNeverStuck}
 use Rattle.og_board.specs.Runs.{Given}
 use Rattle.og_board.specs.Ends.{IsFinish, IsOutcome}
 use Rattle.og_board.specs.declared.outcome.Outcome.{Outcome}

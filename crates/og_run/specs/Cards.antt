@@ -5,7 +5,8 @@ use lib.ListN.{get_elem?}
 use Rattle.atomic_table.specs.Table.{State, Me, Step}
 use Rattle.atomic_table.specs.Seated.{TableId}
 use Rattle.atomic_table.specs.declared.shared.Seat.{Seat}
-use Rattle.og_board.specs.Runs.{Given, process_count, moves_of}
+use Rattle.og_board.specs.Runs.{Given}
+use Rattle.og_board.specs.Histories.{process_count, moves_of}
 use Rattle.og_typed.specs.Syntax.{Program, True}
 use Rattle.og_board.specs.declared.turn.RunTurn.{RunTurn}
 use Rattle.og_run.specs.declared.rule.Card.{Card}

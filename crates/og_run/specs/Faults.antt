@@ -2,14 +2,8 @@
 use Rattle.std.specs.Prelude.{ℕ, List, codes}
 use Rattle.og_step.specs.declared.fault.StartFault.{StartFault}
 use Rattle.og_step.specs.declared.fault.StartFault.TheVariants as starts
-use Rattle.og_step.specs.declared.fault.StartError.{StartError}
-use Rattle.og_step.specs.declared.fault.StartError.TheVariants as start_errors
 use Rattle.og_run.specs.declared.fault.RunFault.{RunFault}
 use Rattle.og_run.specs.declared.fault.RunFault.TheVariants as faults
-use Rattle.og_run.specs.declared.fault.RunError.{RunError}
-use Rattle.og_run.specs.declared.fault.RunError.TheVariants as errors
-use Rattle.og_threads.specs.declared.fault.ThreadFault.{ThreadFault}
-use Rattle.og_threads.specs.declared.fault.ThreadFault.TheVariants as threads
 
 -- the number under which a refusal is printed
 abbrev pub number_of_fault : RunFault → ℕ
@@ -27,11 +21,3 @@ name_of_fault faults.Spawn = codes "Spawn"
 abbrev pub fault_of_start : StartFault → RunFault
 fault_of_start starts.WrongLength = faults.WrongLength
 fault_of_start starts.NotPre = faults.NotPre
-
-abbrev pub error_of_start : StartError → RunError
-error_of_start start_errors.Memory = errors.Memory
-error_of_start (start_errors.Fault e) = errors.Fault (fault_of_start e)
-
-abbrev pub error_of_thread : ThreadFault → RunError
-error_of_thread threads.Memory = errors.Memory
-error_of_thread threads.Spawn = errors.Fault faults.Spawn

@@ -1,3 +1,5 @@
 pub mod Cards
 pub mod Faults
+pub mod Errors
 pub mod Outcomes
+pub mod Answered

@@ -1,7 +1,8 @@
 //! Why a program does not run.
 
 ghost use Rattle.std.specs.Prelude.{◌≡◌};
-ghost use Rattle.og_run.specs.Faults.{number_of_fault, name_of_fault, error_of_start, error_of_thread};
+ghost use Rattle.og_run.specs.Faults.{number_of_fault, name_of_fault};
+ghost use Rattle.og_run.specs.Errors.{error_of_start, error_of_thread};
 
 use og_step::{StartError, StartFault};
 use og_threads::ThreadFault;

@@ -1,9 +1,10 @@
 //! Runs of an outline.
 
 ghost use Rattle.std.specs.Prelude.{◌≡◌, ℕ, ◌<◌, ◌≤◌, [], None, is_some, IfOk};
-ghost use Rattle.og_board.specs.Runs.{process_count};
-ghost use Rattle.og_board.specs.Ends.{OverAt};
-ghost use Rattle.og_run.specs.Outcomes.{Runs, IsProvedOutcome};
+ghost use Rattle.og_board.specs.Histories.{process_count};
+ghost use Rattle.og_board.specs.Over.{OverAt};
+ghost use Rattle.og_run.specs.Outcomes.{IsProvedOutcome};
+ghost use Rattle.og_run.specs.Answered.{Runs};
 
 use crate::fault::RunError;
 use crate::threads::run_board;

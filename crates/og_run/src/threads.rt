@@ -1,9 +1,9 @@
 //! The threads of a run: one for each process.
 
 ghost use Rattle.std.specs.Prelude.{◌≡◌, ℕ, ◌<◌, false, [], slice_get, Some, IfOk};
-ghost use Rattle.og_board.specs.Runs.{IsRun, process_count};
+ghost use Rattle.og_board.specs.Histories.{IsRun, process_count};
 ghost use Rattle.og_run.specs.Cards.{CardFits, Place};
-ghost use Rattle.og_board.specs.Ends.{OverAt};
+ghost use Rattle.og_board.specs.Over.{OverAt};
 
 use crate::arena::{Arena, Blank, Seat};
 use crate::rule::ArenaName;

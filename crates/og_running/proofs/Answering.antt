@@ -7,7 +7,8 @@ use Rattle.og_judge.specs.Entries.{AreEntries, AreRefused, is_safe, is_unblocked
 use Rattle.og_step.specs.declared.fault.StartFault.TheVariants as starts
 use Rattle.og_board.specs.Runs.{Given}
 use Rattle.og_board.specs.declared.outcome.Outcome.{Outcome}
-use Rattle.og_run.specs.Outcomes.{Runs, IsProvedOutcome}
+use Rattle.og_run.specs.Outcomes.{IsProvedOutcome}
+use Rattle.og_run.specs.Answered.{Runs}
 use Rattle.og_run.specs.declared.fault.RunFault.TheVariants as faults
 use Rattle.og_run.specs.declared.fault.RunError.{RunError}
 use Rattle.og_run.specs.declared.fault.RunError.TheVariants as errors

@@ -2,7 +2,7 @@
 use Rattle.std.proofs.Common.{◌≡◌, ◌∙◌, sym, ap, subst, ℕ, List}
 use Rattle.og_text.specs.declared.token.Token.{Token}
 use Rattle.og_text.proofs.OneCut.{one_tokens}
-use Rattle.og_parse.specs.Faults.{level_limit}
+use Rattle.og_parse.specs.Limits.{level_limit}
 use Rattle.og_parse.specs.Grammar.{IsOutline}
 use Rattle.og_parse.proofs.Parsing.{one_outline}
 use Rattle.og_typed.specs.Syntax.{Program}

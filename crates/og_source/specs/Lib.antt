@@ -1,4 +1,5 @@
 pub mod Source
+pub mod Refused
 pub mod Faults
 pub mod Errors
 pub mod Shown

@@ -1,7 +1,8 @@
 //! Sources with their outlines.
 
 ghost use Rattle.std.specs.Prelude.{◌≡◌, ◌≤◌, ◌^◌, length, IfOk, IfErr};
-ghost use Rattle.og_source.specs.Source.{IsSource, IsNotRead};
+ghost use Rattle.og_source.specs.Source.{IsSource};
+ghost use Rattle.og_source.specs.Refused.{IsNotRead};
 
 use crate::fault::SourceError;
 use og_parse::parse;

@@ -2,13 +2,13 @@
 use Rattle.std.proofs.Common.{◌≡◌, ◌≢◌, ℕ, zero, suc, ◌+◌, ◌<◌, ◌≤◌, ℤ, pos, List, [], ◌∷◌, map, drop, length, get_or, Bool, true, false, ◌&&◌, ◌||◌, ◌==◌, sym, ap, ◌∙◌, length-set, drop_of_length-le, ⊎_elim}
 use Rattle.std.proofs.lemmas.List.{drop_more, ext_get_or}
 use Rattle.std.proofs.lemmas.Bool.{or_parts, eqb-false, eqb-true, cases_eq, false_from_ne_true}
-use Rattle.og_linear.specs.Linear.{FormValue, put, val, value_at}
+use Rattle.og_linear.specs.Linear.{FormValue, put, val, value_at, fits_i64}
 use Rattle.og_linear.proofs.Put.{put_set, put_same, put_other}
 use Rattle.og_typed.specs.declared.statement.Basic.{Basic}
 use Rattle.og_typed.specs.declared.statement.Basic.TheVariants as basic
 use Rattle.og_typed.specs.Syntax.{Simple, Set}
 use Rattle.og_typed.specs.Plain.{simple}
-use Rattle.og_typed.specs.Machine.{act, all_fit, fits_i64}
+use Rattle.og_typed.specs.Machine.{act, all_fit}
 use Rattle.og_step.specs.Actions.{assigns}
 
 -- the i-th assignment and what follows it

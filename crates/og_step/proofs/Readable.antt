@@ -3,9 +3,10 @@ use Rattle.std.proofs.Common.{◌≡◌, ℕ, ◌+◌, ◌-◌, ◌<◌, ◌≤�
 use Rattle.std.specs.List.{list_all, AllByRecursion}
 use Rattle.std.proofs.lemmas.List.Elements.{All-from_recursion}
 use Rattle.std.proofs.lemmas.Bool.{and_parts, and_from, leb-true, le-leb, ltb-true, or_left, or_right}
-use Rattle.og_linear.specs.Linear.{Terms, FormValue, IsTidyFrom, IsTidy, is_small}
+use Rattle.og_linear.specs.Linear.{Terms, FormValue, is_small}
+use Rattle.og_linear.specs.Tidy.{IsTidyFrom, IsTidy}
 use Rattle.og_typed.specs.Syntax.{Formula, True, False, Le, Eq, Ne, Not, And, Or, Imp, Formulas, none, more}
-use Rattle.og_typed.specs.Truth.{each_form, each_form_in}
+use Rattle.og_typed.specs.Forms.{each_form, each_form_in}
 use Rattle.og_typed.specs.Rule.{is_usable_form}
 use Rattle.og_step.specs.Readable.{has_few, is_within, is_readable}
 

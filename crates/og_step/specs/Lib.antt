@@ -5,5 +5,6 @@ pub mod Faults
 pub mod Turns
 pub mod Progress
 pub mod Starts
+pub mod Answered
 pub mod After
 pub mod Inside

@@ -1,13 +1,12 @@
 -- The first moment, or the fault of the values.
-use Rattle.std.specs.Prelude.{◌≡◌, ⊤, ℤ, List, ◌==◌, Option, Some, None, Result, Ok, Err, length, if◌then◌else◌}
+use Rattle.std.specs.Prelude.{⊤, ℤ, List, ◌==◌, Option, Some, None, Result, Ok, Err, length, if◌then◌else◌}
 use Rattle.og_typed.specs.Syntax.{Program}
 use Rattle.og_typed.specs.Truth.{truth}
-use Rattle.og_typed.specs.Machine.{start_state, start_of}
+use Rattle.og_typed.specs.Machine.{start_state}
 use Rattle.og_step.specs.declared.fault.StartFault.{StartFault}
 use Rattle.og_step.specs.declared.fault.StartFault.TheVariants as faults
 use Rattle.og_step.specs.declared.fault.StartError.{StartError}
 use Rattle.og_step.specs.declared.fault.StartError.TheVariants as errors
-use Rattle.og_step.specs.Progress.{Progress}
 
 -- the number of the values comes first, and then the precondition, with each auxiliary at its initial value
 abbrev pub start_fault : Program → List ℤ → Option StartFault
@@ -16,11 +15,8 @@ start_fault o values =
     then (if truth o.pre.assertion (start_state o values) then None else Some faults.NotPre)
     else Some faults.WrongLength
 
-abbrev pub FailsAs : StartError → Option StartFault → Type 0
-FailsAs errors.Memory fault = ⊤
-FailsAs (errors.Fault e) fault = fault ≡ Some e
-
--- the first moment where there is no fault, and else that fault; or memory ran out
-abbrev pub Starts : Result Progress StartError → Program → List ℤ → Type 0
-Starts (Ok a) o values = (start_fault o values ≡ None) × (a ≡ record { outline = o; moment = start_of o values })
-Starts (Err e) o values = FailsAs e (start_fault o values)
+-- P, where memory ran out
+abbrev pub OnMemory : {X : Type 0} → Result X StartError → Type 0 → Type 0
+OnMemory (Ok x) P = ⊤
+OnMemory (Err errors.Memory) P = P
+OnMemory (Err (errors.Fault e)) P = ⊤

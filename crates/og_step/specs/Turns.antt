@@ -3,7 +3,9 @@ use Rattle.std.specs.Prelude.{◌≡◌, ℕ, ℤ, List, Some, None, if◌then�
 use Rattle.std.specs.List.{AllByRecursion}
 use Rattle.og_typed.specs.Syntax.{Rest}
 use Rattle.og_typed.specs.Rule.{IsUsable, IsUsableStatement}
-use Rattle.og_typed.specs.Machine.{advance_rest, is_empty, rest_waits, rest_overflows, Moment, todo, is_early, waits, overflows}
+use Rattle.og_typed.specs.Machine.{advance_rest, is_empty, rest_overflows, Moment, todo, overflows}
+use Rattle.og_typed.specs.Turns.{is_early}
+use Rattle.og_typed.specs.Stuck.{rest_waits, waits}
 use Rattle.og_step.specs.declared.turn.Turn.{Turn}
 use Rattle.og_step.specs.declared.turn.Turn.TheVariants as turn
 

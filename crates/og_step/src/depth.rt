@@ -1,6 +1,6 @@
 //! How deep statements are nested.
 
-ghost use Rattle.std.specs.Prelude.{◌≡◌, IfSome};
+ghost use Rattle.std.specs.Prelude.{◌≡◌, ◌≤◌, ◌^◌, IfSome, IfNone};
 ghost use Rattle.og_typed.specs.Plain.{sequence, statement};
 ghost use Rattle.og_step.specs.Stack.{depth, stmt_depth};
 
@@ -10,7 +10,8 @@ use og_typed::{Seq, Stmt};
 #[cycle(depth)]
 #[tactic(auto, using(crate::proofs::Nesting::more_depth, crate::proofs::Nesting::all_depth, crate::proofs::Nesting::no_depth))]
 pub(crate) fn seq_depth(seq: &Seq) -> Option<usize>
-    ensures { IfSome result (λ d. d ≡ depth (sequence seq.now)) }
+    ensures some { IfSome result (λ d. d ≡ depth (sequence seq.now)) }
+    ensures none { IfNone result (2 ^ 64 ≤ depth (sequence seq.now)) }
 {
     let mut deepest = 0usize;
     for item in &seq.items {
@@ -22,7 +23,8 @@ pub(crate) fn seq_depth(seq: &Seq) -> Option<usize>
 // How deep the statement is nested: not at all where it holds no sequence.
 #[cycle(depth)]
 fn nesting(stmt: &Stmt) -> Option<usize>
-    ensures { IfSome result (λ d. d ≡ stmt_depth (statement stmt.now)) }
+    ensures some { IfSome result (λ d. d ≡ stmt_depth (statement stmt.now)) }
+    ensures none { IfNone result (2 ^ 64 ≤ stmt_depth (statement stmt.now)) }
 {
     match stmt {
         Stmt::Skip | Stmt::Assign(..) | Stmt::Await(..) => Some(0),

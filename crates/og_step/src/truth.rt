@@ -3,7 +3,8 @@
 ghost use Rattle.std.specs.Prelude.{◌≡◌, true, length};
 ghost use Rattle.og_linear.specs.Linear.{val, is_small};
 ghost use Rattle.og_typed.specs.Plain.{formula};
-ghost use Rattle.og_typed.specs.Truth.{truth, each_form};
+ghost use Rattle.og_typed.specs.Truth.{truth};
+ghost use Rattle.og_typed.specs.Forms.{each_form};
 ghost use Rattle.og_step.specs.Readable.{has_few, is_within, is_readable};
 
 use og_linear::{Form, State};

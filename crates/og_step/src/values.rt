@@ -2,8 +2,8 @@
 
 ghost use Rattle.std.specs.Prelude.{◌≡◌, ◌++◌, ℕ, ◌<◌, ◌≤◌, true, false, length, map, IfOk, if◌then◌else◌};
 ghost use Rattle.std.specs.List.{AllByRecursion};
-ghost use Rattle.og_linear.specs.Linear.{put, val, value_at};
-ghost use Rattle.og_typed.specs.Machine.{act, all_fit, fits_i64};
+ghost use Rattle.og_linear.specs.Linear.{put, val, value_at, fits_i64};
+ghost use Rattle.og_typed.specs.Machine.{act, all_fit};
 ghost use Rattle.og_typed.specs.Plain.{simple};
 ghost use Rattle.og_typed.specs.Rule.{is_usable_form, IsUsableSimple};
 ghost use Rattle.og_step.specs.Actions.{assigns};

@@ -3,7 +3,8 @@ use Rattle.std.proofs.Common.{◌≡◌, ℕ, zero, suc, ◌+◌, ◌<◌, ◌�
 use Rattle.std.specs.Prelude.{slice_get, option_map}
 use Rattle.std.proofs.lemmas.List.{take_more, take_all}
 use Rattle.std.proofs.lemmas.Option.{none-some, same_Some, slice_get_within, slice_get_read, slice_get-map, get_or_from_slice_get}
-use Rattle.og_linear.specs.Linear.{Terms, FormValue, form_value, IsTidyFrom, IsTidy}
+use Rattle.og_linear.specs.Linear.{Terms, FormValue, form_value}
+use Rattle.og_linear.specs.Tidy.{IsTidyFrom, IsTidy}
 
 -- the i-th variable is at least i
 tidy_at : (ts : Terms) (low i : ℕ) (t : ℕ × ℤ) → IsTidyFrom low ts → slice_get ts i ≡ Some t → low + i ≤ t.0

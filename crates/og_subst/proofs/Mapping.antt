@@ -2,12 +2,13 @@
 use Rattle.std.proofs.Common.{◌≡◌, ℕ, suc, ◌+◌, ◌<◌, ◌≤◌, List, [], ◌∷◌, ◌++◌, map, length, drop, get_or, Option, Some, None, Vec, Global, refl, sym, ap, ◌∙◌, subst, drop-cons, add-one, drop_of_length-le}
 use Rattle.std.specs.Prelude.{option_and_then, option_map, Err}
 use Rattle.og_linear.specs.Linear.{FormValue}
-use Rattle.og_linear.specs.Arith.{MapValue}
+use Rattle.og_linear.specs.Bounded.{MapValue}
 use Rattle.og_linear.specs.Answer.{IsAnswer, FailsAs}
 use Rattle.og_linear.specs.declared.fault.FormFault.{FormFault}
 use Rattle.og_linear.specs.declared.fault.FormError.{FormError}
 use Rattle.og_linear.specs.declared.fault.FormError.TheVariants as errors
-use Rattle.og_typed.specs.Syntax.{Formula, Formulas, Le, And, Or, none, more, formula_list}
+use Rattle.og_typed.specs.Syntax.{Formula, Formulas, Le, And, Or, none, more}
+use Rattle.og_typed.specs.Lists.{formula_list}
 use Rattle.og_typed.specs.declared.assertion.Assert.{Assert}
 use Rattle.og_typed.specs.declared.assertion.Assert.TheViews as its
 use Rattle.og_typed.specs.Plain.{formula}

@@ -6,13 +6,13 @@ use Rattle.std.specs.List.{list_all}
 use Rattle.std.proofs.lemmas.Int.{ints}
 use Rattle.std.proofs.lemmas.Bool.{and_from, and_left, and_right, ltb-true, ltb-false}
 use Rattle.std.proofs.lemmas.Option.{none-some, same_Some, option_and_then_some}
-use Rattle.og_linear.specs.Linear.{FormValue, form_value, val, value_at, put}
-use Rattle.og_linear.specs.Arith.{MapValue, map_set, image, apply}
+use Rattle.og_linear.specs.Linear.{FormValue, form_value, val, value_at, put, fits_i64}
+use Rattle.og_linear.specs.Bounded.{MapValue, map_set, image, apply}
 use Rattle.og_linear.proofs.Put.{put_at}
 use Rattle.og_linear.proofs.Values.{Shows, val-add_scaled, val-apply, image-map_set}
 use Rattle.og_typed.specs.Syntax.{Formula, Formulas, True, False, Le, Eq, Ne, Not, And, Or, Imp, none, more, Simple, Pass, Set}
 use Rattle.og_typed.specs.Truth.{truth, all_true, some_true}
-use Rattle.og_typed.specs.Machine.{act, all_fit, fits_i64}
+use Rattle.og_typed.specs.Machine.{act, all_fit}
 use Rattle.og_subst.specs.Actions.{assigned_values}
 use Rattle.og_subst.specs.Subst.{forward_on, forward, values_on, values, after, after_all, after_action, low, high, ranges, fits}
 

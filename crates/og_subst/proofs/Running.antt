@@ -3,7 +3,7 @@ use Rattle.std.proofs.Common.{◌≡◌, List, [], ◌∷◌, ◌++◌, Option, 
 use Rattle.std.specs.Prelude.{option_and_then, option_map, Result, Ok, Err, IfOk}
 use Rattle.std.proofs.lemmas.List.{append-nil}
 use Rattle.og_linear.specs.Linear.{FormValue}
-use Rattle.og_linear.specs.Arith.{map_set, apply}
+use Rattle.og_linear.specs.Bounded.{map_set, apply}
 use Rattle.og_linear.specs.Answer.{IsAnswer}
 use Rattle.og_linear.specs.declared.fault.FormFault.{FormFault}
 use Rattle.og_linear.specs.declared.fault.FormError.{FormError}

@@ -5,8 +5,8 @@ use Rattle.std.proofs.lemmas.Bool.{or_cases, or_left, or_right, or_parts, eq-eqb
 use Rattle.og_linear.specs.Linear.{value_at, put, val}
 use Rattle.og_linear.proofs.Put.{put_other}
 use Rattle.og_typed.specs.Syntax.{Formula, Simple, Pass, Set}
-use Rattle.og_typed.specs.Truth.{occurs}
-use Rattle.og_typed.specs.Machine.{act, touches}
+use Rattle.og_typed.specs.Occurs.{occurs, touches}
+use Rattle.og_typed.specs.Machine.{act}
 use Rattle.og_subst.specs.Actions.{assigns}
 
 -- some variable is assigned and occurs

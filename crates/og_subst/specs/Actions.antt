@@ -1,24 +1,15 @@
 -- Actions: what one step of a process assigns.
 use Rattle.std.specs.Prelude.{ℕ, ℤ, List, [], ◌∷◌, Bool, false, ◌||◌, ◌==◌, Option, Some, None, map, option_map}
-use Rattle.og_linear.specs.Linear.{FormValue, put, val}
+use Rattle.og_linear.specs.Linear.{put, val}
 use Rattle.og_typed.specs.Syntax.{Simple, Pass, Set, Statement, Assign, Await}
 use Rattle.og_typed.specs.Plain.{simple}
 use Rattle.og_subst.specs.declared.action.Action.{Action}
 use Rattle.og_subst.specs.declared.action.Action.TheVariants as actions
-
--- an action as a tree: one assignment, or the body of an await
-pub data ActionTree : Type 0 where
-  One : ℕ → FormValue → ActionTree
-  Whole : List Simple → ActionTree
+use Rattle.og_subst.specs.Trees.{ActionTree, One, Whole, tree_body}
 
 abbrev pub action_tree : Action → ActionTree
 action_tree (actions.Assign x e) = One x e.now
 action_tree (actions.Await body) = Whole (map simple body.now)
-
--- its assignments, in order
-abbrev pub tree_body : ActionTree → List Simple
-tree_body (One x e) = Set x e ∷ []
-tree_body (Whole body) = body
 
 abbrev pub action_body : Action → List Simple
 action_body action = tree_body (action_tree action)

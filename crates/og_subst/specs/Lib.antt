@@ -1,4 +1,5 @@
 pub mod Actions
+pub mod Trees
 pub mod Prepared
 pub mod Subst
 pub mod Running

@@ -1,7 +1,7 @@
 -- What is prepared of an action.
 use Rattle.std.specs.Prelude.{List}
 use Rattle.og_linear.specs.Linear.{FormValue}
-use Rattle.og_linear.specs.Arith.{MapValue}
+use Rattle.og_linear.specs.Bounded.{MapValue}
 
 -- the map, and the form of each assigned value, in order
 pub record Prepared : Type 0 where

@@ -1,7 +1,7 @@
 -- The map and the values of an action, made together, one assignment after another.
 use Rattle.std.specs.Prelude.{ℕ, List, [], ◌∷◌, ◌++◌, Option, Some, option_and_then, option_map}
 use Rattle.og_linear.specs.Linear.{FormValue}
-use Rattle.og_linear.specs.Arith.{map_set, apply}
+use Rattle.og_linear.specs.Bounded.{map_set, apply}
 use Rattle.og_typed.specs.Syntax.{Simple, Pass, Set}
 use Rattle.og_subst.specs.Prepared.{Prepared, prepared}
 

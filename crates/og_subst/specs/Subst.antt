@@ -1,7 +1,7 @@
 -- An action as a map from variables to forms, and assertions under it, as far as each number fits 128 bits.
 use Rattle.std.specs.Prelude.{pos, negsuc, List, [], ◌∷◌, Option, Some, option_and_then, option_map}
 use Rattle.og_linear.specs.Linear.{FormValue, form_value}
-use Rattle.og_linear.specs.Arith.{MapValue, map_set, apply, add_scaled}
+use Rattle.og_linear.specs.Bounded.{MapValue, map_set, apply, add_scaled}
 use Rattle.og_typed.specs.Syntax.{Formula, True, False, Le, Eq, Ne, Not, And, Or, Imp, Formulas, none, more, Simple, Pass, Set}
 
 -- ---- the map of an action

@@ -2,7 +2,7 @@
 
 ghost use Rattle.std.specs.Prelude.{◌≡◌, ◌↔◌, ℕ, ℤ, List, map, option_map, IfOk, IsTrue};
 ghost use Rattle.og_linear.specs.Linear.{val, value_at};
-ghost use Rattle.og_linear.specs.Arith.{image};
+ghost use Rattle.og_linear.specs.Bounded.{image};
 ghost use Rattle.og_linear.specs.Answer.{IsAnswer};
 ghost use Rattle.og_linear.specs.declared.fault.FormFault.TheVariants as faults;
 ghost use Rattle.og_typed.specs.Plain.{simple, statement};

@@ -5,11 +5,12 @@
 
 ghost use Rattle.std.specs.Prelude.{◌≡◌, ◌↔◌, ℕ, ℤ, List, Some, true, false, map, is_some};
 ghost use Rattle.std.specs.List.{list_all};
-ghost use Rattle.og_linear.specs.Linear.{FormValue, val, value_at};
-ghost use Rattle.og_linear.specs.Arith.{MapValue, image};
+ghost use Rattle.og_linear.specs.Linear.{FormValue, val, value_at, fits_i64};
+ghost use Rattle.og_linear.specs.Bounded.{MapValue, image};
 ghost use Rattle.og_typed.specs.Syntax.{Formula, Formulas, Simple};
-ghost use Rattle.og_typed.specs.Truth.{truth, all_true, occurs};
-ghost use Rattle.og_typed.specs.Machine.{act, all_fit, fits_i64, touches};
+ghost use Rattle.og_typed.specs.Truth.{truth, all_true};
+ghost use Rattle.og_typed.specs.Occurs.{occurs, touches};
+ghost use Rattle.og_typed.specs.Machine.{act, all_fit};
 ghost use Rattle.og_subst.specs.Actions.{assigns, assigned_values};
 ghost use Rattle.og_subst.specs.Subst.{forward, values, after, ranges, fits};
 

@@ -4,7 +4,7 @@ ghost use Rattle.std.specs.Prelude.{◌≡◌, ℤ, List, map, IfOk};
 ghost use Rattle.og_linear.specs.Answer.{IsAnswer};
 ghost use Rattle.og_linear.specs.declared.fault.FormFault.TheVariants as faults;
 ghost use Rattle.og_typed.specs.Plain.{formula};
-ghost use Rattle.og_typed.specs.Syntax.{formula_list};
+ghost use Rattle.og_typed.specs.Lists.{formula_list};
 ghost use Rattle.og_typed.specs.Truth.{truth};
 ghost use Rattle.og_typed.specs.Machine.{act, all_fit};
 ghost use Rattle.og_subst.specs.Actions.{action_body};

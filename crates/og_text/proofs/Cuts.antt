@@ -5,7 +5,8 @@ use Rattle.og_text.specs.declared.token.Token.{Token}
 use Rattle.og_text.specs.declared.token.TokenKind.{TokenKind}
 use Rattle.og_text.specs.declared.front.Front.{Front}
 use Rattle.og_text.specs.declared.front.Front.TheVariants as fronts
-use Rattle.og_text.specs.Cut.{Piece, White, Comment, Lexeme, bytes_of, BeginsWith, IsLongest, IsCut, length_of, tokens_of, IsSmall, AreSmall}
+use Rattle.og_text.specs.Cut.{Piece, White, Comment, Lexeme, bytes_of, BeginsWith, IsLongest, IsCut, tokens_of, IsSmall, AreSmall}
+use Rattle.og_text.specs.Refused.{length_of}
 use Rattle.og_text.specs.Fronts.{IsGap, IsFront}
 
 -- the tokens of the cut so far, which comes to a place over small pieces

@@ -8,7 +8,9 @@ use Rattle.og_text.specs.declared.token.Token.{Token}
 use Rattle.og_text.specs.declared.token.TokenKind.{TokenKind}
 use Rattle.og_text.specs.declared.token.TokenKind.TheVariants as kinds
 use Rattle.og_text.specs.Lexemes.{is_white, is_digit, is_letter, is_word_byte, in_line, IsRun, text_of, Spells, value_of, keyword_of}
-use Rattle.og_text.specs.Cut.{Piece, White, Comment, Lexeme, bytes_of, IsPiece, BeginsWith, IsLongest, IsCut, HasNoPiece, length_of, tokens_of, IsSmall, AreSmall, AreTokensOf, ComesTo, StandsAt, IsFaultOf, LiesWithin}
+use Rattle.og_text.specs.Cut.{Piece, White, Comment, Lexeme, bytes_of, IsPiece, BeginsWith, IsLongest, IsCut, tokens_of, IsSmall, AreSmall, AreTokensOf}
+use Rattle.og_text.specs.Lexed.{LiesWithin}
+use Rattle.og_text.specs.Refused.{HasNoPiece, length_of, ComesTo, StandsAt, IsFaultOf}
 use Rattle.og_text.specs.Faults.{place_of_fault}
 use Rattle.std.specs.Prelude.{All, IfSome}
 use Rattle.std.proofs.lemmas.List.Elements.{All-cons}

@@ -1,9 +1,5 @@
 -- The one cut of a text into white space, comments and lexemes.
-use Rattle.std.specs.Prelude.{◌≡◌, ℕ, ◌+◌, ◌^◌, ◌<◌, ◌≤◌, List, [], ◌∷◌, ◌++◌, length}
-use Rattle.og_text.specs.declared.fault.LexError.{LexError}
-use Rattle.og_text.specs.declared.fault.LexError.TheVariants as errors
-use Rattle.og_text.specs.declared.fault.LexFault.{LexFault}
-use Rattle.og_text.specs.declared.fault.LexFault.TheVariants as faults
+use Rattle.std.specs.Prelude.{◌≡◌, ℕ, ◌+◌, ◌^◌, ◌≤◌, List, [], ◌∷◌, ◌++◌, length}
 use Rattle.og_text.specs.declared.token.TokenKind.{TokenKind}
 use Rattle.og_text.specs.declared.token.TokenKind.TheVariants as kinds
 use Rattle.og_text.specs.declared.token.Token.{Token}
@@ -41,15 +37,6 @@ abbrev pub IsCut : List ℕ → List Piece → List ℕ → Type 0
 IsCut text [] rest = text ≡ rest
 IsCut text (piece ∷ pieces) rest = (after : List ℕ) × BeginsWith text piece after × IsLongest text piece × IsCut after pieces rest
 
--- no piece begins there
-abbrev pub HasNoPiece : List ℕ → Type 0
-HasNoPiece text = (piece : Piece) (rest : List ℕ) → BeginsWith text piece rest → ⊥
-
--- how many bytes the pieces have together
-abbrev pub length_of : List Piece → ℕ
-length_of [] = 0
-length_of (piece ∷ pieces) = length (bytes_of piece) + length_of pieces
-
 -- the lexemes among the pieces, which begin at a place, with where they stand
 abbrev pub tokens_of : ℕ → List Piece → List Token
 tokens_of at [] = []
@@ -76,35 +63,3 @@ pub record AreTokensOf (text : List ℕ) (tokens : List Token) : Type 0 where
   pub cut : IsCut text pieces []
   pub small : AreSmall pieces
   pub lexemes : tokens ≡ tokens_of 0 pieces
-
--- the cut of a text within its limit comes to this place over small pieces, and leaves the rest
-pub record ComesTo (text : List ℕ) (at : ℕ) (rest : List ℕ) : Type 0 where
-  pub short : length text ≤ 2 ^ 20
-  pub pieces : List Piece
-  pub cut : IsCut text pieces rest
-  pub small : AreSmall pieces
-  pub place : at ≡ length_of pieces
-
--- the cut comes to this place over small pieces, and this piece is next
-pub record StandsAt (text : List ℕ) (at : ℕ) (piece : Piece) : Type 0 where
-  pub rest : List ℕ
-  pub comes : ComesTo text at rest
-  pub after : List ℕ
-  pub begins : BeginsWith rest piece after
-  pub longest : IsLongest rest piece
-
--- the fault of a text: that of the whole, else the first one from the left
-abbrev pub IsFaultOf : List ℕ → LexFault → Type 0
-IsFaultOf text (faults.BadByte at) = (rest : List ℕ) × ComesTo text at rest × (0 < length rest) × HasNoPiece rest
-IsFaultOf text (faults.NumberTooLarge at) = (n : ℕ) × (digits : List ℕ) × StandsAt text at (Lexeme (kinds.Number n) digits) × (2 ^ 63 < n)
-IsFaultOf text (faults.NameTooLong at) = (word : List ℕ) × StandsAt text at (Lexeme (kinds.Name word) word) × (64 < length word)
-IsFaultOf text faults.SourceTooLong = 2 ^ 20 < length text
-
--- an error of a text: its fault, or want of memory, which says nothing of the text
-abbrev pub IsErrorOf : List ℕ → LexError → Type 0
-IsErrorOf text errors.Memory = Unit {0}
-IsErrorOf text (errors.Fault fault) = IsFaultOf text fault
-
--- the token holds some bytes, all within a length
-abbrev pub LiesWithin : ℕ → Token → Type 0
-LiesWithin limit token = (token.span.start < token.span.end) × (token.span.end ≤ limit)

@@ -5,7 +5,8 @@ use Rattle.og_text.specs.declared.front.Front.TheVariants as fronts
 use Rattle.og_text.specs.declared.token.TokenKind.{TokenKind}
 use Rattle.og_text.specs.declared.token.TokenKind.TheVariants as kinds
 use Rattle.og_text.specs.Lexemes.{is_white, is_digit, is_letter, written_so}
-use Rattle.og_text.specs.Cut.{Piece, White, Comment, Lexeme, bytes_of, BeginsWith, IsLongest, HasNoPiece, IsSmall}
+use Rattle.og_text.specs.Cut.{Piece, White, Comment, Lexeme, bytes_of, BeginsWith, IsLongest, IsSmall}
+use Rattle.og_text.specs.Refused.{HasNoPiece}
 
 -- the symbols of two bytes
 abbrev pub pairs : List TokenKind

@@ -1,4 +1,6 @@
 pub mod Cut
+pub mod Lexed
+pub mod Refused
 pub mod Faults
 pub mod Fronts
 pub mod Kinds

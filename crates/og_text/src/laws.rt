@@ -3,7 +3,9 @@
 ghost use Rattle.std.specs.Prelude.{◌≡◌, ℕ, ◌<◌, List, [], length, All, IfSome};
 ghost use Rattle.og_text.specs.declared.fault.LexFault.{LexFault};
 ghost use Rattle.og_text.specs.declared.token.Token.{Token};
-ghost use Rattle.og_text.specs.Cut.{Piece, IsCut, AreTokensOf, IsFaultOf, LiesWithin};
+ghost use Rattle.og_text.specs.Cut.{Piece, IsCut, AreTokensOf};
+ghost use Rattle.og_text.specs.Lexed.{LiesWithin};
+ghost use Rattle.og_text.specs.Refused.{IsFaultOf};
 ghost use Rattle.og_text.specs.Faults.{place_of_fault};
 
 /// A text has one cut into longest pieces. So it has one list of tokens at most and one fault at most, and never

@@ -1,7 +1,8 @@
 //! Cutting a text into its lexemes.
 
 ghost use Rattle.std.specs.Prelude.{IfOk, IfErr};
-ghost use Rattle.og_text.specs.Cut.{AreTokensOf, IsErrorOf};
+ghost use Rattle.og_text.specs.Cut.{AreTokensOf};
+ghost use Rattle.og_text.specs.Lexed.{IsErrorOf};
 
 use crate::fault::{LexError, LexFault};
 use crate::front::{Front, front_of};
@@ -23,7 +24,7 @@ use std::alloc::Global;
 /// - `NumberTooLarge`, at the first digit of a number above 9223372036854775808,
 /// - `NameTooLong`, at the first byte of a word of more than 64 bytes.
 ///
-/// `Memory` may stand in the place of any answer where an allocation was refused.
+/// `Memory` may stand in the place of any other answer where an allocation was refused.
 pub fn lex(alloc: Global, text: &[u8]) -> Result<Vec<Token>, LexError>
     ensures tokens { IfOk result (λ tokens. AreTokensOf text.now tokens.items) }
     ensures error { IfErr result (IsErrorOf text.now) }

@@ -1,10 +1,11 @@
 -- The rest of a process as a chain: each statement leads from its assertion to the next one.
 use Rattle.std.proofs.Common.{◌≡◌, ℕ, ℤ, List, [], ◌∷◌, ◌++◌, true, IfSome, refl, subst}
-use Rattle.og_typed.specs.Syntax.{Formula, Statement, Sequence, Last, Then, Rest, items, first_of, last_of, Piece, pieces, pieces_of_stmt}
+use Rattle.og_typed.specs.Syntax.{Formula, Statement, Sequence, Last, Then, Rest, items, last_of}
+use Rattle.og_typed.specs.Pieces.{first_of, Piece, pieces, pieces_of_stmt}
 use Rattle.og_linear.specs.Linear.{IsProper}
 use Rattle.og_typed.specs.Truth.{truth}
 use Rattle.og_typed.specs.Machine.{head_or}
-use Rattle.og_cond.specs.Condition.{IsValid, AreValid}
+use Rattle.og_cond.specs.Valid.{IsValid, AreValid}
 use Rattle.og_cond.specs.Conditions.{Action, stmt_action, stmt_conditions, seq_conditions}
 use Rattle.og_typed.proofs.Each.{Each, each_left, each_right}
 

@@ -11,11 +11,14 @@ use Rattle.std.proofs.lemmas.List.Elements.{All-append}
 use Rattle.og_linear.specs.Linear.{IsProper}
 use Rattle.og_typed.specs.Syntax.{Statement, Sequence, Program, Rest, items, last_of}
 use Rattle.og_typed.specs.Truth.{truth}
-use Rattle.og_typed.specs.Machine.{advance_rest, rest_overflows, rest_waits, Moment, Phase, Before, During, After, phase, phase_by, with_rest, with_prologue, with_epilogue, rest_of, is_last, next_in, next, run_on, start_state, IsStart, start_of, IsReached, is_main, is_process, active, active_in, main_rest, todo, overflows, waits, is_empty, all_empty, is_finished}
+use Rattle.og_typed.specs.Machine.{advance_rest, rest_overflows, Moment, Phase, Before, During, After, phase, phase_by, with_rest, with_prologue, with_epilogue, rest_of, is_last, next_in, next, run_on, start_state, IsStart, start_of, IsReached, is_main, is_process, active, active_in, main_rest, todo, overflows, is_empty, all_empty, is_finished}
+use Rattle.og_typed.specs.Stuck.{rest_waits, waits}
 use Rattle.og_typed.specs.Rule.{StatementFollows, IsOutline}
 use Rattle.og_typed.specs.Erase.{is_aux_assign, erase_seq, erased, erase_rest, project}
 use Rattle.og_typed.proofs.Erasing.{plain_truth, left, erase_items}
-use Rattle.og_theorem.specs.Sound.{IsSafe, IsUnblocked, IsSoundErased, IsNeverStuck}
+use Rattle.og_theorem.specs.Sound.{IsSoundErased}
+use Rattle.og_theorem.specs.Proved.{IsSafe, IsUnblocked}
+use Rattle.og_theorem.specs.NeverStuck.{IsNeverStuck}
 use Rattle.og_theorem.proofs.Steps.{IsReady, ready_fits}
 use Rattle.og_theorem.proofs.Invariant.{IsHead, MainHead, MainAction, IsAction, IsInvariant, Now, is_nothing, nothing_left, opened, under_way, ended, process_of, start_invariant, run_invariant, rest_set_same, rest_set_other}
 use Rattle.og_theorem.proofs.Sound.{sound, reached, active_cases, main_number, todo_main, todo_process, main_before, main_after}

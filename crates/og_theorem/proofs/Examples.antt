@@ -1,17 +1,19 @@
 -- Three small outlines: one whose conditions are all true, and two that are not sound although all conditions but one are true.
-use Rattle.std.proofs.Common.{◌≡◌, ◌^◌, ℤ, pos, ◌+ℤ◌, ◌*ℤ◌, List, [], ◌∷◌, ◌++◌, None, true, false, FitsSigned, refl, ap}
+use Rattle.std.proofs.Common.{◌≡◌, ◌^◌, ℤ, pos, ◌+ℤ◌, ◌*ℤ◌, List, [], ◌∷◌, ◌++◌, None, Some, true, false, FitsSigned, refl, ap}
 use mir.Syntax.{w64}
 use Rattle.std.specs.Ordering.{int_eq}
 use Rattle.std.proofs.lemmas.List.Elements.{All-from_recursion}
 use Rattle.std.proofs.lemmas.Bool.{and_parts, both_ways, ltb-true}
 use Rattle.og_linear.specs.Linear.{FormValue, form_value, value_at, put, IsProper}
 use Rattle.og_linear.proofs.Put.{put_same}
-use Rattle.og_typed.specs.Syntax.{Formula, True, Eq, Noted, Set, Assign, Sequence, Last, Then, Program}
+use Rattle.og_typed.specs.Syntax.{Formula, True, Eq, Noted, Assign, Sequence, Last, Then, Program}
 use Rattle.og_typed.specs.Machine.{Moment, start_of}
 use Rattle.og_cond.specs.declared.kind.Kind.TheVariants as kind
-use Rattle.og_cond.specs.Condition.{Condition, Is, Yes, Holds, Fits, AreValid}
+use Rattle.og_cond.specs.Condition.{One, Condition, Is, Yes, Holds, Fits}
+use Rattle.og_cond.specs.Valid.{AreValid}
 use Rattle.og_cond.specs.Conditions.{interfere_condition, safety_conditions, start_condition, end_condition, action_conditions}
-use Rattle.og_theorem.specs.Sound.{IsSound, IsProved}
+use Rattle.og_theorem.specs.Sound.{IsSound}
+use Rattle.og_theorem.specs.Proved.{IsProved}
 
 -- ---- outlines with the one variable x
 
@@ -77,13 +79,13 @@ abbrev disturbed : Program
 disturbed = outline (assigning (number (pos 0)) x_is_0 ∷ assigning (number (pos 1)) True ∷ []) x_is_0
 
 -- that x := 1 keeps the last assertion of the first process is the one condition that is false
-disturbed_conditions : AllButOne disturbed (interfere_condition 1 (record { at = 0; hypotheses = Is (Yes True) ∷ []; body = Set 0 (number (pos 1)) ∷ [] }) (note x_is_0))
+disturbed_conditions : AllButOne disturbed (interfere_condition 1 (record { at = 0; hypotheses = Is (Yes True) ∷ []; does = One 0 (number (pos 1)) }) (note x_is_0))
 disturbed_conditions = record {
   before =
       start_condition disturbed (assigning (number (pos 0)) x_is_0)
       ∷ start_condition disturbed (assigning (number (pos 1)) True)
-      ∷ (action_conditions 1 0 (Is (Yes True) ∷ []) (Set 0 (number (pos 0)) ∷ []) x_is_0
-      ++ action_conditions 1 0 (Is (Yes True) ∷ []) (Set 0 (number (pos 1)) ∷ []) True);
+      ∷ (action_conditions 1 0 (Is (Yes True) ∷ []) (One 0 (number (pos 0))) x_is_0
+      ++ action_conditions 1 0 (Is (Yes True) ∷ []) (One 0 (number (pos 1))) True);
   behind = end_condition disturbed ∷ [];
   these = refl;
   before_true = ((λ s proper h. refl), ((λ s proper h. refl), ((λ s proper h. x_set s), ((λ s proper h. refl), ((λ s proper h. refl), ((λ s proper h. refl), tt))))));
@@ -113,7 +115,7 @@ rising_conditions : AllButOne rising (record {
   action_at = None;
   variables = 1;
   hypotheses = Is (Yes True) ∷ [];
-  action = Set 0 (x_plus (pos 1)) ∷ [];
+  action = Some (One 0 (x_plus (pos 1)));
   goal = Fits;
 })
 rising_conditions = record {
@@ -123,7 +125,7 @@ rising_conditions = record {
     action_at = None;
     variables = 1;
     hypotheses = Is (Yes True) ∷ [];
-    action = Set 0 (x_plus (pos 1)) ∷ [];
+    action = Some (One 0 (x_plus (pos 1)));
     goal = Holds True;
   } ∷ [];
   behind = end_condition rising ∷ [];

@@ -5,15 +5,17 @@ use Rattle.std.proofs.lemmas.List.{length-map}
 use Rattle.std.proofs.lemmas.Bool.Decides.{Decides-int_eq}
 use Rattle.std.proofs.lemmas.Bool.{and_from, and_parts, cases_eq, both_ways}
 use Rattle.std.proofs.lemmas.Option.{none-some, same_Some, slice_get-map, unwrap_or-slice_get, slice_get_cases}
-use Rattle.og_typed.specs.Syntax.{Formula, True, Noted, Statement, Sequence, Program, Rest, items, part_items, first_of, last_of, Piece, pieces}
+use Rattle.og_typed.specs.Syntax.{Formula, True, Noted, Statement, Sequence, Program, Rest, items, part_items, last_of}
+use Rattle.og_typed.specs.Pieces.{first_of, Piece, pieces}
 use Rattle.og_linear.specs.Linear.{IsProper}
 use Rattle.og_typed.specs.Truth.{truth}
-use Rattle.og_typed.specs.Machine.{act, touches, advance, advance_rest, Moment, with_rest, with_prologue, with_epilogue, rest_of, is_empty, all_empty, Phase, Before, During, After, phase, phase_by, is_last, next_in, next, run_on, start_state, IsStart, start_of, head_or}
-use Rattle.og_cond.specs.Condition.{IsValid, AreValid, hypotheses_true}
-use Rattle.og_cond.specs.Conditions.{Action, stmt_action, actions, notes, blocked, stmt_blocked, interfere_condition, pair_condition, against, interference, seq_conditions, start_condition, starts, prologue_conditions, start_hypotheses, end_note, end_condition, last_hypotheses, epilogue_conditions}
+use Rattle.og_typed.specs.Machine.{act, advance, advance_rest, Moment, with_rest, with_prologue, with_epilogue, rest_of, is_empty, all_empty, Phase, Before, During, After, phase, phase_by, is_last, next_in, next, run_on, start_state, IsStart, start_of, head_or}
+use Rattle.og_typed.specs.Occurs.{touches}
+use Rattle.og_cond.specs.Valid.{IsValid, AreValid, hypotheses_true}
+use Rattle.og_cond.specs.Conditions.{Action, assigned, stmt_action, actions, notes, blocked, stmt_blocked, interfere_condition, pair_condition, against, interference, seq_conditions, start_condition, starts, prologue_conditions, start_hypotheses, end_note, end_condition, last_hypotheses, epilogue_conditions}
 use Rattle.og_typed.proofs.Each.{Each, Among, each_from_at, each_left, each_right, each_flat, each_of_map, each_of_filter_map, each_weaker, each_at, each_among, among_left, among_last, among_map, each_is_among, each_both, each_for_all, each_map, rest_but, among_others}
 use Rattle.og_typed.proofs.Frame.{untouched}
-use Rattle.og_theorem.specs.Sound.{IsSafe}
+use Rattle.og_theorem.specs.Proved.{IsSafe}
 use Rattle.og_theorem.proofs.Chain.{Gives, gives_itself, IsKnown, Chain, head_append, chain_append, seq_chain, seq_first}
 use Rattle.og_theorem.proofs.Steps.{Effect, IsReady, IsGood, advance_good, rest_good}
 
@@ -21,14 +23,14 @@ use Rattle.og_theorem.proofs.Steps.{Effect, IsReady, IsGood, advance_good, rest_
 
 -- the action leaves the assertion true
 abbrev pub IsKept : Action → Formula → Type 0
-IsKept action a = (s : List ℤ) → IsProper s → hypotheses_true s action.hypotheses ≡ true → truth a s ≡ true → truth a (act action.body s) ≡ true
+IsKept action a = (s : List ℤ) → IsProper s → hypotheses_true s action.hypotheses ≡ true → truth a s ≡ true → truth a (act (assigned action) s) ≡ true
 
 pair_kept : (n : ℕ) (action : Action) (note : Noted) → AreValid (pair_condition n action note) → IsKept action note.assertion
-pair_kept n action note valid s proper hs h = go (touches action.body note.assertion) refl valid
+pair_kept n action note valid s proper hs h = go (touches (assigned action) note.assertion) refl valid
   where
-    go : (t : Bool) → touches action.body note.assertion ≡ t → AreValid (if t then interfere_condition n action note ∷ [] else []) → truth note.assertion (act action.body s) ≡ true
+    go : (t : Bool) → touches (assigned action) note.assertion ≡ t → AreValid (if t then interfere_condition n action note ∷ [] else []) → truth note.assertion (act (assigned action) s) ≡ true
     go true e v = v.0 s proper (and_from _ _ h hs)
-    go false e v = untouched action.body note.assertion s e ∙ h
+    go false e v = untouched (assigned action) note.assertion s e ∙ h
 
 interference_at : (n : ℕ) (earlier later : List Sequence) (i : ℕ) (p : Sequence) → AreValid (interference n earlier later) → slice_get later i ≡ Some p → AreValid (against n p (earlier ++ rest_but i later))
 interference_at n earlier [] i p v e = absurd (none-some p e)

@@ -6,7 +6,8 @@ use Rattle.std.proofs.lemmas.List.{map-set}
 use Rattle.og_linear.proofs.Put.{take_put_past}
 use Rattle.og_linear.specs.Linear.{val}
 use Rattle.og_typed.specs.Syntax.{Formula, True, Set, Statement, Skip, Assign, If, While, Await, Sequence, Program, Rest, part_items}
-use Rattle.og_typed.specs.Machine.{act, advance, advance_rest, stmt_overflows, rest_overflows, rest_waits, Moment, Before, phase, phase_by, with_rest, rest_of, next, run_on, start_of, IsReached, is_empty, all_empty, is_finished}
+use Rattle.og_typed.specs.Machine.{act, advance, advance_rest, stmt_overflows, rest_overflows, Moment, Before, phase, phase_by, with_rest, rest_of, next, run_on, start_of, IsReached, is_empty, all_empty, is_finished}
+use Rattle.og_typed.specs.Stuck.{rest_waits}
 use Rattle.og_typed.specs.Rule.{StatementFollows}
 use Rattle.og_typed.specs.Erase.{is_aux_assign, erase_seq, erase_stmt, erase_rest, project}
 use Rattle.og_typed.proofs.Erasing.{left, erase_items, attempt_fits, advance_erased, overflows_erased, waits_erased}

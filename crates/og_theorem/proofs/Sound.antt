@@ -3,13 +3,15 @@ use Rattle.std.proofs.Common.{◌≡◌, ℕ, zero, suc, ◌<◌, arith, ℤ, Li
 use Rattle.std.specs.Prelude.{◌⊎◌}
 use Rattle.std.proofs.lemmas.Bool.{and_from, and_parts, both_ways, eq-eqb, eqb-true, ltb-true, false_from_ne_true}
 use Rattle.std.proofs.lemmas.Option.{slice_get_cases, slice_get_past}
-use Rattle.og_typed.specs.Syntax.{Formula, Statement, Sequence, Program, Rest, last_of, Piece, pieces}
+use Rattle.og_typed.specs.Syntax.{Formula, Statement, Sequence, Program, Rest, last_of}
+use Rattle.og_typed.specs.Pieces.{Piece, pieces}
 use Rattle.og_linear.specs.Linear.{IsProper}
 use Rattle.og_typed.specs.Truth.{truth}
 use Rattle.og_typed.specs.Machine.{Moment, Phase, Before, During, After, phase, phase_by, IsReached, rest_of, head_or, is_main, is_process, active, active_in, main_rest, todo, end_of, rest_overflows, all_empty, is_empty}
 use Rattle.og_cond.specs.Conditions.{Action}
 use Rattle.og_typed.proofs.Each.{Each}
-use Rattle.og_theorem.specs.Sound.{IsSafe, IsSound}
+use Rattle.og_theorem.specs.Sound.{IsSound}
+use Rattle.og_theorem.specs.Proved.{IsSafe}
 use Rattle.og_theorem.proofs.Steps.{IsReady, ready_fits}
 use Rattle.og_theorem.proofs.Invariant.{IsHead, MainHead, MainAction, AllMeet, Meets, IsAction, IsInvariant, Now, is_nothing, opened, ended, start_invariant, run_invariant}
 

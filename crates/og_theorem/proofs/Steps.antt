@@ -2,12 +2,13 @@
 use Rattle.std.proofs.Common.{◌≡◌, ℕ, ℤ, List, [], ◌∷◌, ◌++◌, Bool, true, false, not, ◌&&◌, if◌then◌else◌, Option, Some, None, IfSome, refl, inl, inr}
 use Rattle.std.specs.Prelude.{◌⊎◌}
 use Rattle.std.proofs.lemmas.Bool.{and_from, not_from_true, not_from_false}
-use Rattle.og_typed.specs.Syntax.{Formula, Statement, Skip, Assign, If, While, Await, Otherwise, Nothing, Else, Sequence, Rest, items, else_items, first_of, last_of, pieces, pieces_of_else}
+use Rattle.og_typed.specs.Syntax.{Formula, Statement, Skip, Assign, If, While, Await, Otherwise, Nothing, Else, Sequence, Rest, items, else_items, last_of}
+use Rattle.og_typed.specs.Pieces.{first_of, pieces, pieces_of_else}
 use Rattle.og_linear.specs.Linear.{IsProper}
 use Rattle.og_typed.specs.Truth.{truth}
 use Rattle.og_typed.specs.Machine.{act, all_fit, attempt, advance, advance_rest, head_or, is_empty, stmt_overflows, rest_overflows}
-use Rattle.og_cond.specs.Condition.{IsValid, AreValid, hypotheses_true}
-use Rattle.og_cond.specs.Conditions.{Action, stmt_conditions, else_conditions, seq_conditions}
+use Rattle.og_cond.specs.Valid.{IsValid, AreValid, hypotheses_true}
+use Rattle.og_cond.specs.Conditions.{Action, assigned, stmt_conditions, else_conditions, seq_conditions}
 use Rattle.og_typed.proofs.Each.{Each, each_left, each_right}
 use Rattle.og_typed.proofs.Frame.{act_proper}
 use Rattle.og_theorem.proofs.Chain.{Gives, gives_itself, gives_on, IsKnown, Chain, head_append, chain_append, seq_chain, seq_first}
@@ -28,7 +29,7 @@ no_overflow s n at before after (Await b body) proper valid h =
 module _ (IsHead : Formula → Statement → Type 0) (IsAction : Action → Type 0) where
   -- the state is as it was, or a known action was done
   abbrev pub Effect : List ℤ → List ℤ → Type 0
-  Effect s r = (r ≡ s) ⊎ ((action : Action) × IsAction action × (hypotheses_true s action.hypotheses ≡ true) × (r ≡ act action.body s))
+  Effect s r = (r ≡ s) ⊎ ((action : Action) × IsAction action × (hypotheses_true s action.hypotheses ≡ true) × (r ≡ act (assigned action) s))
 
   -- the rest is a chain whose first assertion is true
   abbrev pub IsReady : List ℤ → Rest → Formula → Type 0
@@ -37,13 +38,13 @@ module _ (IsHead : Formula → Statement → Type 0) (IsAction : Action → Type
   abbrev pub IsGood : List ℤ → Formula → List ℤ × Rest → Type 0
   IsGood s last after = IsProper after.0 × IsReady after.0 after.1 last × Effect s after.0
 
-  attempt_good : (s : List ℤ) (rest : Rest) (after last : Formula) (action : Action) → IsProper s → IsAction action → hypotheses_true s action.hypotheses ≡ true → truth after (act action.body s) ≡ true → Gives after (head_or rest last) → Chain IsHead IsAction rest last → IfSome (attempt action.body s rest) (IsGood s last)
-  attempt_good s rest after last action proper known h reached g chain = go (all_fit action.body s) refl
+  attempt_good : (s : List ℤ) (rest : Rest) (after last : Formula) (action : Action) → IsProper s → IsAction action → hypotheses_true s action.hypotheses ≡ true → truth after (act (assigned action) s) ≡ true → Gives after (head_or rest last) → Chain IsHead IsAction rest last → IfSome (attempt (assigned action) s rest) (IsGood s last)
+  attempt_good s rest after last action proper known h reached g chain = go (all_fit (assigned action) s) refl
     where
-      go : (b : Bool) → all_fit action.body s ≡ b → IfSome (if b then Some (act action.body s, rest) else None) (IsGood s last)
+      go : (b : Bool) → all_fit (assigned action) s ≡ b → IfSome (if b then Some (act (assigned action) s, rest) else None) (IsGood s last)
       go true fit =
-          let proper' = act_proper action.body s proper fit in
-          (proper', (chain, g (act action.body s) proper' reached), inr (action, known, h, refl))
+          let proper' = act_proper (assigned action) s proper fit in
+          (proper', (chain, g (act (assigned action) s) proper' reached), inr (action, known, h, refl))
       go false fit = tt
 
   branch_ready : (n : ℕ) (s : List ℤ) (branch : Sequence) (rest : Rest) (after last : Formula) → IsProper s → AreValid (seq_conditions n branch) → Each (IsKnown IsHead IsAction) (pieces branch) → Gives (last_of branch).assertion after → Gives after (head_or rest last) → Chain IsHead IsAction rest last → truth (first_of branch).assertion s ≡ true → IsReady s (items branch ++ rest) last

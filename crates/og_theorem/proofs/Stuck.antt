@@ -4,11 +4,14 @@ use Rattle.std.proofs.lemmas.Bool.{and_from, or_left, or_right, or_parts, both_w
 use Rattle.std.proofs.lemmas.Option.{same_Some, none-some}
 use Rattle.og_typed.specs.Syntax.{Formula, Statement, Skip, Assign, If, While, Await, Sequence, Program, Rest, last_of}
 use Rattle.og_typed.specs.Truth.{truth}
-use Rattle.og_typed.specs.Machine.{Moment, Phase, Before, During, After, phase, active_in, is_main, rest_of, head_or, stmt_waits, rest_waits, waits, all_empty, is_empty, is_finished}
-use Rattle.og_cond.specs.Condition.{Part, Yes, No, Hypothesis, OneOf, all_parts, some_parts, hypotheses_true}
+use Rattle.og_typed.specs.Machine.{Moment, Phase, Before, During, After, phase, active_in, is_main, rest_of, head_or, all_empty, is_empty, is_finished}
+use Rattle.og_typed.specs.Stuck.{stmt_waits, rest_waits, waits}
+use Rattle.og_cond.specs.Condition.{Part, Yes, No, Hypothesis, OneOf}
+use Rattle.og_cond.specs.Valid.{all_parts, some_parts, hypotheses_true}
 use Rattle.og_cond.specs.Conditions.{blocked, stmt_blocked}
 use Rattle.og_typed.proofs.Each.{Each, Among, each_from_at}
-use Rattle.og_theorem.specs.Sound.{IsSafe, IsUnblocked, IsNeverStuck}
+use Rattle.og_theorem.specs.Proved.{IsSafe, IsUnblocked}
+use Rattle.og_theorem.specs.NeverStuck.{IsNeverStuck}
 use Rattle.og_theorem.proofs.Steps.{IsReady}
 use Rattle.og_theorem.proofs.Invariant.{IsHead, IsAction, IsInvariant, Now, Currents, process_of, opened, under_way, ended}
 use Rattle.og_theorem.proofs.Sound.{Any, reached, todo_process}

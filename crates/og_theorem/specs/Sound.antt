@@ -1,11 +1,9 @@
 -- What is promised of every run of an outline, and which conditions it rests on.
-use Rattle.std.specs.Prelude.{◌≡◌, ℕ, Bool, true, false}
+use Rattle.std.specs.Prelude.{◌≡◌, ℕ, true, false}
 use Rattle.og_typed.specs.Syntax.{Program}
 use Rattle.og_typed.specs.Truth.{truth}
-use Rattle.og_typed.specs.Machine.{Moment, IsReached, active, current, overflows, is_finished, IsStuck}
+use Rattle.og_typed.specs.Machine.{Moment, IsReached, active, current, overflows, is_finished}
 use Rattle.og_typed.specs.Erase.{erased, project}
-use Rattle.og_cond.specs.Condition.{IsValid, AreValid}
-use Rattle.og_cond.specs.Conditions.{safety_conditions, blocking_condition}
 
 -- ---- what is promised
 
@@ -26,21 +24,3 @@ pub record IsSoundErased (o : Program) : Type 0 where
   pub never_overflows : (e : Moment) → IsReached (erased o) e → (p : ℕ) → active (erased o) e p ≡ true → overflows e p ≡ false
   -- where all have ended, the postcondition is true
   pub post_at_end : (e : Moment) → IsReached (erased o) e → is_finished e ≡ true → truth o.post.assertion e.state ≡ true
-
--- no run reaches a stuck moment: not finished, the main process not active, and all others that have something left waiting
-abbrev pub IsNeverStuck : Program → Type 0
-IsNeverStuck o = (m : Moment) → IsReached o m → IsStuck o m → ⊥
-
--- ---- what it rests on
-
--- every condition of the outline but the last is true
-abbrev pub IsSafe : Program → Type 0
-IsSafe o = AreValid (safety_conditions o)
-
--- the last condition is true: never are all processes at their ends or at awaits that wait, and some of them at such an await
-abbrev pub IsUnblocked : Program → Type 0
-IsUnblocked o = IsValid (blocking_condition o)
-
--- every condition but the last is true, and the last one too where it is said so
-abbrev pub IsProved : Program → Bool → Type 0
-IsProved o unblocked = IsSafe o × (unblocked ≡ true → IsUnblocked o)

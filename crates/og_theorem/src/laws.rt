@@ -6,7 +6,9 @@
 ghost use Rattle.og_typed.specs.Syntax.{Program};
 ghost use Rattle.og_typed.specs.Rule.{IsOutline};
 ghost use Rattle.og_typed.specs.Erase.{erased};
-ghost use Rattle.og_theorem.specs.Sound.{IsSafe, IsUnblocked, IsSound, IsSoundErased, IsNeverStuck};
+ghost use Rattle.og_theorem.specs.Sound.{IsSound, IsSoundErased};
+ghost use Rattle.og_theorem.specs.Proved.{IsSafe, IsUnblocked};
+ghost use Rattle.og_theorem.specs.NeverStuck.{IsNeverStuck};
 
 /// Where every condition but the last is true, then at every moment that a run reaches each
 /// current assertion is true, nothing overflows, and the postcondition is true at the end.

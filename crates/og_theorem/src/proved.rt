@@ -2,7 +2,9 @@
 
 ghost use Rattle.std.specs.Prelude.{◌≡◌, true};
 ghost use Rattle.og_typed.specs.Erase.{erased};
-ghost use Rattle.og_theorem.specs.Sound.{IsProved, IsSafe, IsUnblocked, IsSound, IsSoundErased, IsNeverStuck};
+ghost use Rattle.og_theorem.specs.Sound.{IsSound, IsSoundErased};
+ghost use Rattle.og_theorem.specs.Proved.{IsProved, IsSafe, IsUnblocked};
+ghost use Rattle.og_theorem.specs.NeverStuck.{IsNeverStuck};
 
 use og_typed::Outline;
 use std::marker::Model;
@@ -25,7 +27,7 @@ impl<'a> Model for Proved<'a> {
 
     ghost coded = { coded× program_code coded_bool };
 
-    ghost use Rattle.og_theorem.specs.Sound.{IsProved};
+    ghost use Rattle.og_theorem.specs.Proved.{IsProved};
 
     ghost view = { λ p. (p.outline.now, p.unblocked) };
 

@@ -7,7 +7,8 @@ use Rattle.og_typed.specs.declared.fault.TypeFault.{TypeFault}
 use Rattle.og_typed.specs.declared.fault.TypeError.{TypeError}
 use Rattle.og_typed.specs.declared.fault.TypeError.TheVariants as errors
 use Rattle.og_typed.specs.Answer.{FailsAs, IsResolved}
-use Rattle.og_typed.specs.Syntax.{Formula, Formulas, none, more, formula_list}
+use Rattle.og_typed.specs.Syntax.{Formula, Formulas, none, more}
+use Rattle.og_typed.specs.Lists.{formula_list}
 use Rattle.og_typed.specs.Resolved.{Checked, ◌>>=◌, Scope, Use, assertion, assertions}
 
 -- the formulas after others

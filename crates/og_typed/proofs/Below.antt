@@ -17,7 +17,8 @@ use Rattle.og_parse.specs.declared.raw.Relation.TheVariants as relations
 use Rattle.og_parse.specs.Trees as tree
 use Rattle.og_typed.specs.declared.fault.TypeFault.{TypeFault}
 use Rattle.og_typed.specs.Syntax.{Formula, Formulas, True, False, Le, Eq, Ne, Not, And, Or, Imp, none, more}
-use Rattle.og_typed.specs.Truth.{occurs, occurs_in, each_form, each_form_in}
+use Rattle.og_typed.specs.Forms.{each_form, each_form_in}
+use Rattle.og_typed.specs.Occurs.{occurs, occurs_in}
 use Rattle.og_typed.specs.Rule.{is_usable_form, IsUsable}
 use Rattle.og_typed.specs.Resolved.{Checked, ◌>>=◌, Scope, Use, Outer, Visible, Free, number_in, number_as, aux_number, number, signed, factor, sum_from, sum_form, minus, plus_one, compared, small_at, comparison, assertion, assertions}
 

@@ -3,10 +3,12 @@ use Rattle.std.proofs.Common.{◌≡◌, ℕ, ◌≤◌, ℤ, pos, List, [], ◌
 use Rattle.std.specs.List.{AllByRecursion}
 use Rattle.std.proofs.lemmas.Bool.{cases_lt, both_ways, and_parts, and_from, ltb-true, ltb-false, leb-false, lt-ltb, not-false, not_from_true}
 use Rattle.og_linear.proofs.Put.{put_long, take_put, take_put_past}
-use Rattle.og_linear.specs.Linear.{FormValue, put, val, is_term}
+use Rattle.og_linear.specs.Linear.{FormValue, put, val, is_term, fits_i64}
 use Rattle.og_typed.specs.Syntax.{Formula, True, Simple, Pass, Set, Statement, Skip, Assign, If, While, Await, Otherwise, Nothing, Else, Sequence, Last, Then, Rest, items, else_items}
-use Rattle.og_typed.specs.Truth.{truth, occurs}
-use Rattle.og_typed.specs.Machine.{act, all_fit, fits_i64, attempt, advance, stmt_overflows, stmt_waits}
+use Rattle.og_typed.specs.Truth.{truth}
+use Rattle.og_typed.specs.Occurs.{occurs}
+use Rattle.og_typed.specs.Machine.{act, all_fit, attempt, advance, stmt_overflows}
+use Rattle.og_typed.specs.Stuck.{stmt_waits}
 use Rattle.og_typed.specs.Rule.{IsPlain, IsPlainForm, SimpleFollows, StatementFollows}
 use Rattle.og_typed.specs.Erase.{is_aux_assign, is_kept, blank, erase_seq, erase_stmt, erase_else, erase_rest}
 use Rattle.og_typed.proofs.Frame.{Agree, same_truth, same_value}

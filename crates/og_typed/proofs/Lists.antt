@@ -3,7 +3,9 @@ use Rattle.std.proofs.Common.{◌≡◌, ℕ, List, [], ◌∷◌, map, Vec, Glo
 use Rattle.og_typed.specs.declared.assertion.Assert.{Assert, Row_of-Assert, end_of-Assert, more_of-Assert, items-the_row-Assert, items_hidden-the_row-Assert-0}
 use Rattle.og_typed.specs.declared.assertion.Assert.TheViews as its
 use Rattle.og_typed.specs.declared.assertion.Assert.TheBlock.{hidden-the_row-Assert-0}
-use Rattle.og_typed.specs.Syntax.{Formula, And, Or, formula_list, Noted, Statement, Sequence, Then, sequence_list, first_of, last_of, items}
+use Rattle.og_typed.specs.Syntax.{Formula, And, Or, Noted, Statement, Sequence, Then, last_of, items}
+use Rattle.og_typed.specs.Lists.{formula_list, sequence_list}
+use Rattle.og_typed.specs.Pieces.{first_of}
 use Rattle.og_typed.specs.declared.statement.Item.{Item}
 use Rattle.og_typed.specs.declared.statement.Seq.{Seq, is-Seq', out-Seq, Row_of-Item, end_of-Item, more_of-Item, items-the_row-Item, items_hidden-the_row-Item-0}
 use Rattle.og_typed.specs.declared.statement.Stmt.TheBlock.{hidden-the_row-Item-0}

@@ -12,7 +12,8 @@ use Rattle.og_parse.specs.declared.raw.RawAux.{RawAux}
 use Rattle.og_parse.specs.Trees as tree
 use Rattle.og_typed.specs.declared.fault.TypeFault.{TypeFault}
 use Rattle.og_typed.specs.declared.fault.TypeFault.TheVariants as faults
-use Rattle.og_typed.specs.Syntax.{Formula, Noted, Simple, Pass, Set, Statement, If, While, Await, Nothing, Else, Sequence, Last, Then, Program, Piece, pieces, pieces_of_stmt}
+use Rattle.og_typed.specs.Syntax.{Formula, Noted, Simple, Pass, Set, Statement, If, While, Await, Nothing, Else, Sequence, Last, Then, Program}
+use Rattle.og_typed.specs.Pieces.{Piece, pieces, pieces_of_stmt}
 use Rattle.og_typed.specs.Rule.{IsPlain, is_usable_form, IsUsable, SimpleFollows, StatementFollows, SequenceFollows, IsUsableSimple, IsUsableSequence, IsUsableStatement, IsOutline}
 use Rattle.og_typed.specs.Resolved.{Checked, ◌>>=◌, counted, Scope, Outer, Visible, Free, number_in, declared_as, declared, declared_vars, signed, initial, declared_auxes, number, sum_form, right_side, assertion, note, simple, elements, statement_of, statement, sequence, part, place_of, processes, outline_in, resolved}
 use Rattle.og_typed.proofs.Each.{each_append}

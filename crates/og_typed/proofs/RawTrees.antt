@@ -8,7 +8,8 @@ use Rattle.og_parse.specs.declared.raw.RawSeq.{RawSeq}
 use Rattle.og_parse.specs.declared.raw.RawItem.{RawItem}
 use Rattle.og_parse.specs.declared.raw.RawStmt.TheViews.{out-RawSeq, out-RawItem}
 use Rattle.og_parse.specs.declared.raw.RawStmt.TheFolds.{fold_out-RawSeq, fold_out-RawItem}
-use Rattle.og_parse.specs.Trees.{Assertion, Conjunction, Disjunction, listed, assertion_of, assertion_step, Stmt, Item, Seq, finish, items_then, note_of, stmt_of, item_of, seq_of, stmt_step, item_step, seq_step}
+use Rattle.og_parse.specs.Trees.{Assertion, Conjunction, Disjunction, listed, Stmt, Seq, finish}
+use Rattle.og_parse.specs.TreeOf.{assertion_of, assertion_step, Item, items_then, note_of, stmt_of, item_of, seq_of, stmt_step, item_step, seq_step}
 
 pub tree_and : (all : Vec RawAssert Global) → assertion_of (views.And all) ≡ Conjunction (listed (map assertion_of all.items))
 tree_and all = ap assertion_of (sym (views.rolls-And all)) ∙ fold-roll-RawAssert Assertion assertion_step (RawAssert-F.And all)

@@ -6,7 +6,8 @@ use Rattle.std.proofs.Math.Nat.{mul-le-mul}
 use Rattle.std.proofs.lemmas.Int.{ints, unsigned_abs-mul}
 use Rattle.std.proofs.lemmas.Bool.{cond_both, and_parts, lt-ltb, leb-true, le-leb}
 use Rattle.og_linear.specs.Linear.{Terms, FormValue}
-use Rattle.og_linear.specs.Arith.{with_term, scale_terms, merge_in, merge, scaled, plus, fits_i128, fits_terms, fits_form}
+use Rattle.og_linear.specs.Arith.{with_term, scale_terms, merge_in, merge, scaled, plus}
+use Rattle.og_linear.specs.Bounded.{fits_i128, fits_terms, fits_form}
 use Rattle.og_typed.specs.Bounds.{are_within, IsWithin}
 
 and_both : (b d : Bool) → b ≡ true → d ≡ true → (b && d) ≡ true

@@ -13,3 +13,9 @@ FailsAs (errors.Fault fault) answer = answer ≡ Err fault
 abbrev pub IsResolved : {X Y : Type 0} → (X → Y) → Result X TypeError → Checked Y → Type 0
 IsResolved view (Ok x) answer = answer ≡ Ok (view x)
 IsResolved view (Err e) answer = FailsAs e answer
+
+-- P, where memory ran out
+abbrev pub OnMemory : {X : Type 0} → Result X TypeError → Type 0 → Type 0
+OnMemory (Ok x) P = ⊤
+OnMemory (Err errors.Memory) P = P
+OnMemory (Err (errors.Fault fault)) P = ⊤

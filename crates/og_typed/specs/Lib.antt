@@ -1,7 +1,13 @@
 pub mod Syntax
+pub mod Lists
+pub mod Pieces
 pub mod Plain
 pub mod Truth
+pub mod Forms
+pub mod Occurs
 pub mod Machine
+pub mod Turns
+pub mod Stuck
 pub mod Rule
 pub mod Erase
 pub mod Codes

@@ -18,7 +18,7 @@ use Rattle.og_linear.specs.Arith.{scaled, plus, variable}
 use Rattle.og_typed.specs.declared.fault.TypeFault.{TypeFault}
 use Rattle.og_typed.specs.declared.fault.TypeFault.TheVariants as faults
 use Rattle.og_typed.specs.Syntax.{Formula, True, False, Le, Eq, Ne, Not, And, Or, Imp, Formulas, none, more, Noted, Simple, Pass, Set, Statement, Skip, Assign, If, While, Await, Nothing, Else, Sequence, Last, Then, Program}
-use Rattle.og_typed.specs.Truth.{each_form}
+use Rattle.og_typed.specs.Forms.{each_form}
 
 -- ---- answers: a value, or the first fault
 

@@ -2,8 +2,10 @@
 use Rattle.std.specs.Prelude.{◌≡◌, ℕ, ◌≤◌, ◌<◌, ◌+◌, length, Bool, true, false, ◌&&◌, nat_lt, nat_le, ⊤, IfSome}
 use Rattle.std.specs.List.{list_all, AllByRecursion}
 use Rattle.og_linear.specs.Linear.{FormValue, is_term, IsProper, is_small}
-use Rattle.og_typed.specs.Syntax.{Formula, Simple, Pass, Set, Statement, Skip, Assign, If, While, Await, Otherwise, Nothing, Else, Sequence, Last, Then, Program, pieces}
-use Rattle.og_typed.specs.Truth.{occurs, each_form}
+use Rattle.og_typed.specs.Syntax.{Formula, Simple, Pass, Set, Statement, Skip, Assign, If, While, Await, Otherwise, Nothing, Else, Sequence, Last, Then, Program}
+use Rattle.og_typed.specs.Pieces.{pieces}
+use Rattle.og_typed.specs.Forms.{each_form}
+use Rattle.og_typed.specs.Occurs.{occurs}
 
 -- ---- auxiliaries: the variables from number n on
 

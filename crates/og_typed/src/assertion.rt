@@ -2,7 +2,8 @@
 
 ghost use Rattle.std.specs.Prelude.{◌≡◌, IfOk};
 ghost use Rattle.og_typed.specs.Plain.{formula};
-ghost use Rattle.og_typed.specs.Truth.{occurs, each_form};
+ghost use Rattle.og_typed.specs.Forms.{each_form};
+ghost use Rattle.og_typed.specs.Occurs.{occurs};
 ghost use Rattle.og_linear.specs.Linear.{is_small};
 
 use og_linear::Form;

@@ -1,10 +1,11 @@
 //! Resolving assertions.
 
 ghost use Rattle.std.specs.Prelude.{◌≡◌, map};
-ghost use Rattle.og_parse.specs.Trees.{assertion_of, listed, note_of};
+ghost use Rattle.og_parse.specs.Trees.{listed};
+ghost use Rattle.og_parse.specs.TreeOf.{assertion_of, note_of};
 ghost use Rattle.og_typed.specs.Answer.{IsResolved};
 ghost use Rattle.og_typed.specs.Plain.{formula, noted};
-ghost use Rattle.og_typed.specs.Syntax.{formula_list};
+ghost use Rattle.og_typed.specs.Lists.{formula_list};
 ghost use Rattle.og_typed.specs.Resolved as meaning;
 ghost use Rattle.og_typed.specs.Scoped.{scope_of, use_of};
 

@@ -1,7 +1,7 @@
 //! The names of the variables, by number.
 
-ghost use Rattle.std.specs.Prelude.{◌≡◌, ◌<◌, ◌≤◌, [], IfOk, IfSome, length};
-ghost use Rattle.og_typed.specs.Answer.{IsResolved};
+ghost use Rattle.std.specs.Prelude.{◌≡◌, ◌<◌, ◌≤◌, [], IsOk, IfOk, IfSome, length};
+ghost use Rattle.og_typed.specs.Answer.{IsResolved, OnMemory};
 ghost use Rattle.og_typed.specs.Resolved.{number_in, declared};
 
 use crate::fault::{TypeError, TypeFault};
@@ -70,9 +70,10 @@ impl<'a> Names<'a> {
         Ok(names)
     }
 
-    // One name more.
+    // One name more. Asks for memory only where there is no fault.
     pub(crate) fn declare(&mut self, name: &'a RawName) -> Result<(), TypeError>
-        ensures { IsResolved (λ _. self.new) result (declared self.old name.now) }
+        ensures answer { IsResolved (λ _. self.new) result (declared self.old name.now) }
+        ensures memory { OnMemory result (IsOk (declared self.old name.now)) }
     {
         if self.number(name.name.as_slice()).is_some() {
             return Err(TypeError::Fault(TypeFault::DeclaredTwice(name.span.start)));

@@ -1,8 +1,8 @@
 //! Resolving outlines.
 
-ghost use Rattle.std.specs.Prelude.{◌≡◌, List, [], map, option_map};
-ghost use Rattle.og_parse.specs.Trees.{tree_of, seq_of, seqs_of};
-ghost use Rattle.og_typed.specs.Answer.{IsResolved};
+ghost use Rattle.std.specs.Prelude.{◌≡◌, List, [], IsOk, IfNone, map, option_map};
+ghost use Rattle.og_parse.specs.TreeOf.{tree_of, seq_of, seqs_of};
+ghost use Rattle.og_typed.specs.Answer.{IsResolved, OnMemory};
 ghost use Rattle.og_typed.specs.Plain as plain;
 ghost use Rattle.og_typed.specs.Resolved as meaning;
 ghost use Rattle.og_typed.specs.Scoped.{scope_of};
@@ -29,9 +29,10 @@ fn declare_vars<'a>(names: &mut Names<'a>, vars: &'a [RawName]) -> Result<(), Ty
     Ok(())
 }
 
-// An initial value.
+// An initial value. Takes no memory.
 fn initial(int: &RawInt) -> Result<i64, TypeError>
-    ensures { IsResolved (λ v. v) result (meaning.initial int.now) }
+    ensures answer { IsResolved (λ v. v) result (meaning.initial int.now) }
+    ensures memory { OnMemory result ⊥ }
 {
     let value = match int.sign {
         Sign::Plus => i128::from(int.number),
@@ -60,9 +61,10 @@ fn declare_auxes<'a>(
     Ok(values)
 }
 
-// A part of the main process, where there is one.
+// A part of the main process, where there is one. Takes no memory where there is none.
 fn part(alloc: Global, scope: &Scope<'_>, raw: &Option<RawSeq>) -> Result<Option<Seq>, TypeError>
-    ensures { IsResolved (option_map plain.sequence) result (meaning.part (scope_of scope.now) (option_map seq_of raw.now)) }
+    ensures answer { IsResolved (option_map plain.sequence) result (meaning.part (scope_of scope.now) (option_map seq_of raw.now)) }
+    ensures none { IfNone raw.now (IsOk result) }
 {
     match raw {
         None => Ok(None),

@@ -1,7 +1,7 @@
 //! Names that are used.
 
 ghost use Rattle.std.specs.Prelude.{◌≡◌, ◌<◌, IfOk};
-ghost use Rattle.og_typed.specs.Answer.{IsResolved};
+ghost use Rattle.og_typed.specs.Answer.{IsResolved, OnMemory};
 ghost use Rattle.og_typed.specs.Resolved as meaning;
 ghost use Rattle.og_typed.specs.Scoped.{scope_of, use_of};
 
@@ -28,10 +28,11 @@ pub(crate) enum Use {
 }
 
 impl<'a> Scope<'a> {
-    // The number of a name that is used.
+    // The number of a name that is used. Takes no memory.
     pub(crate) fn number(&self, usage: Use, name: &RawName) -> Result<u32, TypeError>
         ensures answer { IsResolved (λ x. x) result (meaning.number (scope_of self.now) (use_of usage) name.now) }
         ensures few { IfOk result (λ x. x < 256) }
+        ensures memory { OnMemory result ⊥ }
     {
         let at = name.span.start;
         match self.names.number(name.name.as_slice()) {

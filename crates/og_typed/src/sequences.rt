@@ -1,7 +1,8 @@
 //! Resolving statements.
 
 ghost use Rattle.std.specs.Prelude.{◌≡◌, map};
-ghost use Rattle.og_parse.specs.Trees.{If, While, Await, assertion_of, basic_of, element_of, stmt_of, seq_of};
+ghost use Rattle.og_parse.specs.Trees.{If, While, Await};
+ghost use Rattle.og_parse.specs.TreeOf.{assertion_of, basic_of, element_of, stmt_of, seq_of};
 ghost use Rattle.og_typed.specs.Answer.{IsResolved};
 ghost use Rattle.og_typed.specs.Plain as plain;
 ghost use Rattle.og_typed.specs.Resolved as meaning;

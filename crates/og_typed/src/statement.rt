@@ -2,7 +2,8 @@
 
 ghost use Rattle.std.specs.Prelude.{◌≡◌};
 ghost use Rattle.og_typed.specs.Plain.{noted, sequence};
-ghost use Rattle.og_typed.specs.Syntax.{first_of, last_of};
+ghost use Rattle.og_typed.specs.Syntax.{last_of};
+ghost use Rattle.og_typed.specs.Pieces.{first_of};
 
 use crate::assertion::Assert;
 use og_linear::Form;

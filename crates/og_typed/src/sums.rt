@@ -2,8 +2,9 @@
 
 ghost use Rattle.std.specs.Prelude.{◌≡◌, ℕ, ◌+◌, ◌≤◌, ◌^◌, ℤ, pos, nat_abs, true, [], ◌∷◌, IfOk, IfErr, OnOk, length};
 ghost use Rattle.og_linear.specs.Linear.{form_value, is_small};
-ghost use Rattle.og_linear.specs.Arith.{scaled, plus, fits_form};
-ghost use Rattle.og_parse.specs.Trees.{sum_of};
+ghost use Rattle.og_linear.specs.Arith.{scaled, plus};
+ghost use Rattle.og_linear.specs.Bounded.{fits_form};
+ghost use Rattle.og_parse.specs.TreeOf.{sum_of};
 ghost use Rattle.og_typed.specs.declared.fault.TypeError.TheVariants as errors;
 ghost use Rattle.og_typed.specs.Answer.{IsResolved};
 ghost use Rattle.og_typed.specs.Bounds.{IsWithin};

@@ -1,9 +1,11 @@
 -- Which command a job is of.
-use Rattle.std.specs.Prelude.{ℕ, List, Option, None, Some, codes}
+use Rattle.std.specs.Prelude.{◌≡◌, ℕ, List, length, Option, None, Some, Result, Ok, IfOk, slice_get, codes, string_bytes, ⊤}
 use Rattle.og_words.specs.declared.job.Verb.{Verb}
 use Rattle.og_words.specs.declared.job.Verb.TheVariants as verbs
 use Rattle.og_words.specs.declared.job.Job.{Job}
 use Rattle.og_words.specs.declared.job.Job.TheVariants as jobs
+use Rattle.og_words.specs.declared.job.Usage.{Usage}
+use Rattle.og_words.specs.declared.job.Usage.TheVariants as usages
 
 abbrev pub verb_name : Verb → List ℕ
 verb_name verbs.Check = codes "check"
@@ -22,3 +24,14 @@ command_of (jobs.Find source budget) = Some (codes "find")
 command_of (jobs.Erase source) = Some (codes "erase")
 command_of (jobs.Run source limit erased certs values) = Some (codes "run")
 command_of (jobs.Migrate certs) = Some (codes "migrate")
+
+-- what words ask for
+pub record IsAsked (words : List (List ℕ)) (asked : Result Job Usage) : Type 0 where
+  pub command : IfOk asked (λ job. command_of job ≡ slice_get words 0)
+  pub none : length words ≡ 0 → asked ≡ Ok jobs.Joined
+
+-- this text says what is wrong with the words, or there was no memory for it
+abbrev pub SaysWrong : List ℕ → Usage → Type 0
+SaysWrong text (usages.Asked help) = ⊥
+SaysWrong text (usages.Wrong why) = string_bytes why ≡ text
+SaysWrong text usages.Memory = ⊤

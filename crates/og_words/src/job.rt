@@ -1,7 +1,11 @@
 //! What the program is asked to do.
 
+ghost use Rattle.std.specs.Prelude.{◌≡◌};
+ghost use Rattle.og_words.specs.Jobs.{SaysWrong};
+ghost use Rattle.og_words.specs.declared.job.Usage.TheVariants.{Memory};
+
 use og_limits::{Budget, RunLimit, Workers};
-use std::alloc::{AllocError, AllocFailed};
+use std::alloc::{AllocError, AllocFailed, Global};
 
 /// The words that name commands.
 #[derive(Clone, Copy)]
@@ -71,13 +75,29 @@ pub enum Usage {
     Memory,
 }
 
+impl Usage {
+    // What is wrong with the words.
+    pub(crate) fn wrong(alloc: Global, text: &str) -> Usage
+        ensures { SaysWrong text.now result }
+    {
+        match String::from_str(alloc, text) {
+            Ok(text) => Usage::Wrong(text),
+            Err(_) => Usage::Memory,
+        }
+    }
+}
+
 impl From<AllocError> for Usage {
+    ghost from_gives = { λ _ e. e ≡ Memory };
+
     fn from(_: AllocError) -> Usage {
         Usage::Memory
     }
 }
 
 impl<T: Drop> From<AllocFailed<T>> for Usage {
+    ghost from_gives = { λ _ e. e ≡ Memory };
+
     fn from(_: AllocFailed<T>) -> Usage {
         Usage::Memory
     }

@@ -2,8 +2,10 @@
 #![tactic(auto)]
 
 mod commands;
+mod given;
 mod job;
 mod words;
 
+pub use given::given_words;
 pub use job::{Job, Usage};
 pub use words::read_words;

@@ -1,7 +1,7 @@
 //! From words to a job.
 
-ghost use Rattle.std.specs.Prelude.{◌≡◌, IfOk, IfSome, Some, length, string_bytes, option_map, slice_get};
-ghost use Rattle.og_words.specs.Jobs.{verb_name, command_of};
+ghost use Rattle.std.specs.Prelude.{◌≡◌, IfOk, IfSome, Some, map, string_bytes};
+ghost use Rattle.og_words.specs.Jobs.{verb_name, command_of, IsAsked};
 
 use crate::commands::program;
 use crate::job::{Job, Usage, Verb};
@@ -142,21 +142,13 @@ fn matches_of<'a>(alloc: Global, words: &'a [String]) -> Result<ArgMatches<'a>, 
     }
 }
 
-fn bad_words(alloc: Global) -> Usage {
-    match String::from_str(alloc, "og: bad words\n") {
-        Ok(text) => Usage::Wrong(text),
-        Err(_) => Usage::Memory,
-    }
-}
-
 /// The job that the words ask for; they are the words after the program's name. The first names
 /// the command, and without any it is `Joined`.
 ///
 /// `Asked` holds a help text, `Wrong` what is wrong with the words; `Memory` where an allocation was
 /// refused.
 pub fn read_words<'a>(alloc: Global, words: &'a [String]) -> Result<Job<'a>, Usage>
-    ensures command { IfOk result (λ job. command_of job ≡ option_map (λ w. string_bytes w) (slice_get words.now 0)) }
-    ensures none { length words.now ≡ 0 → result ≡ Ok Job.Joined }
+    ensures { IsAsked (map (λ w. string_bytes w) words.now) result }
 {
     let Some(first) = words.first() else {
         return Ok(Job::Joined);
@@ -166,6 +158,6 @@ pub fn read_words<'a>(alloc: Global, words: &'a [String]) -> Result<Job<'a>, Usa
     drop(matches);
     match job? {
         Some(job) => Ok(job),
-        None => Err(bad_words(alloc)),
+        None => Err(Usage::wrong(alloc, "og: bad words\n")),
     }
 }

@@ -1,5 +1,5 @@
 use Rattle.std.proofs.lemmas.Bool.{false_from_ne_true}
-use Rattle.og_facts.specs.Facts.{all_true_at}
+use Rattle.og_facts.specs.Truth.{all_true_at}
 use Rattle.og_cert.proofs.Faultless.{no_fault}
 use Rattle.og_cert.proofs.Refuting.{closed_is_false, closed_is_valid}
 use Rattle.og_cert.proofs.Written.{lines_written}

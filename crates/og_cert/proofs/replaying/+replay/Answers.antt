@@ -86,7 +86,7 @@ replay_parts-returns-in_err-at_line-clause-replays t c =
     let same : fs ≡ facts_held c.deref.result.now = ap facts_held (sym (c.deref.ensures.value ∙ c.loop-index.invariant.kept)) in
     let size : length part.items ≡ length c.as_slice-part.result.now = ap length (sym c.as_slice-part.ensures.value) in
     rw p.1
-    (located_fails (λ done. done) line c.room_for.result (room (facts_held c.deref.result.now) (length c.as_slice-part.result.now)) p.0 (parts_from 0 (line + 1) line n fs parts certs) c.room_for.ensures fails
+    (located_fails (λ done. done) line c.room_for.result (room (facts_held c.deref.result.now) (length c.as_slice-part.result.now)) p.0 (parts_from 0 (line + 1) line n fs parts certs) c.room_for.ensures.room fails
     (λ k e.
     sym c.loop-index.invariant.faults
     ∙ part_full i c.loop-index.next line n fs parts certs part k in_parts c.index-parts-index.is in_certs

@@ -14,7 +14,7 @@ read_rest-requires c =
 pub returns-in-Some : goal.returns-in-Some
 returns-in-Some c =
     file_read One c.args.text.now c.in-Some.rest.now c.read_rest.result (omega (arith, c.if-text-gt-TEXT_LIMIT.false))
-    (front_of (version_text One) c.args.text.now c.after.result c.in-Some.rest c.after.ensures c.in-Some.is) c.read_rest.ensures
+    (front_of (version_text One) c.args.text.now c.after.result c.in-Some.rest c.after.ensures c.in-Some.is) c.read_rest.ensures.file c.read_rest.ensures.memory
 
 pub read_rest-requires-in-Some-after : goal.read_rest-requires-in-Some-after
 read_rest-requires-in-Some-after c =
@@ -24,7 +24,7 @@ read_rest-requires-in-Some-after c =
 pub returns-in-Some-after : goal.returns-in-Some-after
 returns-in-Some-after c =
     file_read Two c.args.text.now c.in-Some-after.rest.now c.read_rest-in-Some-after.result (omega (arith, c.if-text-gt-TEXT_LIMIT.false))
-    (front_of (version_text Two) c.args.text.now c.after-2.result c.in-Some-after.rest c.after-2.ensures c.in-Some-after.is) c.read_rest-in-Some-after.ensures
+    (front_of (version_text Two) c.args.text.now c.after-2.result c.in-Some-after.rest c.after-2.ensures c.in-Some-after.is) c.read_rest-in-Some-after.ensures.file c.read_rest-in-Some-after.ensures.memory
 
 pub returns : goal.returns
 returns c = (

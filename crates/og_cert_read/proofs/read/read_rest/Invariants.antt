@@ -9,6 +9,7 @@ invariant-loop-rest l = record {
   same : read_lines (version_of l.version) l.at (reading_of l.reader) (lines_of l.rest) ≡ read_lines (version_of l.version) 2 nothing_read (lines_of l.text);
   sound : IsSound l.reader;
   few : l.at + length l.rest ≤ 67108866;
+  left : length l.rest ≤ length l.text;
 }
 
 abbrev pub decreases-loop-rest : goal.decreases-loop-rest

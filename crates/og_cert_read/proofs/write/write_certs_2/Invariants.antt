@@ -1,5 +1,5 @@
 use Rattle.std.proofs.Common.{length}
-use Rattle.og_cert_text.specs.Files.{above}
+use Rattle.og_cert_text.specs.Rising.{above}
 use Rattle.og_cert_text.specs.Shown.{shown}
 use Rattle.og_cert_read.proofs.SharedSoFar.{IsSoFar}
 use Rattle.og_cert_read.proofs.write.write_certs_2.Given as goal

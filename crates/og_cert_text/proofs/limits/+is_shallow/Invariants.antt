@@ -1,7 +1,7 @@
 use Rattle.std.proofs.Common.{◌≡◌, ◌+◌, drop, map}
 use Rattle.og_cert_text.specs.Tree.{cert_list}
 use Rattle.og_cert_text.specs.Plain.{plain_cert}
-use Rattle.og_cert_text.specs.Lines.{is_shallow, are_shallow}
+use Rattle.og_cert_text.specs.Shallow.{is_shallow, are_shallow}
 use Rattle.og_cert_text.proofs.limits.+is_shallow.Given as goal
 
 abbrev pub invariant-loop-part : goal.invariant-loop-part

@@ -1,6 +1,6 @@
 use Rattle.std.proofs.Common.{◌≡◌, ◌≤◌, ◌-◌, take, length, true}
 use Rattle.std.specs.List.{list_all}
-use Rattle.og_linear.specs.Arith.{fits_terms}
+use Rattle.og_linear.specs.Bounded.{fits_terms}
 use Rattle.og_cert_text.specs.Lines.{is_variable}
 use Rattle.og_cert_text.proofs.limits.is_form.Given as goal
 

@@ -2,13 +2,13 @@ use Rattle.std.proofs.Common.{◌≡◌, ◌∙◌, ◌++◌, ap, length, map, a
 use Rattle.std.proofs.lemmas.Grind.{common_steps}
 use Rattle.og_cert_text.specs.Tree.{cert_list}
 use Rattle.og_cert_text.specs.Plain.{plain_cert, plain_finish, step_line}
-use Rattle.og_cert_text.specs.Lines.{cert_lines, certs_lines}
-use Rattle.og_cert_text.specs.Text.{lines_text}
+use Rattle.og_cert_text.specs.Shallow.{cert_lines, certs_lines}
+use Rattle.og_cert_text.specs.Listing.{lines_text}
 use Rattle.og_cert_text.proofs.Writing.{both_put, finish_put, steps_text}
 use Rattle.og_cert_text.proofs.write.+put.Goals as goal
 
-pub put_cert-returns : goal.put_cert-returns
-put_cert-returns t c =
+pub put_lines-returns : goal.put_lines-returns
+put_lines-returns t c =
     both_put c.put_finish.result c.args.text.now.items c.put_steps.new.text.items c.put_finish.new.text.items (lines_text (map step_line c.args.cert.now.steps.items)) (lines_text (cert_lines (plain_finish c.args.cert.now.finish))) _
     c.put_finish.ensures (c.in_ok-put_steps.ensures ∙ ap (λ s. c.args.text.now.items ++ lines_text (map step_line s)) c.deref.ensures.value) (steps_text c.args.cert.now)
 

@@ -1,6 +1,6 @@
 use Rattle.std.proofs.Common.{◌≡◌, ◌++◌, drop, map}
 use Rattle.og_cert_text.specs.Plain.{step_line}
-use Rattle.og_cert_text.specs.Text.{lines_text}
+use Rattle.og_cert_text.specs.Listing.{lines_text}
 use Rattle.og_cert_text.proofs.write.put_steps.Given as goal
 
 abbrev pub invariant-loop-step : goal.invariant-loop-step

@@ -1,5 +1,5 @@
 use Rattle.std.proofs.Common.{◌≡◌, ◌++◌, ◌∙◌, ap, rules}
-use Rattle.og_cert_text.specs.Files.{above}
+use Rattle.og_cert_text.specs.Rising.{above}
 use Rattle.og_cert_text.specs.Shown.{shown}
 use Rattle.og_cert_text.specs.Text.{One, version_text}
 use Rattle.og_cert_text.proofs.Above.{above_zero}

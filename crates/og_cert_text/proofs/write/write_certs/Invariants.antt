@@ -1,7 +1,7 @@
 use Rattle.std.proofs.Common.{◌≡◌, ◌++◌, length}
-use Rattle.og_cert_text.specs.Files.{above}
+use Rattle.og_cert_text.specs.Rising.{above}
 use Rattle.og_cert_text.specs.Shown.{shown}
-use Rattle.og_cert_text.specs.Text.{file_text}
+use Rattle.og_cert_text.specs.Listing.{file_text}
 use Rattle.og_cert_text.proofs.Writing.{entries_text}
 use Rattle.og_cert_text.proofs.write.write_certs.Given as goal
 

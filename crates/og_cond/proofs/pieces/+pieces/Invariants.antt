@@ -1,6 +1,6 @@
 use Rattle.std.proofs.Common.{◌≡◌, ◌++◌, map, drop}
 use Rattle.og_typed.specs.declared.statement.Seq.{out-Seq}
-use Rattle.og_typed.specs.Syntax.{pieces}
+use Rattle.og_typed.specs.Pieces.{pieces}
 use Rattle.og_typed.specs.Plain.{noted, sequence}
 use Rattle.og_cond.specs.Pieces.{piece_of}
 use Rattle.og_cond.proofs.PieceItems.{pieces_from}

@@ -1,7 +1,7 @@
 use Rattle.std.proofs.Common.{◌≡◌, ℕ, ◌&&◌}
 use Rattle.std.specs.Prelude.{nat_lt}
 use Rattle.og_typed.specs.Plain.{formula}
-use Rattle.og_typed.specs.Truth.{occurs}
+use Rattle.og_typed.specs.Occurs.{occurs}
 use Rattle.og_cond.specs.Sets.{has}
 use Rattle.og_cond.proofs.sets.variables_of.Given as goal
 

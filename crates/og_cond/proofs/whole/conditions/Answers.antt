@@ -2,7 +2,7 @@ use Rattle.std.proofs.Common.{◌++◌, ◌≤◌, length, map, ap, ◌∙◌, a
 use Rattle.std.proofs.lemmas.Result.{err_from_is_err_and}
 use Rattle.og_cond.specs.Conditions.{conditions}
 use Rattle.og_cond.specs.Seen.{seen}
-use Rattle.og_cond.specs.declared.limits.TheConstants.{CONDITION_LIMIT}
+use Rattle.og_cond.specs.Limits.{condition_limit}
 use Rattle.og_cond.proofs.Totals.{conditions_length}
 use Rattle.og_cond.proofs.WholeList.{memory_listed}
 use Rattle.og_cond.proofs.whole.conditions.Goals as goal
@@ -27,5 +27,5 @@ returns-in_err-add_all c =
 pub returns : goal.returns
 returns c =
     let all = conditions_length c.args.outline.now c.follows_rule.ensures in
-    let few : length (conditions c.args.outline.now) ≤ CONDITION_LIMIT = omega (arith, all, c.in-Some.ensures) in
+    let few : length (conditions c.args.outline.now) ≤ condition_limit = omega (arith, all, c.in-Some.ensures) in
     (c.in_ok-add_all.ensures ∙ ap (λ l. map seen l ++ conditions c.args.outline.now) c.in_ok-list.ensures.items, few)

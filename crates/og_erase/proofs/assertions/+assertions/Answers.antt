@@ -1,6 +1,7 @@
 use Rattle.std.proofs.Common.{◌≡◌, length, map, rules, arith, sym, ap, ◌∙◌}
 use Rattle.std.proofs.lemmas.List.{take_all}
-use Rattle.og_parse.specs.Trees.{assertion_of, listed}
+use Rattle.og_parse.specs.Trees.{listed}
+use Rattle.og_parse.specs.TreeOf.{assertion_of}
 use Rattle.og_typed.specs.declared.assertion.Assert.TheViews.{sized-And, sized-Or}
 use Rattle.og_typed.specs.Plain.{formula}
 use Rattle.og_typed.specs.Rule.{is_usable_form}

@@ -1,9 +1,9 @@
 use Rattle.std.proofs.Common.{◌≡◌, drop, length, map, take, true}
-use Rattle.og_parse.specs.Trees.{assertion_of}
+use Rattle.og_parse.specs.TreeOf.{assertion_of}
 use Rattle.og_typed.specs.Plain.{formula}
 use Rattle.og_typed.specs.Rule.{is_usable_form}
-use Rattle.og_typed.specs.Syntax.{formula_list}
-use Rattle.og_typed.specs.Truth.{each_form_in}
+use Rattle.og_typed.specs.Lists.{formula_list}
+use Rattle.og_typed.specs.Forms.{each_form_in}
 use Rattle.og_erase.specs.Collected as collected
 use Rattle.og_erase.proofs.assertions.+assertions.Given as goal
 

@@ -3,7 +3,7 @@ use Rattle.og_typed.specs.declared.statement.Seq.{out-Seq}
 use Rattle.og_typed.specs.declared.statement.Stmt.TheViews.{out-roll-Seq}
 use Rattle.og_typed.specs.Erase.{erase_seq}
 use Rattle.og_typed.specs.Plain.{noted, item_of}
-use Rattle.og_typed.specs.Syntax.{sequence_list}
+use Rattle.og_typed.specs.Lists.{sequence_list}
 use Rattle.og_typed.proofs.Lists.{sequence_out}
 use Rattle.og_erase.proofs.Turns.{erased_items, erase_list, finished}
 use Rattle.og_erase.proofs.erasing.+sequences.Goals as goal

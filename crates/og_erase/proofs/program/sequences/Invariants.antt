@@ -1,6 +1,6 @@
 use Rattle.std.proofs.Common.{◌≡◌, drop, length, map, take}
 use Rattle.std.specs.List.{AllByRecursion}
-use Rattle.og_parse.specs.Trees.{seq_of}
+use Rattle.og_parse.specs.TreeOf.{seq_of}
 use Rattle.og_typed.specs.Plain as plain
 use Rattle.og_typed.specs.Rule.{IsUsableSequence}
 use Rattle.og_erase.specs.Collected as collected

@@ -1,9 +1,10 @@
 use Rattle.std.proofs.Common.{◌≡◌, length, map, arith, sym, ap, ◌∙◌, subst}
 use Rattle.og_parse.specs.Trees as tree
+use Rattle.og_parse.specs.TreeOf as raw
 use Rattle.og_typed.specs.declared.statement.Seq.{out-Seq}
 use Rattle.og_typed.specs.Plain.{item_of, noted, sequence}
 use Rattle.og_typed.specs.Rule.{IsUsableSequence}
-use Rattle.og_typed.specs.Syntax.{sequence_list}
+use Rattle.og_typed.specs.Lists.{sequence_list}
 use Rattle.og_typed.proofs.Lists.{sequence_out}
 use Rattle.og_erase.specs.Collected as collected
 use Rattle.og_erase.proofs.Trees.{await_made, made_of, item_here, item_made, item_turn, items_end, seq_made}
@@ -41,7 +42,7 @@ sequence-returns t c =
     let names = c.args.names.now in
     let last = noted (out-Seq c.args.seq.now).last in
     seq_made c.loop-item.items c.in_ok-last.last
-    ∙ ap (λ n. tree.items_then (map tree.item_of c.loop-item.items.items) (tree.finish n)) c.in_ok-last.ensures
+    ∙ ap (λ n. raw.items_then (map raw.item_of c.loop-item.items.items) (tree.finish n)) c.in_ok-last.ensures
     ∙ items_end names last c.loop-item.items.items c.deref-item-items.result.now c.loop-item.item-index _ (omega arith) c.loop-item.invariant.made
 
 pub statement-returns-in_ok-elements-in-Await : goal.statement-returns-in_ok-elements-in-Await

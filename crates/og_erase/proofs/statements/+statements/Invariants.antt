@@ -2,7 +2,7 @@ use Rattle.std.proofs.Common.{◌≡◌, drop, length, map}
 use Rattle.og_typed.specs.declared.statement.Seq.{out-Seq}
 use Rattle.og_typed.specs.Plain.{item_of, noted, sequence}
 use Rattle.og_typed.specs.Rule.{IsUsableSequence}
-use Rattle.og_typed.specs.Syntax.{sequence_list}
+use Rattle.og_typed.specs.Lists.{sequence_list}
 use Rattle.og_erase.specs.Collected as collected
 use Rattle.og_erase.proofs.Trees.{made_of}
 use Rattle.og_erase.proofs.statements.+statements.Given as goal

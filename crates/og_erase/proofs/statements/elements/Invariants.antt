@@ -1,6 +1,6 @@
 use Rattle.std.proofs.Common.{◌≡◌, drop, length, map, take}
 use Rattle.std.specs.List.{AllByRecursion}
-use Rattle.og_parse.specs.Trees.{element_of}
+use Rattle.og_parse.specs.TreeOf.{element_of}
 use Rattle.og_typed.specs.Plain.{simple}
 use Rattle.og_typed.specs.Rule.{IsUsableSimple}
 use Rattle.og_erase.specs.Collected as collected

@@ -1,6 +1,6 @@
 use Rattle.std.proofs.Common.{◌≡◌, ◌∙◌, true, FitsSigned, sym, ap, rules}
 use mir.Syntax.{w128}
-use Rattle.og_linear.specs.Arith.{fits_i128}
+use Rattle.og_linear.specs.Bounded.{fits_i128}
 use Rattle.og_linear.proofs.Steps.{fits_true}
 use Rattle.og_facts.proofs.Multiples.{next_sum}
 use Rattle.og_facts.proofs.relations.next.Goals as goal

@@ -1,6 +1,6 @@
 use Rattle.std.proofs.Common.{◌≡◌, length, drop, map}
 use Rattle.std.specs.Prelude.{option_map}
-use Rattle.og_typed.specs.Syntax.{formula_list}
+use Rattle.og_typed.specs.Lists.{formula_list}
 use Rattle.og_typed.specs.Plain.{formula}
 use Rattle.og_facts.specs.Answer.{shown, added_to}
 use Rattle.og_facts.specs.Walk.{walk_all, walk_each}

@@ -1,5 +1,6 @@
 use Rattle.std.proofs.Common.{map, sym, ap, ◌∙◌}
-use Rattle.og_facts.specs.Facts.{fact_true, some_part_true, all_true_at, parts_of_list}
+use Rattle.og_facts.specs.Facts.{parts_of_list}
+use Rattle.og_facts.specs.Truth.{fact_true, some_part_true, all_true_at}
 use Rattle.og_facts.specs.Plain.{plain_fact}
 use Rattle.og_facts.specs.Answer.{shown}
 use Rattle.og_facts.proofs.Trees.{plain_split}

@@ -1,5 +1,5 @@
 use Rattle.std.proofs.Common.{◌≡◌, ◌+◌, ◌*◌, map, drop}
-use Rattle.og_facts.specs.Facts.{all_true_at}
+use Rattle.og_facts.specs.Truth.{all_true_at}
 use Rattle.og_facts.specs.Plain.{plain_fact}
 use Rattle.og_find.proofs.truth.+truth.Given as goal
 

@@ -6,7 +6,7 @@ use Rattle.og_cond.specs.Seen.{seen}
 use Rattle.og_cond.specs.Conditions.{conditions}
 use Rattle.og_cond.specs.declared.condition.Condition.{Condition}
 use Rattle.og_cert_text.specs.Shown.{shown}
-use Rattle.og_pool.specs.Status.{status_of}
+use Rattle.og_pool.specs.Numbered.{status_of}
 use Rattle.og_judge.specs.Entries.{HasNoneAbove}
 use Rattle.og_judge.specs.Parts.{told_from}
 use Rattle.og_judge.proofs.Refusing.{conditions_refused, certs_refused, stray_refused}

@@ -11,7 +11,7 @@ loop-t-preserved c =
     let fit : FitsSigned w128 c.in_ok-c.c = search rules in
     let below : c.loop-t.t-index < length c.args.terms.now = omega arith in
     divide_turn _ _ c.in_ok-c.c _ c.args.terms.now c.loop-t.out.items _ c.loop-t.t-index below
-    (to_z-of_z w128 (get_or c.args.terms.now c.loop-t.t-index (0, pos 0)).1 range) c.in_ok-c.ensures (to_z-of_z w128 c.in_ok-c.c fit) c.in_ok-push.ensures.items
+    (to_z-of_z w128 (get_or c.args.terms.now c.loop-t.t-index (0, pos 0)).1 range) c.in_ok-c.ensures.answer (to_z-of_z w128 c.in_ok-c.c fit) c.in_ok-push.ensures.items
     ∙ c.loop-t.invariant
 
 pub returns : goal.returns

@@ -42,7 +42,7 @@ returns-in_err-e c =
     let ge : (get_or c.args.b.now c.both.j (0, pos 0)).0 ≤ (get_or c.args.a.now c.both.i (0, pos 0)).0 = omega arith in
     let le : (get_or c.args.a.now c.both.i (0, pos 0)).0 ≤ (get_or c.args.b.now c.both.j (0, pos 0)).0 = omega arith in
     let p = err_from_is_err_and c.from_residual-in_err-e.result c.from_residual-in_err-e.ensures.1 in
-    rw p.1 (fails_from (λ (v : Vec (ℕ × ℤ) Global). v.items) c.in_err-e.field-0.0 p.0 _ (checked_terms (merge c.args.a.now c.args.b.now)) c.in_err-e.ensures p.2
+    rw p.1 (fails_from (λ (v : Vec (ℕ × ℤ) Global). v.items) c.in_err-e.field-0.0 p.0 _ (checked_terms (merge c.args.a.now c.args.b.now)) c.in_err-e.ensures.answer p.2
     (λ none. merge_fails c.args.a.now c.args.b.now c.both.out.items c.both.i c.both.j _ _ _ i_in j_in ge le (to_z-of_z w128 _ range_a) (to_z-of_z w128 _ range_b) none c.both.invariant.0))
 
 pub both-preserved : goal.both-preserved
@@ -55,7 +55,7 @@ both-preserved c =
     let ge : (get_or c.args.b.now c.both.j (0, pos 0)).0 ≤ (get_or c.args.a.now c.both.i (0, pos 0)).0 = omega arith in
     let le : (get_or c.args.a.now c.both.i (0, pos 0)).0 ≤ (get_or c.args.b.now c.both.j (0, pos 0)).0 = omega arith in (
       merge_both c.args.a.now c.args.b.now c.both.out.items c.push_term.new.terms.items c.both.i c.both.j _ _ c.in_ok-e.e _ i_in j_in ge le
-          (to_z-of_z w128 _ range_a) (to_z-of_z w128 _ range_b) c.in_ok-e.ensures (to_z-of_z w128 c.in_ok-e.e fit) c.in_ok-push_term.ensures.added
+          (to_z-of_z w128 _ range_a) (to_z-of_z w128 _ range_b) c.in_ok-e.ensures.answer (to_z-of_z w128 c.in_ok-e.e fit) c.in_ok-push_term.ensures.added
           ∙ c.both.invariant.0,
       omega arith,
       omega arith,

@@ -1,5 +1,6 @@
 use Rattle.std.proofs.Common.{sym}
-use Rattle.og_parse.specs.Trees.{note_of, stmt_of, step_of}
+use Rattle.og_parse.specs.Parts.{step_of}
+use Rattle.og_parse.specs.TreeOf.{note_of, stmt_of}
 use Rattle.og_parse.specs.Reads.{a_stmt, seq_at}
 use Rattle.og_parse.proofs.StatementLaws.{step_shortens}
 use Rattle.og_parse.proofs.Sequences.{pushed_goes_on, item_rolled}

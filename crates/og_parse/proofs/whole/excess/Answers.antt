@@ -1,5 +1,5 @@
 use Rattle.std.proofs.Common.{◌≡◌, ◌+◌, ◌≤◌, ◌&&◌, sym, arith}
-use Rattle.og_parse.specs.Faults.{begins_statement}
+use Rattle.og_parse.specs.Limits.{begins_statement}
 use Rattle.og_parse.proofs.Counts.{one_if, so_far_next, excess_found}
 use Rattle.og_parse.proofs.whole.excess.Goals as goal
 use Rattle.og_parse.proofs.whole.excess.Goals.{then-begins_statement+else-count-limit, else-begins_statement}

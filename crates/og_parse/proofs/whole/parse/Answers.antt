@@ -1,4 +1,4 @@
-use Rattle.og_parse.specs.Faults.{level_limit, statement_limit}
+use Rattle.og_parse.specs.Limits.{level_limit, statement_limit}
 use Rattle.og_parse.proofs.Parsing.{answer_ok, answer_err}
 use Rattle.og_parse.proofs.whole.parse.Goals as goal
 

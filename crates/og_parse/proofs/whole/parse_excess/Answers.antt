@@ -1,5 +1,5 @@
-use Rattle.og_parse.specs.Trees.{tree_of}
-use Rattle.og_parse.specs.Faults.{level_limit, statement_limit}
+use Rattle.og_parse.specs.TreeOf.{tree_of}
+use Rattle.og_parse.specs.Limits.{level_limit, statement_limit}
 use Rattle.og_parse.proofs.Parsing.{excess_ok, excess_err}
 use Rattle.og_parse.proofs.whole.parse_excess.Goals as goal
 

@@ -1,6 +1,6 @@
 use Rattle.std.proofs.Common.{◌≡◌, ◌+◌, ◌-◌, subst, arith, slice_get, Some, ℕ}
 use Rattle.std.proofs.lemmas.Option.{slice_get_within}
-use Rattle.og_pool.specs.Status.{status_of}
+use Rattle.og_pool.specs.Numbered.{status_of}
 use Rattle.og_pool.proofs.told.in_order.Goals as goal
 
 pub returns : goal.returns

@@ -1,5 +1,5 @@
 use Rattle.std.proofs.Common.{◌≡◌, ℕ, ◌<◌, ◌≤◌, ◌-◌, slice_get, Some, vec_len}
-use Rattle.og_pool.specs.Status.{status_of}
+use Rattle.og_pool.specs.Numbered.{status_of}
 use Rattle.og_pool.specs.declared.told.Told.{Told}
 use Rattle.og_pool.proofs.told.in_order.Given as goal
 

@@ -1,6 +1,7 @@
 use Rattle.std.proofs.Common.{◌≡◌, ◌++◌, drop, map}
 use Rattle.og_text.specs.declared.token.TokenKind.TheVariants as kinds
-use Rattle.og_parse.specs.Trees.{assertion_of, listed}
+use Rattle.og_parse.specs.Trees.{listed}
+use Rattle.og_parse.specs.TreeOf.{assertion_of}
 use Rattle.og_print.specs.Print.{written, later_in}
 use Rattle.og_print.proofs.assertions.+assertions.Given as goal
 

@@ -1,5 +1,5 @@
 use Rattle.std.proofs.Common.{rules}
-use Rattle.og_parse.specs.Trees.{tree_of}
+use Rattle.og_parse.specs.TreeOf.{tree_of}
 use Rattle.og_print.proofs.ReadBack.{reads_back}
 use Rattle.og_print.proofs.outline.print_outline.Goals as goal
 

@@ -1,5 +1,5 @@
 use Rattle.std.proofs.Common.{◌≡◌, ◌++◌, drop, map}
-use Rattle.og_parse.specs.Trees.{seq_of}
+use Rattle.og_parse.specs.TreeOf.{seq_of}
 use Rattle.og_print.specs.Print.{written, later_processes_in}
 use Rattle.og_print.proofs.outline.put_processes.Given as goal
 

@@ -1,7 +1,7 @@
 use Rattle.std.proofs.Common.{◌≡◌, ◌++◌, arith}
 use Rattle.std.proofs.lemmas.Result.{IfOk-at_ok}
 use Rattle.og_print.specs.Print.{written, note_in}
-use Rattle.og_parse.specs.Trees.{note_of}
+use Rattle.og_parse.specs.TreeOf.{note_of}
 use Rattle.og_print.proofs.PrintSteps.{later_item}
 use Rattle.og_print.proofs.statements.+sequences.Goals as goal
 

@@ -1,5 +1,6 @@
 use Rattle.std.proofs.Common.{◌≡◌, ◌++◌, drop, map}
-use Rattle.og_parse.specs.Trees.{note_of, item_of, items_then, finish}
+use Rattle.og_parse.specs.Trees.{finish}
+use Rattle.og_parse.specs.TreeOf.{note_of, item_of, items_then}
 use Rattle.og_print.specs.Print.{written, seq_in}
 use Rattle.og_print.proofs.statements.+sequences.Given as goal
 

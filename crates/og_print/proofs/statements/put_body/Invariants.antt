@@ -1,5 +1,5 @@
 use Rattle.std.proofs.Common.{◌≡◌, ◌++◌, drop, map}
-use Rattle.og_parse.specs.Trees.{element_of}
+use Rattle.og_parse.specs.TreeOf.{element_of}
 use Rattle.og_print.specs.Print.{written, later_elements_in}
 use Rattle.og_print.proofs.statements.put_body.Given as goal
 

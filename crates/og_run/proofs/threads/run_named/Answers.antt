@@ -1,6 +1,7 @@
 use Rattle.std.proofs.Common.{◌<◌, sym, subst}
-use Rattle.og_board.specs.Runs.{Given, process_count}
-use Rattle.og_board.specs.Ends.{OverAt}
+use Rattle.og_board.specs.Runs.{Given}
+use Rattle.og_board.specs.Histories.{process_count}
+use Rattle.og_board.specs.Over.{OverAt}
 use Rattle.og_run.proofs.Ending.{back_at, over_at}
 use Rattle.og_run.proofs.threads.run_named.Goals as goal
 

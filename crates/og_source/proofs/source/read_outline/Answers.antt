@@ -1,7 +1,7 @@
 use Rattle.std.proofs.Common.{sym, subst}
 use Rattle.std.proofs.lemmas.Result.{err_from_is_err_and}
 use Rattle.og_text.specs.Cut.{AreTokensOf}
-use Rattle.og_parse.specs.Trees.{tree_of}
+use Rattle.og_parse.specs.TreeOf.{tree_of}
 use Rattle.og_source.proofs.Resolving.{not_resolved}
 use Rattle.og_source.proofs.source.read_outline.Goals as goal
 

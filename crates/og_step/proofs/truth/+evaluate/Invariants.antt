@@ -1,7 +1,8 @@
 use Rattle.std.proofs.Common.{◌≡◌, drop, map, length, true}
-use Rattle.og_typed.specs.Syntax.{formula_list}
+use Rattle.og_typed.specs.Lists.{formula_list}
 use Rattle.og_typed.specs.Plain.{formula}
-use Rattle.og_typed.specs.Truth.{truth, all_true, some_true, each_form_in}
+use Rattle.og_typed.specs.Truth.{truth, all_true, some_true}
+use Rattle.og_typed.specs.Forms.{each_form_in}
 use Rattle.og_step.specs.Readable.{is_readable}
 use Rattle.og_step.proofs.truth.+evaluate.Given as goal
 

@@ -4,7 +4,8 @@ use Rattle.std.proofs.lemmas.Result.{err_from_is_err_and}
 use Rattle.og_linear.specs.declared.fault.FormFault.TheVariants as faults
 use Rattle.og_typed.specs.declared.assertion.Assert.{Assert}
 use Rattle.og_typed.specs.Plain.{formula}
-use Rattle.og_typed.specs.Syntax.{And, Or, formula_list}
+use Rattle.og_typed.specs.Syntax.{And, Or}
+use Rattle.og_typed.specs.Lists.{formula_list}
 use Rattle.og_typed.proofs.Lists.{formula_and, formula_or}
 use Rattle.og_subst.specs.Subst.{after, after_all}
 use Rattle.og_subst.proofs.Mapping.{after_turn, after_stops, after_end, after_and, after_or, fails_from}

@@ -1,6 +1,6 @@
 use Rattle.std.proofs.Common.{◌≡◌, map, drop}
 use Rattle.og_typed.specs.Plain.{formula}
-use Rattle.og_typed.specs.Syntax.{formula_list}
+use Rattle.og_typed.specs.Lists.{formula_list}
 use Rattle.og_subst.specs.Subst.{after_all}
 use Rattle.og_subst.proofs.Mapping.{behind}
 use Rattle.og_subst.proofs.substitution.+mapping.Given as goal

@@ -4,7 +4,7 @@ use Rattle.og_linear.specs.declared.fault.FormFault.TheVariants as faults
 use Rattle.og_typed.specs.declared.assertion.Assert.{Assert}
 use Rattle.og_typed.specs.declared.assertion.Assert as its
 use Rattle.og_typed.specs.Plain.{formula}
-use Rattle.og_typed.specs.Syntax.{formula_list}
+use Rattle.og_typed.specs.Lists.{formula_list}
 use Rattle.og_subst.specs.Subst.{low, high, ranges}
 use Rattle.og_subst.proofs.Mapping.{ranges_turn, low_stops, high_stops, ranges_end, fails_from}
 use Rattle.og_subst.proofs.substitution.ranges.Goals as goal

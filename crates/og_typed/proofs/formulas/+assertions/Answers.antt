@@ -1,10 +1,12 @@
 use Rattle.std.proofs.Common.{Vec, Global, map, sym, ap, ◌∙◌, arith}
 use Rattle.std.specs.Prelude.{Ok}
 use Rattle.std.proofs.lemmas.Result.{err_from_is_err_and}
-use Rattle.og_parse.specs.Trees.{assertion_of, listed}
+use Rattle.og_parse.specs.Trees.{listed}
+use Rattle.og_parse.specs.TreeOf.{assertion_of}
 use Rattle.og_typed.specs.declared.assertion.Assert.{Assert}
 use Rattle.og_typed.specs.Plain.{formula}
-use Rattle.og_typed.specs.Syntax.{Formulas, And, Or, formula_list}
+use Rattle.og_typed.specs.Syntax.{Formulas, And, Or}
+use Rattle.og_typed.specs.Lists.{formula_list}
 use Rattle.og_typed.specs.Resolved as meaning
 use Rattle.og_typed.specs.Resolved.{Checked, ◌>>=◌}
 use Rattle.og_typed.specs.Scoped.{scope_of, use_of}

@@ -1,5 +1,6 @@
 use Rattle.std.proofs.Common.{◌≡◌, map, drop}
-use Rattle.og_parse.specs.Trees.{assertion_of, listed}
+use Rattle.og_parse.specs.Trees.{listed}
+use Rattle.og_parse.specs.TreeOf.{assertion_of}
 use Rattle.og_typed.specs.Plain.{formula}
 use Rattle.og_typed.specs.Resolved as meaning
 use Rattle.og_typed.specs.Scoped.{scope_of, use_of}

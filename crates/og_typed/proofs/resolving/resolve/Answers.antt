@@ -1,6 +1,6 @@
 use Rattle.std.proofs.Common.{◌≡◌, arith, rules}
 use Rattle.std.specs.Prelude.{Ok}
-use Rattle.og_parse.specs.Trees.{tree_of}
+use Rattle.og_parse.specs.TreeOf.{tree_of}
 use Rattle.og_typed.specs.Outlined.{program}
 use Rattle.og_typed.specs.Resolved.{resolved}
 use Rattle.og_typed.specs.Syntax.{Program}

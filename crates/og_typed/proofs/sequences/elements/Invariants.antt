@@ -1,5 +1,5 @@
 use Rattle.std.proofs.Common.{◌≡◌, map, drop, vec_len}
-use Rattle.og_parse.specs.Trees.{element_of}
+use Rattle.og_parse.specs.TreeOf.{element_of}
 use Rattle.og_typed.specs.Plain.{simple}
 use Rattle.og_typed.specs.declared.fault.TypeFault.TheVariants as faults
 use Rattle.og_typed.specs.Resolved as meaning

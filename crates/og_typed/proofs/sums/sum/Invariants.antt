@@ -2,7 +2,7 @@ use Rattle.std.proofs.Common.{◌≡◌, ◌*◌, ◌^◌, drop}
 use Rattle.og_typed.specs.Bounds.{IsWithin}
 use Rattle.og_typed.specs.Scoped.{scope_of, use_of}
 use Rattle.og_typed.specs.Resolved.{sum_from, sum_form}
-use Rattle.og_parse.specs.Trees.{sum_of}
+use Rattle.og_parse.specs.TreeOf.{sum_of}
 use Rattle.og_typed.proofs.sums.sum.Given as goal
 
 abbrev pub invariant-loop-term : goal.invariant-loop-term

@@ -1,13 +1,15 @@
 use Rattle.std.proofs.Common.{◌≡◌, ℕ, ◌<◌, length, is_some, Some, sym, ap, ◌∙◌, subst, arith}
 use Rattle.std.specs.Prelude.{IfSome}
-use Rattle.og_typed.specs.Machine.{Moment, IsStuck}
-use Rattle.og_board.specs.Runs.{process_count, moment_after}
+use Rattle.og_typed.specs.Machine.{Moment}
+use Rattle.og_typed.specs.Stuck.{IsStuck}
+use Rattle.og_board.specs.Runs.{moment_after}
+use Rattle.og_board.specs.Histories.{process_count}
 use Rattle.og_board.specs.Turns.{IsTurn}
 use Rattle.og_board.specs.declared.turn.RunTurn.TheVariants as turn
 use Rattle.og_board.specs.declared.outcome.Finish.TheVariants.{Overflow}
 use Rattle.og_board.specs.Standing.{Standing}
-use Rattle.og_board.specs.Ends.{OverAt}
 use Rattle.og_board.specs.Ends.{IsFinish}
+use Rattle.og_board.specs.Over.{OverAt}
 use Rattle.og_board.proofs.Boards.{not_stuck}
 use Rattle.og_board.proofs.Ends.{finish_some, finish_of, over_active}
 use Rattle.og_board.proofs.board.Board.finish.Goals as goal

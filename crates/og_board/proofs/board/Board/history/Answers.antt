@@ -1,5 +1,5 @@
 use Rattle.std.proofs.Common.{subst}
-use Rattle.og_board.specs.Runs.{IsRun}
+use Rattle.og_board.specs.Histories.{IsRun}
 use Rattle.og_board.specs.Standing.{Standing}
 use Rattle.og_board.proofs.Boards.{run_of}
 use Rattle.og_board.proofs.board.Board.history.Goals as goal

@@ -1,7 +1,10 @@
-use Rattle.std.proofs.Common.{refl, sym, ◌∙◌, true, false, ap}
+use Rattle.std.proofs.Common.{◌≡◌, refl, sym, ◌∙◌, true, false, ap, ap₂, Err}
+use Rattle.std.proofs.lemmas.Result.{err_from_is_err_and}
 use Rattle.std.specs.Option.{is_none}
-use Rattle.og_cert_text.specs.Shown.{shown}
-use Rattle.og_cert_text.proofs.Adding.{same_is, same_added}
+use Rattle.og_cert_text.specs.Files.{certificate_of}
+use Rattle.og_cert_text.specs.Stored.{stored}
+use Rattle.og_cert_text.specs.Shown.{shown, fault_of_same}
+use Rattle.og_cert_text.proofs.Adding.{same_is, same_added, not_added}
 use Rattle.og_cert_text.proofs.Stored.{none_at, some_at, not_some, place_within}
 use Rattle.og_cert_text.proofs.file.CertFile.add_same.Goals as goal
 
@@ -35,3 +38,12 @@ returns c =
     same_added c.args.n c.args.k (shown c.args.self.now) (shown c.put_place.new.self) _ some
     (same_is c.args.n c.args.k (shown c.args.self.now) false false true (sym c.has.ensures ∙ c.if-has.false) (ap is_none some) (sym c.is_number.ensures ∙ c.if-not-is_number.false))
     c.in_ok-put_place.ensures.ok
+
+pub returns-in_err-put_place : goal.returns-in_err-put_place
+returns-in_err-put_place c =
+    let some = some_at c.args.k c.in-Some.place c.args.self.now.numbers.entries c.args.self.now.certs.items c.place.result c.place.ensures c.in-Some.is in
+    let p = err_from_is_err_and c.from_residual.result c.from_residual.ensures.1 in
+    let kept : shown c.put_place.new.self ≡ shown c.args.self.now = ap₂ stored c.in_err-put_place.ensures.err (ap (λ v. v.items) c.put_place.ensures.certs) in
+    not_added c.from_residual.result (fault_of_same c.args.n c.args.k (shown c.args.self.now)) (certificate_of c.args.k (shown c.args.self.now)) c.args.n (shown c.args.self.now) (shown c.put_place.new.self)
+    (p.1 ∙ ap Err p.2)
+    (same_is c.args.n c.args.k (shown c.args.self.now) false false true (sym c.has.ensures ∙ c.if-has.false) (ap is_none some) (sym c.is_number.ensures ∙ c.if-not-is_number.false)) kept

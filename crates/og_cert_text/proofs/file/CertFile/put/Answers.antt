@@ -1,5 +1,6 @@
 use Rattle.std.proofs.Common.{◌≡◌, ◌∙◌, ◌++◌, [], ◌∷◌, ap, rules, length, arith}
-use Rattle.og_cert_text.specs.Files.{stored, placed, certificate_of, with_entry}
+use Rattle.og_cert_text.specs.Files.{certificate_of, with_entry}
+use Rattle.og_cert_text.specs.Stored.{stored, placed}
 use Rattle.og_cert_text.proofs.Stored.{pushed_kept, shown_pushed, placed_last}
 use Rattle.og_cert_text.proofs.file.CertFile.put.Goals as goal
 

@@ -1,5 +1,5 @@
 use Rattle.std.proofs.Common.{◌∙◌, ap}
-use Rattle.og_cert_text.specs.Files.{stored}
+use Rattle.og_cert_text.specs.Stored.{stored}
 use Rattle.og_cert_text.proofs.Stored.{shown_inserted, entries_kept}
 use Rattle.og_cert_text.proofs.file.CertFile.put_place.Goals as goal
 

@@ -1,5 +1,5 @@
 use Rattle.std.proofs.Common.{◌≡◌, drop}
-use Rattle.og_linear.specs.Arith.{apply_terms, apply}
+use Rattle.og_linear.specs.Bounded.{apply_terms, apply}
 use Rattle.og_linear.proofs.form.Form.apply.Given as goal
 
 abbrev pub invariant-loop-t : goal.invariant-loop-t

@@ -1,7 +1,7 @@
 use Rattle.std.proofs.Common.{pos, get_or, rules, FitsSigned, ◌∙◌, ap}
 use mir.Syntax.{w128}
 use Rattle.std.proofs.lemmas.Int.{to_z-of_z}
-use Rattle.og_linear.specs.Arith.{coefficient}
+use Rattle.og_linear.specs.Replaced.{coefficient}
 use Rattle.og_linear.proofs.Coefficients.{coefficient_at}
 use Rattle.og_linear.proofs.form.Form.coefficient.Goals as goal
 

@@ -1,5 +1,5 @@
 use Rattle.std.proofs.Common.{◌≡◌, drop}
-use Rattle.og_linear.specs.Arith.{coefficient}
+use Rattle.og_linear.specs.Replaced.{coefficient}
 use Rattle.og_linear.proofs.form.Form.coefficient.Given as goal
 
 abbrev pub invariant-loop-t : goal.invariant-loop-t

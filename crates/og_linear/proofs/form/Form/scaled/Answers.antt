@@ -1,5 +1,5 @@
 use Rattle.std.proofs.Common.{sym, subst}
-use Rattle.og_linear.specs.Linear.{IsTidy}
+use Rattle.og_linear.specs.Tidy.{IsTidy}
 use Rattle.og_linear.proofs.Steps.{checked_tidy, tidy_scale}
 use Rattle.og_linear.proofs.form.Form.scaled.Goals as goal
 

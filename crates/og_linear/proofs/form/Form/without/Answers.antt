@@ -1,5 +1,5 @@
 use Rattle.std.proofs.Common.{◌∙◌, ap}
-use Rattle.og_linear.specs.Arith.{other_terms}
+use Rattle.og_linear.specs.Replaced.{other_terms}
 use Rattle.og_linear.proofs.Steps.{others_tidy}
 use Rattle.og_linear.proofs.form.Form.without.Goals as goal
 

@@ -1,5 +1,5 @@
 use Rattle.std.proofs.Common.{◌≡◌, drop}
-use Rattle.og_linear.specs.Arith.{image}
+use Rattle.og_linear.specs.Bounded.{image}
 use Rattle.og_linear.proofs.map.Map.named.Given as goal
 
 abbrev pub invariant-loop-e : goal.invariant-loop-e

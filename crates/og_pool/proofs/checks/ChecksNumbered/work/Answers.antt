@@ -1,7 +1,7 @@
 use Rattle.std.proofs.Common.{◌∙◌, refl}
 use Rattle.std.proofs.lemmas.List.Elements.{All-push}
 use Rattle.og_pool.specs.declared.told.Told.{Told}
-use Rattle.og_pool.specs.Status.{status_of}
+use Rattle.og_pool.specs.Numbered.{status_of}
 use Rattle.og_pool.specs.Telling.{IsRight}
 use Rattle.og_pool.proofs.Telling.{nearer, tells_drawn}
 use Rattle.og_pool.proofs.checks.ChecksNumbered.work.Goals as goal

@@ -2,7 +2,7 @@ use Rattle.std.proofs.Common.{◌≡◌, ℕ, ◌+◌, ◌-◌, ◌<◌}
 use Rattle.std.specs.List.{All}
 use Rattle.og_pool.specs.Drawing.{past, times}
 use Rattle.og_pool.specs.Last.{Keeps}
-use Rattle.og_pool.specs.Status.{status_of}
+use Rattle.og_pool.specs.Numbered.{status_of}
 use Rattle.og_pool.specs.Telling.{IsRight, Tells}
 use Rattle.og_pool.proofs.Telling.{above}
 use Rattle.og_pool.proofs.checks.ChecksNumbered.work.Given as goal

@@ -3,7 +3,7 @@ use Rattle.std.specs.Prelude.{option_map}
 use Rattle.std.proofs.lemmas.Result.{err_from_is_err_and}
 use Rattle.og_linear.specs.declared.fault.FormFault.TheVariants as faults
 use Rattle.og_subst.specs.Actions.{action_body}
-use Rattle.og_linear.specs.Arith.{MapValue}
+use Rattle.og_linear.specs.Bounded.{MapValue}
 use Rattle.og_subst.specs.Running.{nothing, run}
 use Rattle.og_subst.specs.Subst.{forward}
 use Rattle.og_subst.proofs.Moved.{forward_said}

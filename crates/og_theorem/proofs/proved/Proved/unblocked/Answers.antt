@@ -1,6 +1,7 @@
 use Rattle.std.proofs.Common.{subst}
 use Rattle.og_typed.specs.Erase.{erased}
-use Rattle.og_theorem.specs.Sound.{IsUnblocked, IsNeverStuck}
+use Rattle.og_theorem.specs.Proved.{IsUnblocked}
+use Rattle.og_theorem.specs.NeverStuck.{IsNeverStuck}
 use Rattle.og_theorem.proofs.Stuck.{never_stuck}
 use Rattle.og_theorem.proofs.Erased.{erased_never_stuck}
 use Rattle.og_theorem.proofs.proved.Proved.unblocked.Goals as goal

@@ -1,7 +1,8 @@
 use Rattle.std.proofs.lemmas.Grind.{common_steps}
 use Rattle.std.proofs.Common.{◌≡◌, map, sym, ap, ◌∙◌, arith}
 use Rattle.og_typed.specs.Plain.{formula}
-use Rattle.og_typed.specs.Syntax.{formula_list, And, Or}
+use Rattle.og_typed.specs.Syntax.{And, Or}
+use Rattle.og_typed.specs.Lists.{formula_list}
 use Rattle.og_typed.proofs.Lists.{formula_and, formula_or}
 use Rattle.og_typed.proofs.assertion.Assert.+copy.Goals as goal
 

@@ -1,8 +1,8 @@
 use Rattle.std.proofs.Common.{◌≡◌, drop, map}
 use Rattle.og_linear.specs.Linear.{is_small}
-use Rattle.og_typed.specs.Syntax.{formula_list}
+use Rattle.og_typed.specs.Lists.{formula_list}
 use Rattle.og_typed.specs.Plain.{formula}
-use Rattle.og_typed.specs.Truth.{each_form, each_form_in}
+use Rattle.og_typed.specs.Forms.{each_form, each_form_in}
 use Rattle.og_typed.proofs.assertion.Assert.+is_small.Given as goal
 
 abbrev pub invariant-loop-a : goal.invariant-loop-a

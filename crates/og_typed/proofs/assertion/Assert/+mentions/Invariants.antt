@@ -1,7 +1,7 @@
 use Rattle.std.proofs.Common.{◌≡◌, drop, map}
-use Rattle.og_typed.specs.Syntax.{formula_list}
+use Rattle.og_typed.specs.Lists.{formula_list}
 use Rattle.og_typed.specs.Plain.{formula}
-use Rattle.og_typed.specs.Truth.{occurs, occurs_in}
+use Rattle.og_typed.specs.Occurs.{occurs, occurs_in}
 use Rattle.og_typed.proofs.assertion.Assert.+mentions.Given as goal
 
 abbrev pub invariant-loop-a : goal.invariant-loop-a

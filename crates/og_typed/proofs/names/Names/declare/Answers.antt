@@ -4,8 +4,8 @@ use Rattle.og_typed.specs.Resolved.{number_in, declared}
 use Rattle.og_typed.proofs.Naming.{declare_step}
 use Rattle.og_typed.proofs.names.Names.declare.Goals as goal
 
-pub returns : goal.returns
-returns c =
+pub returns-clause-answer : goal.returns-clause-answer
+returns-clause-answer c =
     let keys = c.self.inside.set.keys in
     let new = c.insert.new.self.keys in
     let room : length (map (λ (n : Bor (List ℕ)). n.now) keys) < 256 = omega (arith, c.len.ensures.len, ap (length {A = List ℕ}) c.self.view_is) in

@@ -1,0 +1,7 @@
+-- The bytes that a name stands for.
+use Rattle.std.specs.Prelude.{ℕ, List, Option, if◌then◌else◌, codes}
+use Rattle.std.specs.Str.{bytes_eq}
+
+-- as a source, where they are known: `-` is standard input
+abbrev pub source_in : (List ℕ → Option (List ℕ)) → Option (List ℕ) → List ℕ → Option (List ℕ)
+source_in files input name = if bytes_eq name (codes "-") then input else files name

@@ -1,0 +1,114 @@
+-- What the program does for a job, by its files and its input.
+use Rattle.std.specs.Prelude.{◌≡◌, ◌⊎◌, ℕ, Bool, false, List, Option, None, Some, Result, Ok, Err, IfOk, IfSome, map, string_bytes, ⊤}
+use Rattle.std.specs.Borrow.{Bor}
+use Rattle.std.specs.Io.KnownBytes.{Appends, Keeps}
+use Rattle.og_answer.specs.declared.answer.Answer.{Answer}
+use Rattle.og_engine.specs.Answers.{Writes, WritesJoined}
+use Rattle.og_engine.specs.NeverStuck.{HasNeverStuckSource}
+use Rattle.og_engine.specs.Proven.{HasProvenSource}
+use Rattle.og_engine.specs.Commands.{IsListed, IsErased}
+use Rattle.og_engine.specs.Inputs.{source_of, certs_of, joined_of}
+use Rattle.og_engine.specs.Making.{IsFound, IsMigrated}
+use Rattle.og_engine.specs.Wrote.{Wrote}
+use Rattle.og_engine.specs.declared.fault.EngineFault.{EngineFault}
+use Rattle.og_engine.specs.declared.fault.EngineFault.TheVariants as faults
+use Rattle.og_judge.specs.Proven.{IsProvenSource}
+use Rattle.og_judge.specs.NeverStuck.{IsNeverStuckSource}
+use Rattle.og_report.specs.Yes.{SaysUnblocked}
+use Rattle.og_running.specs.Running.{IsRan, IsRanProved}
+use Rattle.og_running.specs.declared.reply.Reply.{Reply}
+use Rattle.og_running.specs.declared.reply.Reply.TheVariants as replies
+use Rattle.og_words.specs.Jobs.{IsAsked}
+use Rattle.og_words.specs.declared.job.Job.{Job}
+use Rattle.og_words.specs.declared.job.Job.TheVariants as jobs
+use Rattle.og_words.specs.declared.job.Usage.{Usage}
+use Rattle.og_words.specs.declared.job.Usage.TheVariants as usages
+use Rattle.og_program.specs.Named.{source_in}
+use Rattle.og_program.specs.Told.{bad_value_text, Complains, IsSilent, Fails}
+use Rattle.og_program.specs.declared.ended.Ended.{Ended}
+
+-- the reply to a run, which certificates have to prove safe where they are given
+abbrev pub RanAs : (List ℕ → Option (List ℕ)) → Option (List ℕ) → ℕ → Bool → Option (Bor (List ℕ)) → List (List ℕ) → Reply → Type 0
+RanAs files source limit erased None words reply = IfSome source (λ s. IsRan erased limit (source_of s) words reply)
+RanAs files source limit erased (Some certs) words reply =
+    IfSome source (λ s. IfSome (files certs.now) (λ c. IsRanProved limit (source_of s) (certs_of c) words reply))
+
+-- an answer such as P says goes to the end of what the writer holds, and the status is the answer's
+abbrev pub Prints : (Answer → Type 0) → Option (List ℕ) → Option (List ℕ) → ℕ → Type 0
+Prints P before after status = (answer : Answer) × P answer × Appends before after answer.text.items × (status ≡ answer.status)
+
+-- what a job writes to standard output, and the status
+abbrev pub Does : (List ℕ → Option (List ℕ)) → Option (List ℕ) → Job → Option (List ℕ) → Option (List ℕ) → ℕ → Type 0
+Does files input jobs.Joined before after status = IfSome input (λ i. WritesJoined false (joined_of i) before after status)
+Does files input (jobs.Check source certs workers json) before after status =
+    IfSome (source_in files input source.now) (λ s. IfSome (files certs.now) (λ c. Writes json (source_of s) (certs_of c) before after status))
+Does files input (jobs.Conditions source) before after status =
+    Prints (λ answer. IfSome (source_in files input source.now) (λ s. IsListed (source_of s) answer)) before after status
+Does files input (jobs.Find source budget) before after status =
+    Prints (λ answer. IfSome (source_in files input source.now) (λ s. IsFound (source_of s) answer)) before after status
+Does files input (jobs.Erase source) before after status =
+    Prints (λ answer. IfSome (source_in files input source.now) (λ s. IsErased (source_of s) answer)) before after status
+Does files input (jobs.Run source limit erased certs values) before after status =
+    Prints (λ answer. RanAs files (source_in files input source.now) limit erased certs (map (λ w. w.now) values.items) (replies.Answer answer)) before after status
+Does files input (jobs.Migrate certs) before after status =
+    Prints (λ answer. IfSome (files certs.now) (λ c. IsMigrated (certs_of c) answer)) before after status
+
+-- the text that says why a job cannot be done: a word of a run gives no value
+abbrev pub Refuses : (List ℕ → Option (List ℕ)) → Option (List ℕ) → Job → List ℕ → Type 0
+Refuses files input jobs.Joined text = ⊥
+Refuses files input (jobs.Check source certs workers json) text = ⊥
+Refuses files input (jobs.Conditions source) text = ⊥
+Refuses files input (jobs.Find source budget) text = ⊥
+Refuses files input (jobs.Erase source) text = ⊥
+Refuses files input (jobs.Run source limit erased certs values) text =
+    (word : Bor (List ℕ)) × RanAs files (source_in files input source.now) limit erased certs (map (λ w. w.now) values.items) (replies.BadValue word) × (text ≡ bad_value_text word.now)
+Refuses files input (jobs.Migrate certs) text = ⊥
+
+-- how the program ends where it is given a job: with the job's answer, with a word that is refused, or with a fault
+abbrev pub EndsJob : (List ℕ → Option (List ℕ)) → Option (List ℕ) → Job → Option (List ℕ) → Option (List ℕ) → Option (List ℕ) → Option (List ℕ) → Ended → Type 0
+EndsJob files input job out out_after err err_after ended =
+    (Does files input job out out_after ended.status × IsSilent err err_after ended)
+    ⊎ ((text : List ℕ) × Refuses files input job text × Keeps out out_after × Complains text 3 err err_after ended)
+    ⊎ ((fault : EngineFault) × Fails fault out out_after err err_after ended)
+
+-- how it ends where the words ask for help or are wrong, or memory ran out
+abbrev pub EndsUsage : Usage → Option (List ℕ) → Option (List ℕ) → Option (List ℕ) → Option (List ℕ) → Ended → Type 0
+EndsUsage (usages.Asked text) out out_after err err_after ended =
+    (Appends out out_after (string_bytes text) × (ended.status ≡ 0) × IsSilent err err_after ended)
+    ⊎ Fails faults.WriteFailed out out_after err err_after ended
+EndsUsage (usages.Wrong text) out out_after err err_after ended = Keeps out out_after × Complains (string_bytes text) 3 err err_after ended
+EndsUsage usages.Memory out out_after err err_after ended = Fails faults.Memory out out_after err err_after ended
+
+abbrev pub Ends : (List ℕ → Option (List ℕ)) → Option (List ℕ) → Result Job Usage → Option (List ℕ) → Option (List ℕ) → Option (List ℕ) → Option (List ℕ) → Ended → Type 0
+Ends files input (Ok job) out out_after err err_after ended = EndsJob files input job out out_after err err_after ended
+Ends files input (Err usage) out out_after err err_after ended = EndsUsage usage out out_after err err_after ended
+
+-- the source that a job checks is proven, where its bytes are known
+abbrev pub IsProvenIn : (List ℕ → Option (List ℕ)) → Option (List ℕ) → Job → Type 0
+IsProvenIn files input jobs.Joined = IfSome input (λ i. HasProvenSource (joined_of i))
+IsProvenIn files input (jobs.Check source certs workers json) = IfSome (source_in files input source.now) (λ s. IsProvenSource (source_of s))
+IsProvenIn files input (jobs.Conditions source) = ⊤
+IsProvenIn files input (jobs.Find source budget) = ⊤
+IsProvenIn files input (jobs.Erase source) = ⊤
+IsProvenIn files input (jobs.Run source limit erased certs values) = ⊤
+IsProvenIn files input (jobs.Migrate certs) = ⊤
+
+-- it never gets stuck, where what was written says that it is unblocked
+abbrev pub IsNeverStuckIn : (List ℕ → Option (List ℕ)) → Option (List ℕ) → Option (List ℕ) → Option (List ℕ) → Job → Type 0
+IsNeverStuckIn files input before after jobs.Joined =
+    IfSome input (λ i. Wrote (SaysUnblocked false) before after → HasNeverStuckSource (joined_of i))
+IsNeverStuckIn files input before after (jobs.Check source certs workers json) =
+    IfSome (source_in files input source.now) (λ s. Wrote (SaysUnblocked json) before after → IsNeverStuckSource (source_of s))
+IsNeverStuckIn files input before after (jobs.Conditions source) = ⊤
+IsNeverStuckIn files input before after (jobs.Find source budget) = ⊤
+IsNeverStuckIn files input before after (jobs.Erase source) = ⊤
+IsNeverStuckIn files input before after (jobs.Run source limit erased certs values) = ⊤
+IsNeverStuckIn files input before after (jobs.Migrate certs) = ⊤
+
+-- how the program ends where it is given words: as what they ask for ends
+pub record EndsWords (words : List (List ℕ)) (files : List ℕ → Option (List ℕ)) (input out out_after err err_after : Option (List ℕ)) (ended : Ended) : Type 0 where
+  pub asked : Result Job Usage
+  pub is : IsAsked words asked
+  pub ends : Ends files input asked out out_after err err_after ended
+  pub sound : IfOk asked (λ job. ended.status ≡ 0 → IsProvenIn files input job)
+  pub unblocked : IfOk asked (λ job. ended.status ≡ 0 → IsNeverStuckIn files input out out_after job)

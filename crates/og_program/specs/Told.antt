@@ -1,0 +1,46 @@
+-- What is written of an answer, a fault or wrong words, and how the program ends.
+use Rattle.std.specs.Prelude.{◌≡◌, ◌≢◌, ◌⊎◌, ℕ, true, List, ◌++◌, Option, codes}
+use Rattle.std.specs.Io.KnownBytes.{Appends, Keeps}
+use Rattle.og_answer.specs.declared.answer.Answer.{Answer}
+use Rattle.og_engine.specs.declared.fault.EngineFault.{EngineFault}
+use Rattle.og_engine.specs.declared.fault.EngineFault.TheVariants as faults
+use Rattle.og_running.specs.declared.reply.Reply.{Reply}
+use Rattle.og_running.specs.declared.reply.Reply.TheVariants as replies
+use Rattle.og_program.specs.declared.ended.Ended.{Ended}
+
+abbrev pub fault_text : EngineFault → List ℕ
+fault_text faults.Memory = codes "og: out of memory\n"
+fault_text faults.Spawn = codes "og: no thread\n"
+fault_text faults.ReadFailed = codes "og: read failed\n"
+fault_text faults.WriteFailed = codes "og: write failed\n"
+
+abbrev pub bad_value_text : List ℕ → List ℕ
+bad_value_text word = codes "bad value: " ++ word ++ codes "\n"
+
+-- the status is this one; the text goes to the end of what standard error holds, where it could be written
+abbrev pub Complains : List ℕ → ℕ → Option (List ℕ) → Option (List ℕ) → Ended → Type 0
+Complains text status before after ended = (ended.status ≡ status) × (ended.told ≡ true → Appends before after text)
+
+-- standard error gets nothing
+abbrev pub IsSilent : Option (List ℕ) → Option (List ℕ) → Ended → Type 0
+IsSilent before after ended = Keeps before after × (ended.told ≡ true)
+
+-- a file cannot be read or written, memory runs out or a thread cannot be started; only a failed write changes standard output
+abbrev pub Fails : EngineFault → Option (List ℕ) → Option (List ℕ) → Option (List ℕ) → Option (List ℕ) → Ended → Type 0
+Fails fault out out_after err err_after ended = (fault ≢ faults.WriteFailed → Keeps out out_after) × Complains (fault_text fault) 4 err err_after ended
+
+-- the answer goes to the end of what standard output holds and its status is the program's, or it cannot be written
+abbrev pub TellsAnswer : Answer → Option (List ℕ) → Option (List ℕ) → Option (List ℕ) → Option (List ℕ) → Ended → Type 0
+TellsAnswer answer out out_after err err_after ended =
+    (Appends out out_after answer.text.items × (ended.status ≡ answer.status) × IsSilent err err_after ended)
+    ⊎ Fails faults.WriteFailed out out_after err err_after ended
+
+-- the word that gives no value is told, or memory runs out
+abbrev pub TellsBadValue : List ℕ → Option (List ℕ) → Option (List ℕ) → Ended → Type 0
+TellsBadValue word before after ended =
+    Complains (bad_value_text word) 3 before after ended ⊎ Complains (fault_text faults.Memory) 4 before after ended
+
+-- the answer, or that word
+abbrev pub TellsReply : Reply → Option (List ℕ) → Option (List ℕ) → Option (List ℕ) → Option (List ℕ) → Ended → Type 0
+TellsReply (replies.Answer answer) out out_after err err_after ended = TellsAnswer answer out out_after err err_after ended
+TellsReply (replies.BadValue word) out out_after err err_after ended = Keeps out out_after × TellsBadValue word.now err err_after ended

@@ -1,0 +1,63 @@
+//! The answers of the commands that print what they make of one file.
+
+ghost use Rattle.std.specs.Prelude.{IfOk, IfSome};
+ghost use Rattle.og_engine.specs.Commands.{IsListed, IsErased};
+ghost use Rattle.og_engine.specs.Inputs.{source_of, certs_of};
+ghost use Rattle.og_engine.specs.Making.{IsFound, IsMigrated};
+ghost use Rattle.og_program.specs.Named.{source_in};
+
+use crate::files::Files;
+use crate::reading::{certificate_bytes, source_bytes};
+use og_answer::Answer;
+use og_engine::{EngineFault, erased, found, listed, migrated};
+use og_limits::Budget;
+use std::alloc::Global;
+use std::io::Read;
+
+/// The conditions of a source.
+pub(crate) fn conditions<F: Files, I: Read>(
+    alloc: Global,
+    files: &F,
+    name: &str,
+    input: &mut I,
+) -> Result<Answer, EngineFault>
+    ensures { IfOk result (λ answer. IfSome (source_in (F.contents files.now) (I.remaining input.old) name.now) (λ s. IsListed (source_of s) answer)) }
+{
+    let source = source_bytes(alloc, files, name, input)?;
+    Ok(listed(alloc, &source)?)
+}
+
+/// The program of a source without its auxiliary variables.
+pub(crate) fn erase<F: Files, I: Read>(
+    alloc: Global,
+    files: &F,
+    name: &str,
+    input: &mut I,
+) -> Result<Answer, EngineFault>
+    ensures { IfOk result (λ answer. IfSome (source_in (F.contents files.now) (I.remaining input.old) name.now) (λ s. IsErased (source_of s) answer)) }
+{
+    let source = source_bytes(alloc, files, name, input)?;
+    Ok(erased(alloc, &source)?)
+}
+
+/// The certificates that are found for a source.
+pub(crate) fn find<F: Files, I: Read>(
+    alloc: Global,
+    files: &F,
+    name: &str,
+    budget: Budget,
+    input: &mut I,
+) -> Result<Answer, EngineFault>
+    ensures { IfOk result (λ answer. IfSome (source_in (F.contents files.now) (I.remaining input.old) name.now) (λ s. IsFound (source_of s) answer)) }
+{
+    let source = source_bytes(alloc, files, name, input)?;
+    Ok(found(alloc, &source, budget)?)
+}
+
+/// Certificates in version 2.
+pub(crate) fn migrate<F: Files>(alloc: Global, files: &F, name: &str) -> Result<Answer, EngineFault>
+    ensures { IfOk result (λ answer. IfSome (F.contents files.now name.now) (λ c. IsMigrated (certs_of c) answer)) }
+{
+    let certs = certificate_bytes(alloc, files, name)?;
+    Ok(migrated(alloc, &certs)?)
+}

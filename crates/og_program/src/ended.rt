@@ -1,0 +1,10 @@
+//! How the program ends.
+
+/// How the program ends.
+#[derive(Clone, Copy, Debug, PartialEq, Eq)]
+pub struct Ended {
+    /// The status.
+    pub status: u8,
+    /// Whether the text for standard error was written; true where there is none.
+    pub told: bool,
+}

@@ -1,0 +1,14 @@
+//! The program: from a job and files to what is written and the status.
+#![tactic(auto)]
+
+mod commands;
+mod ended;
+mod files;
+mod program;
+mod reading;
+mod serving;
+mod telling;
+
+pub use ended::Ended;
+pub use files::Files;
+pub use serving::{serve, serve_words};

@@ -1,0 +1,128 @@
+//! From a job to what is written and the status.
+
+ghost use Rattle.std.specs.Prelude.{◌≡◌, map, string_bytes, IfOk, IfErr};
+ghost use Rattle.og_program.specs.Served.{Ends, EndsJob, EndsUsage, EndsWords, IsProvenIn, IsNeverStuckIn};
+
+use crate::commands::{conditions, erase, find, migrate};
+use crate::ended::Ended;
+use crate::files::Files;
+use crate::program::Program;
+use crate::telling::{fail, finish, refuse, reply, tell};
+use og_answer::Answer;
+use og_engine::{EngineFault, Options};
+use og_words::{Job, Usage, read_words};
+use std::alloc::Global;
+use std::io::{Read, Write};
+use std::sync::Wait;
+use std::thread::Threads;
+
+impl<'r, F: Files, H: Threads + Wait + Sync> Program<'r, F, H> {
+    // Does a job.
+    fn perform<I: Read, O: Write, E: Write>(
+        &self,
+        job: &Job<'_>,
+        input: &mut I,
+        out: &mut O,
+        err: &mut E,
+    ) -> Ended
+        ensures ended { EndsJob (F.contents self.now.files.now) (I.remaining input.old) job.now (O.contents out.old) (O.contents out.new) (E.contents err.old) (E.contents err.new) result }
+        ensures sound { result.status ≡ 0 → IsProvenIn (F.contents self.now.files.now) (I.remaining input.old) job.now }
+        ensures unblocked { result.status ≡ 0 → IsNeverStuckIn (F.contents self.now.files.now) (I.remaining input.old) (O.contents out.old) (O.contents out.new) job.now }
+    {
+        let (alloc, files) = (self.alloc, self.files);
+        match job {
+            Job::Joined => finish(self.joined(input, out), err),
+            Job::Check {
+                source,
+                certs,
+                workers,
+                json,
+            } => {
+                let options = Options {
+                    workers: *workers,
+                    json: *json,
+                };
+                finish(self.check(source, certs, options, input, out), err)
+            }
+            Job::Conditions { source } => tell(conditions(alloc, files, source, input), out, err),
+            Job::Find { source, budget } => {
+                tell(find(alloc, files, source, *budget, input), out, err)
+            }
+            Job::Erase { source } => tell(erase(alloc, files, source, input), out, err),
+            Job::Migrate { certs } => tell(migrate(alloc, files, certs), out, err),
+            Job::Run {
+                source,
+                limit,
+                erased,
+                certs,
+                values,
+            } => {
+                let ran = self.run(source, *certs, values, *limit, *erased, input);
+                reply(alloc, ran, out, err)
+            }
+        }
+    }
+}
+
+// Tells why there is no job.
+fn explain<O: Write, E: Write>(usage: Usage, out: &mut O, err: &mut E) -> Ended
+    ensures { EndsUsage usage (O.contents out.old) (O.contents out.new) (E.contents err.old) (E.contents err.new) result }
+{
+    match usage {
+        Usage::Asked(text) => {
+            let text = text.into_bytes();
+            tell(Ok(Answer { text, status: 0 }), out, err)
+        }
+        Usage::Wrong(text) => refuse(text.as_str(), err),
+        Usage::Memory => fail(EngineFault::Memory, err),
+    }
+}
+
+/// Does a job, or tells why there is none. What a command prints goes to `out`, with its status, from
+/// 0 to 2, and nothing to `err`. Status 0 of a check says that the source that was checked is proven;
+/// and where what was printed says that it is unblocked, that it never gets stuck. `input` is read
+/// where a source is named `-`, and for a job that has no files.
+///
+/// The status is 3, with a text to `err`, where the words are wrong or one gives no variable a value;
+/// and 4, with a text to `err`, where a file cannot be read or `out` not be written, memory runs out
+/// or a thread cannot be started. Nothing goes to `out` then, but what a failed write left.
+pub fn serve<F: Files, I: Read, O: Write, E: Write, H: Threads + Wait + Sync>(
+    rt: &H,
+    alloc: Global,
+    files: &F,
+    asked: Result<Job<'_>, Usage>,
+    input: &mut I,
+    out: &mut O,
+    err: &mut E,
+) -> Ended
+    ensures ended { Ends (F.contents files.now) (I.remaining input.old) asked.entry (O.contents out.old) (O.contents out.new) (E.contents err.old) (E.contents err.new) result }
+    ensures sound { IfOk asked.entry (λ job. result.status ≡ 0 → IsProvenIn (F.contents files.now) (I.remaining input.old) job) }
+    ensures unblocked { IfOk asked.entry (λ job. result.status ≡ 0 → IsNeverStuckIn (F.contents files.now) (I.remaining input.old) (O.contents out.old) (O.contents out.new) job) }
+{
+    match asked {
+        Ok(job) => Program { rt, alloc, files }.perform(&job, input, out, err),
+        Err(usage) => explain(usage, out, err),
+    }
+}
+
+/// Does what the words after the program's name ask for, as `serve`; or tells why there are none.
+pub fn serve_words<F: Files, I: Read, O: Write, E: Write, H: Threads + Wait + Sync>(
+    rt: &H,
+    alloc: Global,
+    files: &F,
+    words: Result<Vec<String>, Usage>,
+    input: &mut I,
+    out: &mut O,
+    err: &mut E,
+) -> Ended
+    ensures words { IfOk words (λ w. EndsWords (map (λ s. string_bytes s) w.items) (F.contents files.now) (I.remaining input.old) (O.contents out.old) (O.contents out.new) (E.contents err.old) (E.contents err.new) result) }
+    ensures none { IfErr words (λ usage. EndsUsage usage (O.contents out.old) (O.contents out.new) (E.contents err.old) (E.contents err.new) result) }
+{
+    match words {
+        Ok(words) => {
+            let asked = read_words(alloc, words.as_slice());
+            serve(rt, alloc, files, asked, input, out, err)
+        }
+        Err(usage) => explain(usage, out, err),
+    }
+}
