@@ -43,7 +43,7 @@ fn outline_text(alloc: Global, source: &str) -> Result<Vec<u8>, Fail> {
 }
 
 // A statement that became empty stays: a loop, an await, a branch, a process, and a part of the
-// main process.
+// main process. So does `skip`, in an await too.
 const PROGRAMS: &[(&str, &str)] = &[
     (
         "var x; aux a = 0, b = 0;\n{x = 0}\ncobegin\n{x = a + b and a = 0 and b <= 1}\nawait true then begin x := x + 1; a := 1 end\n{x = a + b and a = 1 and b <= 1}\n//\n{x = a + b and b = 0 and a <= 1}\nawait true then begin x := x + 1; b := 1 end\n{x = a + b and b = 1 and a <= 1}\ncoend\n{x = 2}\n",
@@ -72,6 +72,10 @@ const PROGRAMS: &[(&str, &str)] = &[
     (
         "var x, y; {true} cobegin {true} await 3 + y < -2*x + 5 - y - 5*y and not x = y then x := 2 - 1*y - x + 3*x - 2 {true} coend {true}",
         "var x, y;\ncobegin\n  await 2*x + 7*y - 1 <= 0 and not x - y = 0 then x := 2*x - y\ncoend\n",
+    ),
+    (
+        "aux a = 0; {true} cobegin {true} skip {true} await true then skip {true} await true then begin skip; a := 1; skip end {true} coend {true}",
+        "cobegin\n  skip;\n  await true then skip;\n  await true then begin skip; skip end\ncoend\n",
     ),
     (
         "var x, y; {true} cobegin {true} if -x <> y - 0 then begin {true} y := x - x {true} end {true} coend {true}",

@@ -116,6 +116,8 @@ const REFUSALS: &[(&str, &str)] = &[
         "aux a = -9223372036854775808; {true} cobegin {true} a := a {true} coend {true}",
         "",
     ),
+    ("{1 = 1} cobegin {true} skip {true} coend {true}", ""),
+    ("{1 <> 0} cobegin {2 <= 1} skip {0 < 3} coend {1 >= 1}", ""),
 ];
 
 #[test]

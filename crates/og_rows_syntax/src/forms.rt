@@ -68,6 +68,22 @@ const SUMS: &[(Sum, i128, Sum, Terms<'_>, i128)] = &[
     ((1, 0, 0), 3, (1, 0, -1), &[(X, 4)], -3),
     ((4, 0, -3), -4, (1, 0, 0), &[], -3),
     ((0, 1, 0), -1, (1, 0, 0), &[(X, -1), (Y, 1)], 0),
+    // The least number of all, as a factor, a product and a sum, in a coefficient and a constant.
+    (
+        (0, 0, 0),
+        i128::MIN,
+        (0, 1, 1),
+        &[(Y, i128::MIN)],
+        i128::MIN,
+    ),
+    ((0, 0, 0), 1 << 63, (-(1 << 64), 0, 0), &[(X, i128::MIN)], 0),
+    (
+        (-(1 << 126), 3, 0),
+        1,
+        (-(1 << 126), 0, 0),
+        &[(X, i128::MIN), (Y, 3)],
+        0,
+    ),
 ];
 
 #[test]
@@ -139,6 +155,12 @@ const MAPPED: &[(&[(u32, Sum)], Sum, Terms<'_>, i128)] = &[
         &[(X, 2), (Y, 1)],
         1,
     ),
+    (
+        &[(X, (0, 1, 1)), (Y, (5, 0, 0)), (Y, (1, 0, 0))],
+        (1, 2, 0),
+        &[(X, 2), (Y, 1)],
+        1,
+    ),
 ];
 
 #[test]
@@ -175,6 +197,14 @@ fn refused_cuts(rt: HostRuntime) {
     for d in [3, 0, -1] {
         expect_fault(&rt, &cut(rt.alloc(), (2, 0, 1), d), FormFault::NotDivisible);
     }
+}
+
+// -1 * -2^127
+#[test]
+fn least_number_turned(rt: HostRuntime) -> Result<(), Fail> {
+    let sum = scaled_sum(rt.alloc(), (0, 0, 0), -1, (0, i128::MIN, 0));
+    expect_fault(&rt, &sum, FormFault::TooLarge);
+    Ok(())
 }
 
 // A sum that is too large leaves the form as it was.
