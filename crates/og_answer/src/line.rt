@@ -1,6 +1,6 @@
 //! The line of a refusal.
 
-ghost use Rattle.std.specs.Prelude.{◌≡◌, ◌++◌, ◌≤◌, ◌^◌, length, IfOk, OnOk, IsSome};
+ghost use Rattle.std.specs.Prelude.{◌≡◌, ◌++◌, ◌≤◌, ◌^◌, length, IfOk, OnOk, OnErr, IsSome};
 ghost use Rattle.og_answer.specs.Faults.{place_of_input};
 ghost use Rattle.og_answer.specs.Line.{opening_text, place_text, line_text, stray_text, refused_line};
 
@@ -13,14 +13,16 @@ use std::alloc::{AllocError, Global};
 ///
 /// # Errors
 ///
-/// An allocation was refused; a part of it may stand in the text then.
+/// An allocation was refused; the text is as it was.
 pub fn put_opening(text: &mut Vec<u8>, number: u8, name: &str) -> Result<(), AllocError>
-    ensures { OnOk result (text.new.items ≡ text.old.items ++ opening_text number name.now) }
+    ensures ok { OnOk result (text.new.items ≡ text.old.items ++ opening_text number name.now) }
+    ensures err { OnErr result (text.new.items ≡ text.old.items) }
 {
-    text.extend_from_slice(b"refused: ")?;
-    put_number(text, number as u128)?;
-    text.extend_from_slice(b" ")?;
-    text.extend_from_slice(name.as_bytes())
+    let mut opening = Vec::from_slice(*text.allocator(), b"refused: ")?;
+    put_number(&mut opening, number as u128)?;
+    opening.extend_from_slice(b" ")?;
+    opening.extend_from_slice(name.as_bytes())?;
+    text.extend_from_slice(&opening)
 }
 
 // The place of a refusal in the source, where it has one.
