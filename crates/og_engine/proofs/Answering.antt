@@ -1,5 +1,5 @@
 -- From the parts of an answer to the whole.
-use Rattle.std.proofs.Common.{◌≡◌, ◌⊎◌, inl, inr, sym, subst, ℕ, ◌<◌, Bool, List, length, Result, Ok, Err, Option, IfOk, IfSome}
+use Rattle.std.proofs.Common.{◌≡◌, ◌⊎◌, inl, inr, sym, subst, ℕ, ◌<◌, Bool, List, length, Result, Ok, Err, Option, IfOk, IfSome, arith}
 use Rattle.std.specs.Io.KnownBytes.{Appends}
 use Rattle.og_input.specs.Joined.{IsSplit}
 use Rattle.og_typed.specs.Syntax.{Program}
@@ -12,7 +12,13 @@ use Rattle.og_answer.specs.declared.answer.Answer.{Answer}
 use Rattle.og_answer.specs.declared.fault.InputFault.{InputFault}
 use Rattle.og_answer.specs.declared.fault.InputFault.TheVariants as faults
 use Rattle.og_judge.specs.declared.entry.Entry.{Entry}
+use Rattle.og_judge.specs.Answered.{IsAnswered}
+use Rattle.og_judge.specs.NotJudged.{IsNotJudged}
 use Rattle.og_judge.specs.Report.{IsReport, IsRefused}
+use Rattle.og_judge.specs.declared.refusal.Refusal.{Refusal}
+use Rattle.og_judge.specs.declared.refusal.Refusal.TheVariants as refusal
+use Rattle.og_judge.proofs.Answering.{refusal_status}
+use Rattle.og_pool.specs.declared.fault.PoolFault.{PoolFault}
 use Rattle.og_engine.specs.Answers.{report_in, status_of, IsOutput, IsChecked, Writes, WritesJoined}
 use Rattle.og_engine.specs.Commands.{HasTooMany}
 use Rattle.og_engine.specs.Inputs.{source_of, certs_of, joined_of}
@@ -25,6 +31,20 @@ judged json source certs o entries a h told = inl (record { outline = o; entries
 pub turned_down : (json : Bool) (source certs : List ℕ) (why : InputFault) (a : Answer) → IsRefused source certs why
     → IsTold source why a → IsChecked json source certs a
 turned_down json source certs why a h told = inr (record { why = why; refused = h; printed = told.0; told = told.1 })
+
+-- what is answered to a refusal
+pub refused : (json : Bool) (source certs : List ℕ) (why : Refusal) (r : Result Answer PoolFault) → IsNotJudged source certs why → IsAnswered source why r → IfOk r (IsChecked json source certs)
+refused json source certs (refusal.Input fault) (Ok a) h told = turned_down json source certs fault a h told
+refused json source certs (refusal.Input fault) (Err e) h told = tt
+refused json source certs refusal.Spawn (Ok a) h told = absurd told
+refused json source certs refusal.Spawn (Err e) h told = tt
+refused json source certs refusal.Memory (Ok a) h told = absurd told
+refused json source certs refusal.Memory (Err e) h told = tt
+
+-- such an answer has not the status 0
+pub refused_is_not_0 : (P : Answer → Type 0) (source : List ℕ) (why : Refusal) (r : Result Answer PoolFault) → IsAnswered source why r → IfOk r (λ a. a.status ≡ 0 → P a)
+refused_is_not_0 P source why (Ok a) told = λ zero. let two : a.status ≡ 2 = refusal_status source why (Ok a) told in absurd (omega arith)
+refused_is_not_0 P source why (Err e) told = tt
 
 -- an answer such as P says of it, or the line that says that there are too many conditions
 pub too_many : {E : Type 0} (P : Answer → Type 0) (source bytes : List ℕ) (o p : Program) (fault : TooMany) (r : Result Answer E) → bytes ≡ source → p ≡ o

@@ -1,18 +1,19 @@
 //! The answer of a check.
 
-ghost use Rattle.std.specs.Prelude.{◌≡◌, ◌≤◌, ◌^◌, length, true, IfOk};
+ghost use Rattle.std.specs.Prelude.{◌≡◌, ◌<◌, ◌≤◌, ◌^◌, length, true, IfOk, IfErr};
 ghost use Rattle.og_judge.specs.Entries.{is_unblocked};
 ghost use Rattle.og_judge.specs.Proven.{IsProvenSource};
 ghost use Rattle.og_judge.specs.NeverStuck.{IsNeverStuckSource};
 ghost use Rattle.og_judge.specs.Shown.{outline_of, entries_of};
 ghost use Rattle.og_report.specs.Yes.{SaysUnblocked};
 ghost use Rattle.og_answer.specs.Told.{Says};
+ghost use Rattle.og_pool.specs.declared.fault.PoolFault.TheVariants.{Spawn};
 ghost use Rattle.og_engine.specs.Promised.{Promises};
 ghost use Rattle.og_engine.specs.Answers.{report_in, status_of, IsChecked};
 
 use crate::engines::Options;
 use og_answer::Answer;
-use og_judge::{Judgement, Refusal, judge};
+use og_judge::{Judgement, judge};
 use og_pool::{Gate, PoolFault};
 use og_report::{json, text};
 use std::alloc::{AllocError, Global};
@@ -79,7 +80,8 @@ fn of_judged(
 ///
 /// # Errors
 ///
-/// `Spawn` where a thread could not be started, `Memory` where an allocation was refused.
+/// `Spawn`, of two workers or more, where a thread could not be started. `Memory` where an allocation
+/// was refused.
 pub fn checked<G: Gate, H: Threads + Wait + Sync>(
     rt: &H,
     alloc: Global,
@@ -91,12 +93,11 @@ pub fn checked<G: Gate, H: Threads + Wait + Sync>(
     ensures answer { IfOk result (IsChecked options.json source.now certs.now) }
     ensures sound { IfOk result (λ answer. answer.status ≡ 0 → IsProvenSource source.now) }
     ensures unblocked { IfOk result (λ answer. answer.status ≡ 0 → SaysUnblocked options.json answer.text.items → IsNeverStuckSource source.now) }
+    ensures spawn { IfErr result (λ e. e ≡ Spawn → 1 < options.workers) }
 {
     let workers = options.workers.count();
     match judge(rt, alloc, source, certs, workers, gate) {
         Ok(judgement) => Ok(of_judged(alloc, judgement, source, options.json)?),
-        Err(Refusal::Input(fault)) => Ok(Answer::refused(alloc, &fault, source)?),
-        Err(Refusal::Spawn) => Err(PoolFault::Spawn),
-        Err(Refusal::Memory) => Err(PoolFault::Memory),
+        Err(refusal) => refusal.answer(alloc, source),
     }
 }

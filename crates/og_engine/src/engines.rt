@@ -1,6 +1,6 @@
 //! The engines: they read, judge and write.
 
-ghost use Rattle.std.specs.Prelude.{◌≡◌, ◌≢◌, IfOk, IfErr, IfSome, Some};
+ghost use Rattle.std.specs.Prelude.{◌≡◌, ◌≢◌, ◌<◌, IfOk, IfErr, IfSome, Some};
 ghost use Rattle.std.specs.Io.KnownBytes.{Consumes, Keeps};
 ghost use Rattle.og_engine.specs.Inputs.{source_of, certs_of, joined_of};
 ghost use Rattle.og_engine.specs.Answers.{Writes, WritesJoined};
@@ -40,8 +40,9 @@ pub struct Options {
 ///
 /// # Errors
 ///
-/// `ReadFailed` where a reader failed or had not ended after so many reads, `Spawn` where a thread
-/// could not be started, `Memory` where an allocation was refused: nothing is written then.
+/// `ReadFailed` where a reader failed or had not ended after so many reads, `Spawn`, of two workers
+/// or more, where a thread could not be started, `Memory` where an allocation was refused: nothing
+/// is written then.
 /// `WriteFailed` where the writer failed: then a front of what was to be written may stand there.
 pub fn engine<R: Read, S: Read, W: Write, G: Gate, H: Threads + Wait + Sync>(
     rt: &H,
@@ -59,6 +60,7 @@ pub fn engine<R: Read, S: Read, W: Write, G: Gate, H: Threads + Wait + Sync>(
         → Wrote (SaysUnblocked options.json) (W.contents out.old) (W.contents out.new) → IsNeverStuckSource (source_of s))) }
     ensures source { IfOk result (λ _. IfSome (R.remaining source.old) (λ s. Consumes (Some s) (R.remaining source.new) (source_of s))) }
     ensures certs { IfOk result (λ _. IfSome (S.remaining certs.old) (λ c. Consumes (Some c) (S.remaining certs.new) (certs_of c))) }
+    ensures spawn { IfErr result (λ e. e ≡ EngineFault.Spawn → 1 < options.workers) }
     ensures unwritten { IfErr result (λ e. e ≢ EngineFault.WriteFailed → Keeps (W.contents out.old) (W.contents out.new)) }
     ensures unfinished { IfErr result (λ e. e ≡ EngineFault.WriteFailed → IfSome (R.remaining source.old) (λ s. IfSome (S.remaining certs.old) (λ c.
         WritesFront options.json (source_of s) (certs_of c) (W.contents out.old) (W.contents out.new)))) }
@@ -91,6 +93,7 @@ pub fn engine_joined<R: Read, W: Write, G: Gate, H: Threads + Wait + Sync>(
     ensures unblocked { IfOk result (λ status. IfSome (R.remaining input.old) (λ i. status ≡ 0
         → Wrote (SaysUnblocked options.json) (W.contents out.old) (W.contents out.new) → HasNeverStuckSource (joined_of i))) }
     ensures input { IfOk result (λ _. IfSome (R.remaining input.old) (λ i. Consumes (Some i) (R.remaining input.new) (joined_of i))) }
+    ensures spawn { IfErr result (λ e. e ≡ EngineFault.Spawn → 1 < options.workers) }
     ensures unwritten { IfErr result (λ e. e ≢ EngineFault.WriteFailed → Keeps (W.contents out.old) (W.contents out.new)) }
     ensures unfinished { IfErr result (λ e. e ≡ EngineFault.WriteFailed → IfSome (R.remaining input.old) (λ i.
         WritesJoinedFront options.json (joined_of i) (W.contents out.old) (W.contents out.new))) }

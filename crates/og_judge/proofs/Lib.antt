@@ -1,3 +1,4 @@
 pub mod Listing
 pub mod Migrating
 pub mod Refusing
+pub mod Answering

@@ -7,6 +7,7 @@ ghost use Rattle.og_judge.specs.NotJudged.{AreNotFound, IsNotJudged};
 ghost use Rattle.og_judge.specs.Report.{IsReport};
 ghost use Rattle.og_judge.specs.Parts.{AreListed, told_from};
 ghost use Rattle.og_judge.specs.Shown.{looked_at, found_of, outline_of, entries_of};
+ghost use Rattle.og_judge.specs.declared.refusal.Refusal.TheVariants.{Spawn};
 
 use crate::entry::Entry;
 use crate::findings::Findings;
@@ -72,6 +73,7 @@ fn judge_conditions<G: Gate, R: Threads + Wait + Sync>(
 ) -> Result<Vec<Entry>, Refusal>
     ensures entries { IfOk result (λ v. AreEntries certs.now outline.now v.items) }
     ensures refused { IfErr result (AreNotFound certs.now outline.now) }
+    ensures spawn { IfErr result (λ e. e ≡ Spawn → 1 < workers) }
 {
     let conditions = conditions(alloc, outline)?;
     let file = read_certs(alloc, certs)?;
@@ -121,8 +123,8 @@ fn concluded(outline: &Outline, entries: Vec<Entry>) -> Findings
 ///
 /// `Input` with the first that applies: `Conditions` where there are more than 4,000,000 conditions;
 /// `Certs`, why the text of the certificates is not read; `Stray` with the least number that has a
-/// certificate and no condition. `Spawn` where a thread could not be started, and `Memory` where an
-/// allocation was refused, may stand in place of any answer.
+/// certificate and no condition. `Spawn`, of two workers or more, where a thread could not be
+/// started, and `Memory` where an allocation was refused, may stand in place of any answer.
 pub fn judge_outline<G: Gate, R: Threads + Wait + Sync>(
     rt: &R,
     alloc: Global,
@@ -134,6 +136,7 @@ pub fn judge_outline<G: Gate, R: Threads + Wait + Sync>(
     ensures outline { IfOk result (λ f. looked_at f ≡ outline.now) }
     ensures entries { IfOk result (λ f. AreEntries certs.now outline.now (found_of f)) }
     ensures refused { IfErr result (AreNotFound certs.now outline.now) }
+    ensures spawn { IfErr result (λ e. e ≡ Spawn → 1 < workers) }
 {
     let entries = judge_conditions(rt, alloc, outline, certs, workers, gate)?;
     Ok(concluded(outline, entries))
@@ -145,8 +148,8 @@ pub fn judge_outline<G: Gate, R: Threads + Wait + Sync>(
 /// # Errors
 ///
 /// `Input` with the first that applies: `Source`, why the source has no outline; else as
-/// `judge_outline`. `Spawn` where a thread could not be started, and `Memory` where an allocation
-/// was refused, may stand in place of any answer.
+/// `judge_outline`. `Spawn`, of two workers or more, where a thread could not be started, and
+/// `Memory` where an allocation was refused, may stand in place of any answer.
 pub fn judge<G: Gate, R: Threads + Wait + Sync>(
     rt: &R,
     alloc: Global,
@@ -158,6 +161,7 @@ pub fn judge<G: Gate, R: Threads + Wait + Sync>(
     requires { (0 < workers) × (workers ≤ 64) }
     ensures report { IfOk result (λ j. IsReport source.now certs.now (outline_of j) (entries_of j)) }
     ensures refused { IfErr result (IsNotJudged source.now certs.now) }
+    ensures spawn { IfErr result (λ e. e ≡ Spawn → 1 < workers) }
 {
     let Some(workers) = Workers::new(workers) else {
         unreachable!()

@@ -1,16 +1,17 @@
 //! Why there is no judgement.
 
-ghost use Rattle.std.specs.Prelude.{◌≡◌};
+ghost use Rattle.std.specs.Prelude.{◌≡◌, ◌≤◌, ◌^◌, length, IsSome};
+ghost use Rattle.og_judge.specs.Answered.{place_of_refusal, IsAnswered};
 ghost use Rattle.og_judge.specs.Names.{number_of_refusal, name_of_refusal};
 ghost use Rattle.og_judge.specs.Errors.{of_source, of_conditions, of_certs, of_pool};
 ghost use Rattle.og_judge.specs.declared.refusal.Refusal.TheVariants.{Memory};
 
-use og_answer::InputFault;
+use og_answer::{Answer, InputFault};
 use og_cert_text::CertTextError;
 use og_cond::ConditionsError;
 use og_pool::PoolFault;
 use og_source::SourceError;
-use std::alloc::{AllocError, AllocFailed};
+use std::alloc::{AllocError, AllocFailed, Global};
 use thiserror::Error;
 
 /// Why an outline and its certificates are not judged. `Spawn` and `Memory` say nothing of the
@@ -48,6 +49,23 @@ impl Refusal {
             Refusal::Input(fault) => fault.name(),
             Refusal::Spawn => "Spawn",
             Refusal::Memory => "Memory",
+        }
+    }
+
+    /// What a command answers to it: the line of a fault, with status 2. A source in which the fault
+    /// has a place has at most 1,048,576 bytes.
+    ///
+    /// # Errors
+    ///
+    /// `Spawn` and `Memory` stay what they are. `Memory` too where an allocation was refused.
+    pub fn answer(&self, alloc: Global, source: &[u8]) -> Result<Answer, PoolFault>
+        requires { IsSome (place_of_refusal self.now) → length source.now ≤ 2 ^ 20 }
+        ensures { IsAnswered source.now self.now result }
+    {
+        match self {
+            Refusal::Input(fault) => Ok(Answer::refused(alloc, fault, source)?),
+            Refusal::Spawn => Err(PoolFault::Spawn),
+            Refusal::Memory => Err(PoolFault::Memory),
         }
     }
 }

@@ -1,3 +1,4 @@
 pub mod Steps
 pub mod Telling
 pub mod Statuses
+pub mod Serving

@@ -1,13 +1,14 @@
 //! The statuses of conditions, found by workers.
 
-ghost use Rattle.std.specs.Prelude.{◌≡◌, [], ◌^◌, ◌<◌, ◌≤◌, ◌-◌, ◌+◌, ℕ, length, IfOk, IsTrue, Some, slice_get, vec_len};
+ghost use Rattle.std.specs.Prelude.{◌≡◌, [], ◌^◌, ◌<◌, ◌≤◌, ◌-◌, ◌+◌, ◌↔◌, ℕ, length, IfOk, IfErr, IsTrue, Some, slice_get, vec_len};
 ghost use Rattle.og_cond.specs.Seen.{seen};
 ghost use Rattle.og_facts.specs.Answer.{IsFacts, IsPrepared};
 ghost use Rattle.og_cert_text.specs.Plain.{plain_cert};
 ghost use Rattle.og_cert.specs.Faults.{first_fault};
-ghost use Rattle.og_pool.specs.Last.{IsLast, Keeps};
+ghost use Rattle.og_pool.specs.Last.{IsLast, IsOfEqual, Keeps};
 ghost use Rattle.og_pool.specs.Status.{by_fault};
 ghost use Rattle.og_pool.specs.Numbered.{status_of};
+ghost use Rattle.og_pool.specs.declared.fault.PoolFault.TheVariants.{Spawn};
 
 use crate::draws::{Drawer, Draws};
 use crate::fault::PoolFault;
@@ -21,7 +22,6 @@ use og_cond::Condition;
 use og_facts::{FactList, FactsError, facts, facts_with, has_few_facts};
 use og_linear::FormError;
 use og_subst::{Action, ActionMap};
-use og_threads::ThreadFault;
 use std::alloc::{AllocError, Global};
 use std::sync::Wait;
 use std::thread::Threads;
@@ -70,7 +70,8 @@ impl<'a, 'c> Checks<'a, 'c> {
     // Whether the map that is kept is that of an action equal to this one.
     fn serves(&self, last: &Last, action: &Action) -> bool
         requires { IsLast self.now.conditions.now last.now }
-        ensures { IsTrue result → IsPrepared (Some action.now) last.now.map }
+        ensures exact { IsTrue result ↔ IsOfEqual self.now.conditions.now last.now.index action.now }
+        ensures map { IsTrue result → IsPrepared (Some action.now) last.now.map }
     {
         match &self.conditions[last.index].action {
             Some(before) => before.equals(action),
@@ -145,7 +146,7 @@ impl<'a, 'c> Numbered for Checks<'a, 'c> {
         draws: &Draws,
         mut drawer: Drawer,
         gate: &G,
-    ) -> Result<(Drawer, Vec<Told>), ThreadFault> {
+    ) -> Result<(Drawer, Vec<Told>), AllocError> {
         let mut told = Vec::new(alloc);
         let mut last = None;
         while let Some(number) = draws.draw(&mut drawer) {
@@ -167,8 +168,8 @@ impl<'a, 'c> Numbered for Checks<'a, 'c> {
 ///
 /// # Errors
 ///
-/// `Spawn` where a thread could not be started; those that were started have ended by then.
-/// `Memory` where an allocation was refused.
+/// `Spawn`, of two workers or more, where a thread could not be started; those that were started
+/// have ended by then. `Memory` where an allocation was refused.
 pub fn check_all<G: Gate, R: Threads + Wait + Sync>(
     rt: &R,
     alloc: Global,
@@ -179,8 +180,9 @@ pub fn check_all<G: Gate, R: Threads + Wait + Sync>(
 ) -> Result<Vec<Status>, PoolFault>
     requires workers { (0 < workers) × (workers ≤ 64) }
     requires few { length conditions.now < 2 ^ 32 }
-    ensures { IfOk result (λ v. (vec_len v ≡ length conditions.now)
+    ensures statuses { IfOk result (λ v. (vec_len v ≡ length conditions.now)
         × ((i : ℕ) → i < length conditions.now → slice_get v.items i ≡ Some (status_of conditions.now certs.now (i + 1)))) }
+    ensures spawn { IfErr result (λ e. e ≡ Spawn → 1 < workers) }
 {
     let count = conditions.len() as u32;
     let checks = Checks { conditions, certs };

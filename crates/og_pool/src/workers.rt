@@ -1,9 +1,10 @@
 //! Workers that draw conditions, each in a thread.
 
-ghost use Rattle.std.specs.Prelude.{◌≡◌, ℕ, ◌<◌, [], IfOk, vec_len};
+ghost use Rattle.std.specs.Prelude.{◌≡◌, ℕ, ◌<◌, [], IfOk, IfErr, vec_len};
 ghost use Rattle.std.specs.List.{All};
 ghost use Rattle.og_pool.specs.Drawing.{IsOne};
 ghost use Rattle.og_pool.specs.Telling.{PartDone};
+ghost use Rattle.og_pool.specs.declared.fault.PoolFault.TheVariants.{Spawn};
 
 use crate::draws::{Drawer, Draws};
 use crate::fault::PoolFault;
@@ -32,7 +33,7 @@ pub(crate) trait Numbered: Sync {
         draws: &Draws,
         drawer: Drawer,
         gate: &G,
-    ) -> Result<(Drawer, Vec<Told>), ThreadFault>
+    ) -> Result<(Drawer, Vec<Told>), AllocError>
         requires own { drawer.source ≡ draws.now }
         requires fresh { drawer.drawn ≡ [] }
         requires each { draws.now.count ≡ count self.now }
@@ -52,6 +53,7 @@ impl<'a, C: Numbered, G: Gate> Job for Workers<'a, C, G> {
     ghost use Rattle.std.specs.Prelude.{◌≡◌};
     ghost use Rattle.og_pool.specs.Drawing.{IsOne};
     ghost use Rattle.og_pool.specs.Telling.{PartDone};
+    ghost use Rattle.og_threads.specs.declared.fault.ThreadFault.TheVariants.{Memory};
 
     type Part = Drawer;
 
@@ -61,8 +63,10 @@ impl<'a, C: Numbered, G: Gate> Job for Workers<'a, C, G> {
 
     ghost owes = { λ w _ r. PartDone w.draws.now 1 (C.status w.checks.now) r.0 r.1.items };
 
+    ghost fails = { λ e. e ≡ Memory };
+
     fn work<R: Wait>(&self, _rt: &R, drawer: Drawer) -> Result<(Drawer, Vec<Told>), ThreadFault> {
-        self.checks.work(self.alloc, self.draws, drawer, self.gate)
+        Ok(self.checks.work(self.alloc, self.draws, drawer, self.gate)?)
     }
 
     fn give_up<R: Wait>(&self, _rt: &R) {}
@@ -97,7 +101,8 @@ impl<'a, C: Numbered, G: Gate> Workers<'a, C, G> {
         requires some { 0 < vec_len drawers }
         requires each { All (IsOne self.now.draws.now) drawers.items }
         requires count { self.now.draws.now.count ≡ C.count self.now.checks.now }
-        ensures { IfOk result (λ r. PartDone self.now.draws.now (vec_len drawers) (C.status self.now.checks.now) r.0 r.1.items) }
+        ensures done { IfOk result (λ r. PartDone self.now.draws.now (vec_len drawers) (C.status self.now.checks.now) r.0 r.1.items) }
+        ensures spawn { IfErr result (λ e. e ≡ Spawn → 1 < vec_len drawers) }
     {
         let gains = in_threads(rt, self.alloc, self, drawers)?;
         Ok(self.together(gains)?)

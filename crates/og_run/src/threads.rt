@@ -77,8 +77,9 @@ struct Run<'a, K: ArenaName, B: Machine, G> {
 }
 
 impl<'a, K: ArenaName + Send + Sync, B: Machine + Send, G: Gate> Job for Run<'a, K, B, G> {
-    ghost use Rattle.std.specs.Prelude.{⊤};
+    ghost use Rattle.std.specs.Prelude.{◌≡◌, ⊤};
     ghost use Rattle.og_run.specs.Cards.{CameBack};
+    ghost use Rattle.og_threads.specs.declared.fault.ThreadFault.TheVariants.{Spawn};
 
     type Part = Seat<K>;
 
@@ -87,6 +88,8 @@ impl<'a, K: ArenaName + Send + Sync, B: Machine + Send, G: Gate> Job for Run<'a,
     ghost can = { λ _ _. ⊤ };
 
     ghost owes = { λ _. CameBack };
+
+    ghost fails = { λ e. e ≡ Spawn };
 
     // Runs one process to its end.
     fn work<R: Wait>(&self, rt: &R, mut seat: Seat<K>) -> Result<Seat<K>, ThreadFault> {

@@ -1,9 +1,13 @@
 -- From the parts of an answer to the whole.
-use Rattle.std.proofs.Common.{◌≡◌, ◌∙◌, ◌⊎◌, inl, inr, sym, ap, subst, ℕ, ℤ, Bool, true, false, List, Result, Ok, Err, IfOk, IfErr, refl, codes}
+use Rattle.std.proofs.Common.{◌≡◌, ◌⊎◌, inl, inr, subst, ℕ, ℤ, Bool, true, false, List, Result, Ok, Err, IfOk, IfErr, refl, codes}
 use Rattle.std.specs.Prelude.{⊤}
 use Rattle.og_typed.specs.Syntax.{Program}
 use Rattle.og_judge.specs.declared.entry.Entry.{Entry}
-use Rattle.og_judge.specs.Entries.{AreEntries, AreRefused, is_safe, is_unblocked}
+use Rattle.og_judge.specs.Answered.{IsAnswered}
+use Rattle.og_judge.specs.Entries.{AreEntries, is_safe, is_unblocked}
+use Rattle.og_judge.specs.NotJudged.{AreNotFound}
+use Rattle.og_judge.specs.declared.refusal.Refusal.{Refusal}
+use Rattle.og_judge.specs.declared.refusal.Refusal.TheVariants as refusal
 use Rattle.og_step.specs.declared.fault.StartFault.TheVariants as starts
 use Rattle.og_board.specs.Runs.{Given}
 use Rattle.og_board.specs.declared.outcome.Outcome.{Outcome}
@@ -14,9 +18,8 @@ use Rattle.og_run.specs.declared.fault.RunError.{RunError}
 use Rattle.og_run.specs.declared.fault.RunError.TheVariants as errors
 use Rattle.og_pool.specs.declared.fault.PoolFault.{PoolFault}
 use Rattle.og_source.specs.Source.{IsSource}
-use Rattle.og_answer.specs.Told.{Says, IsTold}
+use Rattle.og_answer.specs.Told.{Says}
 use Rattle.og_answer.specs.declared.answer.Answer.{Answer}
-use Rattle.og_answer.specs.declared.fault.InputFault.{InputFault}
 use Rattle.og_running.specs.Words.{Give}
 use Rattle.og_running.specs.Texts.{outcome_text, finish_status}
 use Rattle.og_running.specs.Running.{given, IsFaultTold, StartsNot, EndsAs, Tells, TellsProved, TellsJudged, IsRefusedOrJudged, Goes}
@@ -70,9 +73,14 @@ judged_told source certs o values limit entries (Err e) found told = tt
 judged_told source certs o values limit entries (Ok a) found told = inr (entries, found, told)
 
 -- a refusal
-pub refused_told : (source certs : List ℕ) (o : Program) (values : List ℤ) (limit : ℕ) (why : InputFault) (a : Answer)
-    → AreRefused certs o why → IsTold source why a → IsRefusedOrJudged source certs o values limit a
-refused_told source certs o values limit why a refused told = inl (why, refused, told)
+pub refused_told : (source certs : List ℕ) (o : Program) (values : List ℤ) (limit : ℕ) (why : Refusal) (r : Result Answer PoolFault)
+    → AreNotFound certs o why → IsAnswered source why r → IfOk r (IsRefusedOrJudged source certs o values limit)
+refused_told source certs o values limit (refusal.Input fault) (Ok a) refused told = inl (fault, refused, told)
+refused_told source certs o values limit (refusal.Input fault) (Err e) refused told = tt
+refused_told source certs o values limit refusal.Spawn (Ok a) refused told = absurd told
+refused_told source certs o values limit refusal.Spawn (Err e) refused told = tt
+refused_told source certs o values limit refusal.Memory (Ok a) refused told = absurd told
+refused_told source certs o values limit refusal.Memory (Err e) refused told = tt
 
 -- the outline, the values and the answer
 pub goes : (P : Program → List ℤ → Answer → Type 0) (source : List ℕ) (words : List (List ℕ)) (o : Program) (values : List ℤ) (a : Answer) → IsSource source o → Give o words values

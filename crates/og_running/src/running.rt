@@ -1,8 +1,11 @@
 //! The answers of `run`.
 
-ghost use Rattle.std.specs.Prelude.{◌≡◌, map, if◌then◌else◌, IfOk, IfErr};
+ghost use Rattle.std.specs.Prelude.{◌≡◌, ◌↔◌, map, if◌then◌else◌, Err, IfOk, IfErr};
 ghost use Rattle.og_typed.specs.Erase.{erased as erased_of};
 ghost use Rattle.og_answer.specs.Told.{Says};
+ghost use Rattle.og_pool.specs.declared.fault.PoolFault.TheVariants.{Spawn};
+ghost use Rattle.og_run.specs.declared.fault.RunFault.TheVariants as faults;
+ghost use Rattle.og_run.specs.declared.fault.RunError.TheVariants as errors;
 ghost use Rattle.og_judge.specs.Shown.{looked_at, found_of};
 ghost use Rattle.og_running.specs.Texts.{outcome_text, finish_status};
 ghost use Rattle.og_running.specs.Running.{given, fault_line, IsFaultTold, Tells, TellsProved, TellsJudged, IsRefusedOrJudged, IsRan, IsRanProved};
@@ -12,7 +15,7 @@ use crate::reply::Reply;
 use crate::words::{WordsError, values};
 use og_answer::{Answer, put_opening};
 use og_erase::erase;
-use og_judge::{Findings, Proved, Refusal, judge_outline};
+use og_judge::{Findings, Proved, judge_outline};
 use og_limits::{RunLimit, Workers};
 use og_linear::State;
 use og_pool::PoolFault;
@@ -41,6 +44,7 @@ fn of_run(
 ) -> Result<Answer, PoolFault>
     ensures outcome { IfOk ended (λ r. IfOk result (Says (outcome_text outline.now r) (finish_status r.finish))) }
     ensures refused { IfErr ended (λ e. IfOk result (IsFaultTold e)) }
+    ensures spawn { (result ≡ Err Spawn) ↔ (ended ≡ Err (errors.Fault faults.Spawn)) }
 {
     match ended {
         Ok(outcome) => Ok(Answer {
@@ -134,11 +138,7 @@ impl<'r, G: Gate, H: Threads + Wait + Sync> Runner<'r, G, H> {
         let outline = source.outline();
         match judge_outline(self.rt, self.alloc, outline, certs, Workers::ONE, &OpenGate) {
             Ok(findings) => self.run_judged(outline, &findings, values),
-            Err(Refusal::Input(fault)) => {
-                Ok(Answer::refused(self.alloc, &fault, source.bytes())?)
-            }
-            Err(Refusal::Spawn) => Err(PoolFault::Spawn),
-            Err(Refusal::Memory) => Err(PoolFault::Memory),
+            Err(refusal) => refusal.answer(self.alloc, source.bytes()),
         }
     }
 

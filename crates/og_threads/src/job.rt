@@ -5,7 +5,8 @@ use std::sync::Wait;
 
 /// Work that several threads share: each does a part of it, and has a gain.
 pub trait Job: Sync {
-    ghost use Rattle.std.specs.Prelude.{IfOk};
+    ghost use Rattle.std.specs.Prelude.{IfOk, IfErr};
+    ghost use Rattle.og_threads.specs.declared.fault.ThreadFault.{ThreadFault};
 
     type Part: Send + Drop;
 
@@ -17,10 +18,14 @@ pub trait Job: Sync {
     /// What is owed of the gain of a part.
     ghost owes: { Self → Self.Part → Self.Gain → Type 0 };
 
+    /// The faults with which a part may end.
+    ghost fails: { ThreadFault → Type 0 };
+
     /// Does a part.
     fn work<R: Wait>(&self, rt: &R, part: Self::Part) -> Result<Self::Gain, ThreadFault>
         requires { can self.now part }
-        ensures { IfOk result (owes self.now part) };
+        ensures gain { IfOk result (owes self.now part) }
+        ensures fault { IfErr result fails };
 
     /// A thread could not be started: what waits for it is to end.
     fn give_up<R: Wait>(&self, rt: &R);

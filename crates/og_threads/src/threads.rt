@@ -1,7 +1,8 @@
 //! One thread for each part, started one after another by the thread that calls.
 
-ghost use Rattle.std.specs.Prelude.{◌≡◌, ◌+◌, ◌≤◌, [], ◌∷◌, ◌++◌, Ok, IfOk, OnOk, vec_len, vec_capacity};
+ghost use Rattle.std.specs.Prelude.{◌≡◌, ◌+◌, ◌<◌, ◌≤◌, ◌⊎◌, [], ◌∷◌, ◌++◌, Ok, Err, IfOk, IfErr, OnOk, vec_len, vec_capacity};
 ghost use Rattle.std.specs.List.{All, AllZip};
+ghost use Rattle.og_threads.specs.declared.fault.ThreadFault.TheVariants.{Memory, Spawn};
 
 use crate::fault::ThreadFault;
 use crate::job::Job;
@@ -19,9 +20,9 @@ struct Owed<J: Job> {
 }
 
 impl<J: Job> Promise<Result<J::Gain, ThreadFault>> for Owed<J> {
-    ghost use Rattle.std.specs.Prelude.{IfOk};
+    ghost use Rattle.std.specs.Prelude.{IfOk, IfErr};
 
-    ghost kept_by = { λ p r. IfOk r (J.owes p.job.value p.part.value) };
+    ghost kept_by = { λ p r. IfOk r (J.owes p.job.value p.part.value) × IfErr r J.fails };
 }
 
 // Starts a thread for each part, one after another.
@@ -35,7 +36,8 @@ fn start_all<'s, E, J: Job, R: Threads + Wait + Sync>(
     requires can { All (J.can job.now) parts.items }
     requires empty { handles.old.items ≡ [] }
     requires room { vec_len parts ≤ vec_capacity handles.old }
-    ensures { OnOk result (AllZip (λ p h. (h.promise.job.value ≡ job.now) × (h.promise.part.value ≡ p)) parts.items handles.new.items) }
+    ensures started { OnOk result (AllZip (λ p h. (h.promise.job.value ≡ job.now) × (h.promise.part.value ≡ p)) parts.items handles.new.items) }
+    ensures refused { IfErr result (λ e. (e ≡ Spawn) × (0 < vec_len parts)) }
 {
     for part in parts {
         let owed = Owed {
@@ -46,7 +48,7 @@ fn start_all<'s, E, J: Job, R: Threads + Wait + Sync>(
             owed,
             move || -> Result<J::Gain, ThreadFault>
                 requires { J.can job.now part }
-                ensures { IfOk result (J.owes job.entry.now part) }
+                ensures { IfOk result (J.owes job.entry.now part) × IfErr result J.fails }
             { job.work(rt, part) },
         );
         let Ok(handle) = started else {
@@ -61,7 +63,8 @@ fn start_all<'s, E, J: Job, R: Threads + Wait + Sync>(
 
 // Adds the gain of one part more.
 fn add<G: Drop>(gains: &mut Vec<G>, gain: Result<G, ThreadFault>) -> Result<(), ThreadFault>
-    ensures { OnOk result ((x : G) × (gain ≡ Ok x) × (gains.new.items ≡ gains.old.items ++ x ∷ [])) }
+    ensures gain { OnOk result ((x : G) × (gain ≡ Ok x) × (gains.new.items ≡ gains.old.items ++ x ∷ [])) }
+    ensures fault { IfErr result (λ e. (e ≡ Memory) ⊎ (gain ≡ Err e)) }
 {
     gains.push(gain?)?;
     Ok(())
@@ -74,7 +77,8 @@ fn join_all<J: Job, R: Threads>(
     gains: &mut Vec<J::Gain>,
 ) -> Result<(), ThreadFault>
     requires { gains.old.items ≡ [] }
-    ensures { OnOk result (AllZip (λ h g. J.owes h.promise.job.value h.promise.part.value g) handles.items gains.new.items) }
+    ensures gains { OnOk result (AllZip (λ h g. J.owes h.promise.job.value h.promise.part.value g) handles.items gains.new.items) }
+    ensures fault { IfErr result (λ e. (e ≡ Memory) ⊎ J.fails e) }
 {
     let mut outcome = Ok(());
     for handle in handles {
@@ -92,8 +96,8 @@ fn join_all<J: Job, R: Threads>(
 /// # Errors
 ///
 /// `Spawn` where a thread could not be started: the job was told to give up, and the last part was
-/// not begun. Else the first fault of a part, in their order; or `Memory` where an allocation was
-/// refused: then no part was begun.
+/// not begun. So it comes of two parts or more. Else the first fault of a part, in their order; or
+/// `Memory` where an allocation was refused: then no part was begun.
 pub fn in_threads<J: Job, R: Threads + Wait + Sync>(
     rt: &R,
     alloc: Global,
@@ -101,7 +105,8 @@ pub fn in_threads<J: Job, R: Threads + Wait + Sync>(
     mut parts: Vec<J::Part>,
 ) -> Result<Vec<J::Gain>, ThreadFault>
     requires { All (J.can job.now) parts.items }
-    ensures { IfOk result (λ gains. AllZip (J.owes job.now) parts.items gains.items) }
+    ensures gains { IfOk result (λ gains. AllZip (J.owes job.now) parts.items gains.items) }
+    ensures fault { IfErr result (λ e. (e ≡ Memory) ⊎ ((e ≡ Spawn) × (1 < vec_len parts)) ⊎ J.fails e) }
 {
     let mut gains = Vec::with_capacity(alloc, parts.len())?;
     let mut handles = Vec::with_capacity(alloc, parts.len())?;
@@ -113,7 +118,8 @@ pub fn in_threads<J: Job, R: Threads + Wait + Sync>(
         rt,
         |scope| -> Result<Vec<J::Gain>, ThreadFault>
             requires { All (J.can job.now) parts.items × J.can job.now mine × (handles.items ≡ []) × (gains.items ≡ []) × (vec_len parts ≤ vec_capacity handles) }
-            ensures { IfOk result (λ gains. AllZip (J.owes job.entry.now) (parts.items ++ mine ∷ []) gains.items) }
+            ensures { IfOk result (λ gains. AllZip (J.owes job.entry.now) (parts.items ++ mine ∷ []) gains.items)
+                × IfErr result (λ e. (e ≡ Memory) ⊎ ((e ≡ Spawn) × (0 < vec_len parts)) ⊎ J.fails e) }
         {
             if let Err(fault) = start_all(scope, rt, job, parts, &mut handles) {
                 job.give_up(rt);

@@ -34,9 +34,9 @@ returns-clause-entries g c =
     let conds = c.in_ok-conditions.conditions.items in
     let ss = c.in_ok-statuses.statuses.items in
     let file = c.in_ok-file.file in
-    let counted : vec_len c.in_ok-statuses.statuses ≡ length c.deref-2.result.now = c.in_ok-statuses.ensures.0 in
+    let counted : vec_len c.in_ok-statuses.statuses ≡ length c.deref-2.result.now = c.in_ok-statuses.ensures.statuses.0 in
     let long : length ss ≡ length conds = search (rules, counted, c.deref-2.ensures.value) in
-    let each = subst (λ (cs : List Condition). (i : ℕ) → i < length cs → slice_get ss i ≡ Some (status_of cs file (i + 1))) c.deref-2.ensures.value c.in_ok-statuses.ensures.1 in
+    let each = subst (λ (cs : List Condition). (i : ℕ) → i < length cs → slice_get ss i ≡ Some (status_of cs file (i + 1))) c.deref-2.ensures.value c.in_ok-statuses.ensures.statuses.1 in
     let made = c.in_ok-listed.ensures ∙ ap₂ (λ a b. told_from (map seen a) b) c.deref-3.ensures.value c.deref-4.ensures.value in
     record {
       few = c.in_ok-conditions.ensures.1;

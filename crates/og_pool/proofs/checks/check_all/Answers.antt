@@ -4,7 +4,7 @@ use Rattle.og_pool.proofs.checks.check_all.Goals as goal
 
 pub in_order-requires-clause-all : goal.in_order-requires-clause-all
 in_order-requires-clause-all g c = λ n some less.
-    let done = c.in_ok-drawer.ensures.2 in
+    let done = c.in_ok-drawer.ensures.done.2 in
     let count = c.in_ok-draws.ensures.draws.0 in
     let below : n - 1 < c.in_ok-draws.draws.count = omega (arith, count) in
     let once = c.close.ensures done.0 (n - 1) below in

@@ -5,15 +5,15 @@ use Rattle.og_pool.proofs.workers.Workers.draw_all.Goals as goal
 
 pub together-requires-clause-some : goal.together-requires-clause-some
 together-requires-clause-some g c κs within =
-    let gains = each_gain _ c.args.drawers.items c.in_ok-gains.gains.items c.in_ok-gains.ensures in
+    let gains = each_gain _ c.args.drawers.items c.in_ok-gains.gains.items c.in_ok-gains.ensures.gains in
     let len = gains.0 in omega (arith, c.requires.some, c.args.drawers.ok.0, c.in_ok-gains.gains.ok.0)
 
 pub together-requires-clause-each : goal.together-requires-clause-each
-together-requires-clause-each g c κs within = (each_gain _ c.args.drawers.items c.in_ok-gains.gains.items c.in_ok-gains.ensures).1
+together-requires-clause-each g c κs within = (each_gain _ c.args.drawers.items c.in_ok-gains.gains.items c.in_ok-gains.ensures.gains).1
 
-pub returns : goal.returns
-returns g c =
-    let gains = each_gain _ c.args.drawers.items c.in_ok-gains.gains.items c.in_ok-gains.ensures in
+pub returns-clause-done : goal.returns-clause-done
+returns-clause-done g c =
+    let gains = each_gain _ c.args.drawers.items c.in_ok-gains.gains.items c.in_ok-gains.ensures.gains in
     let len = gains.0 in
     let same : vec_len c.in_ok-gains.gains ≡ vec_len c.args.drawers = omega (arith, c.args.drawers.ok.0, c.in_ok-gains.gains.ok.0) in
     let status = g.C.Numbered.status c.args.self.now.checks.now in
