@@ -1,77 +1,104 @@
 -- From the parts of an end to the whole.
-use Rattle.std.proofs.Common.{◌≡◌, ◌≢◌, inl, inr, ℕ, List, Option, Result, Ok, Err, IfOk, IfErr, Bor, subst, sym}
-use Rattle.std.specs.Io.KnownBytes.{Keeps}
+use Rattle.std.proofs.Common.{◌≡◌, ◌≢◌, refl, inl, inr, ℕ, Bool, false, List, Option, Result, Ok, Err, IfOk, IfErr, IfSome, Bor, subst, sym}
+use Rattle.std.specs.Io.KnownBytes.{Appends, Keeps}
+use Rattle.std.proofs.lemmas.Option.{IfSome_then}
 use Rattle.og_answer.specs.declared.answer.Answer.{Answer}
+use Rattle.og_engine.specs.Answers.{Writes, WritesJoined}
+use Rattle.og_engine.specs.Inputs.{source_of, certs_of, joined_of}
+use Rattle.og_engine.specs.Unfinished.{AppendsFront}
 use Rattle.og_engine.specs.declared.fault.EngineFault.{EngineFault}
 use Rattle.og_engine.specs.declared.fault.EngineFault.TheVariants as faults
 use Rattle.og_running.specs.declared.reply.Reply.{Reply}
 use Rattle.og_running.specs.declared.reply.Reply.TheVariants as replies
 use Rattle.og_words.specs.declared.job.Job.{Job}
+use Rattle.og_words.specs.declared.job.Job.TheVariants as jobs
 use Rattle.og_words.specs.declared.job.Usage.{Usage}
+use Rattle.og_program.specs.Named.{source_in}
 use Rattle.og_program.specs.Told.{fault_text, bad_value_text, Complains, IsSilent, Fails, TellsAnswer, TellsBadValue, TellsReply}
-use Rattle.og_program.specs.Served.{Prints, Does, Refuses, EndsJob}
+use Rattle.og_program.specs.Served.{Checks, Gives, Answers, Does, Leaves, Refuses, EndsJob}
 use Rattle.og_program.specs.declared.ended.Ended.{Ended}
 
 -- what holds of the job that was read holds where one was read
 pub of_job : (P : Job → Type 0) (asked : Result Job Usage) (job : Job) → asked ≡ Ok job → P job → IfOk asked P
 of_job P asked job is h = subst (λ (r : Result Job Usage). IfOk r P) (sym is) h
 
+-- a check that wrote its answer
+checked : (json : Bool) (source certs : List ℕ) (out out_after : Option (List ℕ)) (status : ℕ) → Writes json source certs out out_after status
+    → Checks json source certs (λ text told. Appends out out_after text × (status ≡ told))
+checked json source certs out out_after status w = (w.0, status, w.1, (w.2, refl))
+
+pub joined_does : (files : List ℕ → Option (List ℕ)) (input out out_after : Option (List ℕ)) (status : ℕ)
+    → IfSome input (λ i. WritesJoined false (joined_of i) out out_after status) → Does files input jobs.Joined out out_after status
+joined_does files input out out_after status h =
+    IfSome_then input h (λ i w. (w.0, w.1, w.2, checked false w.0 w.1 out out_after status w.3))
+
+pub check_does : (files : List ℕ → Option (List ℕ)) (input : Option (List ℕ)) (source certs : Bor (List ℕ)) (workers : ℕ) (json : Bool) (out out_after : Option (List ℕ)) (status : ℕ)
+    → IfSome (source_in files input source.now) (λ s. IfSome (files certs.now) (λ c. Writes json (source_of s) (certs_of c) out out_after status))
+    → Does files input (jobs.Check source certs workers json) out out_after status
+check_does files input source certs workers json out out_after status h =
+    IfSome_then (source_in files input source.now) h (λ s given. IfSome_then (files certs.now) given (λ c w. checked json (source_of s) (certs_of c) out out_after status w))
+
 -- a status, or a fault
 ended_by : (files : List ℕ → Option (List ℕ)) (input : Option (List ℕ)) (job : Job) (out out_after err err_after : Option (List ℕ)) (ended : Ended) (r : Result ℕ EngineFault)
     → IfOk r (Does files input job out out_after) → IfErr r (λ e. e ≢ faults.WriteFailed → Keeps out out_after)
+    → IfErr r (λ e. e ≡ faults.WriteFailed → Leaves files input job out out_after)
     → IfOk r (λ status. (ended.status ≡ status) × IsSilent err err_after ended) → IfErr r (λ fault. Complains (fault_text fault) 4 err err_after ended)
     → EndsJob files input job out out_after err err_after ended
-ended_by files input job out out_after err err_after ended (Ok status) does unwritten ok wrong =
+ended_by files input job out out_after err err_after ended (Ok status) does unwritten unfinished ok wrong =
     inl (subst (Does files input job out out_after) (sym ok.0) does, ok.1)
-ended_by files input job out out_after err err_after ended (Err fault) does unwritten ok wrong = inr (inr (fault, (unwritten, wrong)))
+ended_by files input job out out_after err err_after ended (Err fault) does unwritten unfinished ok wrong = inr (inr (fault, unfinished, (unwritten, wrong)))
 
 pub finished : (files : List ℕ → Option (List ℕ)) (input : Option (List ℕ)) (job known : Job) (out out_after err err_after : Option (List ℕ)) (ended : Ended) (r : Result ℕ EngineFault)
     → job ≡ known → IfOk r (Does files input known out out_after) → IfErr r (λ e. e ≢ faults.WriteFailed → Keeps out out_after)
+    → IfErr r (λ e. e ≡ faults.WriteFailed → Leaves files input known out out_after)
     → IfOk r (λ status. (ended.status ≡ status) × IsSilent err err_after ended) → IfErr r (λ fault. Complains (fault_text fault) 4 err err_after ended)
     → EndsJob files input job out out_after err err_after ended
-finished files input job known out out_after err err_after ended r is does unwritten ok wrong =
-    ended_by files input job out out_after err err_after ended r (subst (λ (j : Job). IfOk r (Does files input j out out_after)) (sym is) does) unwritten ok wrong
+finished files input job known out out_after err err_after ended r is does unwritten unfinished ok wrong =
+    subst (λ (j : Job). EndsJob files input j out out_after err err_after ended) (sym is) (ended_by files input known out out_after err err_after ended r does unwritten unfinished ok wrong)
+
+-- memory that runs out is no failed write
+memory_is_not_written : faults.Memory ≡ faults.WriteFailed → ⊥
+memory_is_not_written e = cc
 
 -- an answer, or a fault
 answered : (files : List ℕ → Option (List ℕ)) (input : Option (List ℕ)) (job : Job) (out out_after err err_after : Option (List ℕ)) (ended : Ended) (P : Answer → Type 0) (r : Result Answer EngineFault)
-    → ((status : ℕ) → Prints P out out_after status → Does files input job out out_after status) → IfOk r P
+    → ((Q : List ℕ → ℕ → Type 0) → Gives P Q → Answers files input job Q) → IfOk r P → IfErr r (λ e. e ≢ faults.WriteFailed)
     → IfOk r (λ a. TellsAnswer a out out_after err err_after ended) → IfErr r (λ fault. Fails fault out out_after err err_after ended)
     → EndsJob files input job out out_after err err_after ended
-answered files input job out out_after err err_after ended P (Ok a) does is (inl t) wrong = inl (does ended.status (a, is, t.0, t.1), t.2)
-answered files input job out out_after err err_after ended P (Ok a) does is (inr f) wrong = inr (inr (faults.WriteFailed, f))
-answered files input job out out_after err err_after ended P (Err fault) does is told wrong = inr (inr (fault, wrong))
+answered files input job out out_after err err_after ended P (Ok a) gives is unwritten (inl t) wrong =
+    inl (gives (λ text told. Appends out out_after text × (ended.status ≡ told)) (a, is, (t.0, t.1)), t.2)
+answered files input job out out_after err err_after ended P (Ok a) gives is unwritten (inr f) wrong =
+    inr (inr (faults.WriteFailed, (λ _. gives (λ text told. AppendsFront out out_after text) (a, is, f.0)), f.1))
+answered files input job out out_after err err_after ended P (Err fault) gives is unwritten told wrong = inr (inr (fault, (λ e. absurd (unwritten e)), wrong))
 
 pub told : (files : List ℕ → Option (List ℕ)) (input : Option (List ℕ)) (job known : Job) (out out_after err err_after : Option (List ℕ)) (ended : Ended) (P : Answer → Type 0) (r : Result Answer EngineFault)
-    → job ≡ known → ((status : ℕ) → Prints P out out_after status → Does files input known out out_after status) → IfOk r P
+    → job ≡ known → ((Q : List ℕ → ℕ → Type 0) → Gives P Q → Answers files input known Q) → IfOk r P → IfErr r (λ e. e ≢ faults.WriteFailed)
     → IfOk r (λ a. TellsAnswer a out out_after err err_after ended) → IfErr r (λ fault. Fails fault out out_after err err_after ended)
     → EndsJob files input job out out_after err err_after ended
-told files input job known out out_after err err_after ended P r is does answer ok wrong =
-    answered files input job out out_after err err_after ended P r
-    (λ status printed. subst (λ (j : Job). Does files input j out out_after status) (sym is) (does status printed)) answer ok wrong
+told files input job known out out_after err err_after ended P r is gives answer unwritten ok wrong =
+    subst (λ (j : Job). EndsJob files input j out out_after err err_after ended) (sym is) (answered files input known out out_after err err_after ended P r gives answer unwritten ok wrong)
 
 -- a word that is refused, or a fault
 refused : (files : List ℕ → Option (List ℕ)) (input : Option (List ℕ)) (job : Job) (out out_after err err_after : Option (List ℕ)) (ended : Ended) (word : List ℕ)
     → Refuses files input job (bad_value_text word) → Keeps out out_after → TellsBadValue word err err_after ended → EndsJob files input job out out_after err err_after ended
 refused files input job out out_after err err_after ended word bad keeps (inl t) = inr (inl (bad_value_text word, bad, keeps, t))
-refused files input job out out_after err err_after ended word bad keeps (inr t) = inr (inr (faults.Memory, (λ _. keeps, t)))
+refused files input job out out_after err err_after ended word bad keeps (inr t) = inr (inr (faults.Memory, (λ e. absurd (memory_is_not_written e)), ((λ _. keeps), t)))
 
 run_ended : (files : List ℕ → Option (List ℕ)) (input : Option (List ℕ)) (job : Job) (out out_after err err_after : Option (List ℕ)) (ended : Ended) (R : Reply → Type 0) (r : Result Reply EngineFault)
-    → ((status : ℕ) → Prints (λ a. R (replies.Answer a)) out out_after status → Does files input job out out_after status)
-    → ((word : Bor (List ℕ)) → R (replies.BadValue word) → Refuses files input job (bad_value_text word.now)) → IfOk r R
+    → ((Q : List ℕ → ℕ → Type 0) → Gives (λ a. R (replies.Answer a)) Q → Answers files input job Q)
+    → ((word : Bor (List ℕ)) → R (replies.BadValue word) → Refuses files input job (bad_value_text word.now)) → IfOk r R → IfErr r (λ e. e ≢ faults.WriteFailed)
     → IfOk r (λ a. TellsReply a out out_after err err_after ended) → IfErr r (λ fault. Fails fault out out_after err err_after ended)
     → EndsJob files input job out out_after err err_after ended
-run_ended files input job out out_after err err_after ended R (Ok (replies.Answer a)) does refuses is (inl t) wrong = inl (does ended.status (a, is, t.0, t.1), t.2)
-run_ended files input job out out_after err err_after ended R (Ok (replies.Answer a)) does refuses is (inr f) wrong = inr (inr (faults.WriteFailed, f))
-run_ended files input job out out_after err err_after ended R (Ok (replies.BadValue word)) does refuses is t wrong =
+run_ended files input job out out_after err err_after ended R (Ok (replies.Answer a)) gives refuses is unwritten t wrong =
+    answered files input job out out_after err err_after ended (λ a. R (replies.Answer a)) (Ok a) gives is tt t tt
+run_ended files input job out out_after err err_after ended R (Ok (replies.BadValue word)) gives refuses is unwritten t wrong =
     refused files input job out out_after err err_after ended word.now (refuses word is) t.0 t.1
-run_ended files input job out out_after err err_after ended R (Err fault) does refuses is t wrong = inr (inr (fault, wrong))
+run_ended files input job out out_after err err_after ended R (Err fault) gives refuses is unwritten t wrong = inr (inr (fault, (λ e. absurd (unwritten e)), wrong))
 
 pub replied : (files : List ℕ → Option (List ℕ)) (input : Option (List ℕ)) (job known : Job) (out out_after err err_after : Option (List ℕ)) (ended : Ended) (R : Reply → Type 0) (r : Result Reply EngineFault)
-    → job ≡ known → ((status : ℕ) → Prints (λ a. R (replies.Answer a)) out out_after status → Does files input known out out_after status)
-    → ((word : Bor (List ℕ)) → R (replies.BadValue word) → Refuses files input known (bad_value_text word.now)) → IfOk r R
+    → job ≡ known → ((Q : List ℕ → ℕ → Type 0) → Gives (λ a. R (replies.Answer a)) Q → Answers files input known Q)
+    → ((word : Bor (List ℕ)) → R (replies.BadValue word) → Refuses files input known (bad_value_text word.now)) → IfOk r R → IfErr r (λ e. e ≢ faults.WriteFailed)
     → IfOk r (λ a. TellsReply a out out_after err err_after ended) → IfErr r (λ fault. Fails fault out out_after err err_after ended)
     → EndsJob files input job out out_after err err_after ended
-replied files input job known out out_after err err_after ended R r is does refuses ran ok wrong =
-    run_ended files input job out out_after err err_after ended R r
-    (λ status printed. subst (λ (j : Job). Does files input j out out_after status) (sym is) (does status printed))
-    (λ word bad. subst (λ (j : Job). Refuses files input j (bad_value_text word.now)) (sym is) (refuses word bad)) ran ok wrong
+replied files input job known out out_after err err_after ended R r is gives refuses ran unwritten ok wrong =
+    subst (λ (j : Job). EndsJob files input j out out_after err err_after ended) (sym is) (run_ended files input known out out_after err err_after ended R r gives refuses ran unwritten ok wrong)

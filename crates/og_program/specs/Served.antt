@@ -1,17 +1,19 @@
 -- What the program does for a job, by its files and its input.
-use Rattle.std.specs.Prelude.{◌≡◌, ◌⊎◌, ℕ, Bool, false, List, Option, None, Some, Result, Ok, Err, IfOk, IfSome, map, string_bytes, ⊤}
+use Rattle.std.specs.Prelude.{◌≡◌, ◌⊎◌, ℕ, Bool, true, false, ◌||◌, List, Option, None, Some, Result, Ok, Err, IfOk, IfSome, map, string_bytes, ⊤}
 use Rattle.std.specs.Borrow.{Bor}
 use Rattle.std.specs.Io.KnownBytes.{Appends, Keeps}
 use Rattle.og_answer.specs.declared.answer.Answer.{Answer}
-use Rattle.og_engine.specs.Answers.{Writes, WritesJoined}
+use Rattle.og_engine.specs.Answers.{IsOutput}
 use Rattle.og_engine.specs.NeverStuck.{HasNeverStuckSource}
 use Rattle.og_engine.specs.Proven.{HasProvenSource}
 use Rattle.og_engine.specs.Commands.{IsListed, IsErased}
 use Rattle.og_engine.specs.Inputs.{source_of, certs_of, joined_of}
 use Rattle.og_engine.specs.Making.{IsFound, IsMigrated}
+use Rattle.og_engine.specs.Unfinished.{AppendsFront}
 use Rattle.og_engine.specs.Wrote.{Wrote}
 use Rattle.og_engine.specs.declared.fault.EngineFault.{EngineFault}
 use Rattle.og_engine.specs.declared.fault.EngineFault.TheVariants as faults
+use Rattle.og_input.specs.Joined.{IsSplit}
 use Rattle.og_judge.specs.Proven.{IsProvenSource}
 use Rattle.og_judge.specs.NeverStuck.{IsNeverStuckSource}
 use Rattle.og_report.specs.Yes.{SaysUnblocked}
@@ -23,8 +25,8 @@ use Rattle.og_words.specs.declared.job.Job.{Job}
 use Rattle.og_words.specs.declared.job.Job.TheVariants as jobs
 use Rattle.og_words.specs.declared.job.Usage.{Usage}
 use Rattle.og_words.specs.declared.job.Usage.TheVariants as usages
-use Rattle.og_program.specs.Named.{source_in}
-use Rattle.og_program.specs.Told.{bad_value_text, Complains, IsSilent, Fails}
+use Rattle.og_program.specs.Named.{source_in, lacks_source}
+use Rattle.og_program.specs.Told.{bad_value_text, Complains, IsSilent, Fails, FailsToWrite}
 use Rattle.og_program.specs.declared.ended.Ended.{Ended}
 
 -- the reply to a run, which certificates have to prove safe where they are given
@@ -33,25 +35,43 @@ RanAs files source limit erased None words reply = IfSome source (λ s. IsRan er
 RanAs files source limit erased (Some certs) words reply =
     IfSome source (λ s. IfSome (files certs.now) (λ c. IsRanProved limit (source_of s) (certs_of c) words reply))
 
--- an answer such as P says goes to the end of what the writer holds, and the status is the answer's
-abbrev pub Prints : (Answer → Type 0) → Option (List ℕ) → Option (List ℕ) → ℕ → Type 0
-Prints P before after status = (answer : Answer) × P answer × Appends before after answer.text.items × (status ≡ answer.status)
+-- Q of the text and the status of a check
+abbrev pub Checks : Bool → List ℕ → List ℕ → (List ℕ → ℕ → Type 0) → Type 0
+Checks json source certs Q = (text : List ℕ) × (status : ℕ) × IsOutput json source certs text status × Q text status
 
--- what a job writes to standard output, and the status
+-- Q of the text and the status of an answer such as P says
+abbrev pub Gives : (Answer → Type 0) → (List ℕ → ℕ → Type 0) → Type 0
+Gives P Q = (answer : Answer) × P answer × Q answer.text.items answer.status
+
+-- Q of the text and the status that a job answers, where the bytes of its files are known
+abbrev pub Answers : (List ℕ → Option (List ℕ)) → Option (List ℕ) → Job → (List ℕ → ℕ → Type 0) → Type 0
+Answers files input jobs.Joined Q = IfSome input (λ i. (source certs : List ℕ) × IsSplit (joined_of i) source certs × Checks false source certs Q)
+Answers files input (jobs.Check source certs workers json) Q =
+    IfSome (source_in files input source.now) (λ s. IfSome (files certs.now) (λ c. Checks json (source_of s) (certs_of c) Q))
+Answers files input (jobs.Conditions source) Q = Gives (λ answer. IfSome (source_in files input source.now) (λ s. IsListed (source_of s) answer)) Q
+Answers files input (jobs.Find source budget) Q = Gives (λ answer. IfSome (source_in files input source.now) (λ s. IsFound (source_of s) answer)) Q
+Answers files input (jobs.Erase source) Q = Gives (λ answer. IfSome (source_in files input source.now) (λ s. IsErased (source_of s) answer)) Q
+Answers files input (jobs.Run source limit erased certs values) Q =
+    Gives (λ answer. RanAs files (source_in files input source.now) limit erased certs (map (λ w. w.now) values.items) (replies.Answer answer)) Q
+Answers files input (jobs.Migrate certs) Q = Gives (λ answer. IfSome (files certs.now) (λ c. IsMigrated (certs_of c) answer)) Q
+
+-- a job's answer goes to the end of what standard output holds, and its status is the program's
 abbrev pub Does : (List ℕ → Option (List ℕ)) → Option (List ℕ) → Job → Option (List ℕ) → Option (List ℕ) → ℕ → Type 0
-Does files input jobs.Joined before after status = IfSome input (λ i. WritesJoined false (joined_of i) before after status)
-Does files input (jobs.Check source certs workers json) before after status =
-    IfSome (source_in files input source.now) (λ s. IfSome (files certs.now) (λ c. Writes json (source_of s) (certs_of c) before after status))
-Does files input (jobs.Conditions source) before after status =
-    Prints (λ answer. IfSome (source_in files input source.now) (λ s. IsListed (source_of s) answer)) before after status
-Does files input (jobs.Find source budget) before after status =
-    Prints (λ answer. IfSome (source_in files input source.now) (λ s. IsFound (source_of s) answer)) before after status
-Does files input (jobs.Erase source) before after status =
-    Prints (λ answer. IfSome (source_in files input source.now) (λ s. IsErased (source_of s) answer)) before after status
-Does files input (jobs.Run source limit erased certs values) before after status =
-    Prints (λ answer. RanAs files (source_in files input source.now) limit erased certs (map (λ w. w.now) values.items) (replies.Answer answer)) before after status
-Does files input (jobs.Migrate certs) before after status =
-    Prints (λ answer. IfSome (files certs.now) (λ c. IsMigrated (certs_of c) answer)) before after status
+Does files input job before after status = Answers files input job (λ text told. Appends before after text × (status ≡ told))
+
+-- a front of a job's answer goes there
+abbrev pub Leaves : (List ℕ → Option (List ℕ)) → Option (List ℕ) → Job → Option (List ℕ) → Option (List ℕ) → Type 0
+Leaves files input job before after = Answers files input job (λ text told. AppendsFront before after text)
+
+-- there is known to be no file of a name that the job begins with; a run opens its certificates later
+abbrev pub lacks : (List ℕ → Bool) → Job → Bool
+lacks missing jobs.Joined = false
+lacks missing (jobs.Check source certs workers json) = lacks_source missing source.now || missing certs.now
+lacks missing (jobs.Conditions source) = lacks_source missing source.now
+lacks missing (jobs.Find source budget) = lacks_source missing source.now
+lacks missing (jobs.Erase source) = lacks_source missing source.now
+lacks missing (jobs.Run source limit erased certs values) = lacks_source missing source.now
+lacks missing (jobs.Migrate certs) = missing certs.now
 
 -- the text that says why a job cannot be done: a word of a run gives no value
 abbrev pub Refuses : (List ℕ → Option (List ℕ)) → Option (List ℕ) → Job → List ℕ → Type 0
@@ -64,18 +84,19 @@ Refuses files input (jobs.Run source limit erased certs values) text =
     (word : Bor (List ℕ)) × RanAs files (source_in files input source.now) limit erased certs (map (λ w. w.now) values.items) (replies.BadValue word) × (text ≡ bad_value_text word.now)
 Refuses files input (jobs.Migrate certs) text = ⊥
 
--- how the program ends where it is given a job: with the job's answer, with a word that is refused, or with a fault
+-- how the program ends where it is given a job: with the job's answer, with a word that is refused, or with a fault;
+-- a failed write leaves a front of the answer
 abbrev pub EndsJob : (List ℕ → Option (List ℕ)) → Option (List ℕ) → Job → Option (List ℕ) → Option (List ℕ) → Option (List ℕ) → Option (List ℕ) → Ended → Type 0
 EndsJob files input job out out_after err err_after ended =
     (Does files input job out out_after ended.status × IsSilent err err_after ended)
     ⊎ ((text : List ℕ) × Refuses files input job text × Keeps out out_after × Complains text 3 err err_after ended)
-    ⊎ ((fault : EngineFault) × Fails fault out out_after err err_after ended)
+    ⊎ ((fault : EngineFault) × (fault ≡ faults.WriteFailed → Leaves files input job out out_after) × Fails fault out out_after err err_after ended)
 
 -- how it ends where the words ask for help or are wrong, or memory ran out
 abbrev pub EndsUsage : Usage → Option (List ℕ) → Option (List ℕ) → Option (List ℕ) → Option (List ℕ) → Ended → Type 0
 EndsUsage (usages.Asked text) out out_after err err_after ended =
     (Appends out out_after (string_bytes text) × (ended.status ≡ 0) × IsSilent err err_after ended)
-    ⊎ Fails faults.WriteFailed out out_after err err_after ended
+    ⊎ FailsToWrite (string_bytes text) out out_after err err_after ended
 EndsUsage (usages.Wrong text) out out_after err err_after ended = Keeps out out_after × Complains (string_bytes text) 3 err err_after ended
 EndsUsage usages.Memory out out_after err err_after ended = Fails faults.Memory out out_after err err_after ended
 
@@ -106,9 +127,10 @@ IsNeverStuckIn files input before after (jobs.Run source limit erased certs valu
 IsNeverStuckIn files input before after (jobs.Migrate certs) = ⊤
 
 -- how the program ends where it is given words: as what they ask for ends
-pub record EndsWords (words : List (List ℕ)) (files : List ℕ → Option (List ℕ)) (input out out_after err err_after : Option (List ℕ)) (ended : Ended) : Type 0 where
+pub record EndsWords (words : List (List ℕ)) (files : List ℕ → Option (List ℕ)) (missing : List ℕ → Bool) (input out out_after err err_after : Option (List ℕ)) (ended : Ended) : Type 0 where
   pub asked : Result Job Usage
   pub is : IsAsked words asked
   pub ends : Ends files input asked out out_after err err_after ended
   pub sound : IfOk asked (λ job. ended.status ≡ 0 → IsProvenIn files input job)
+  pub lacking : IfOk asked (λ job. lacks missing job ≡ true → Fails faults.ReadFailed out out_after err err_after ended)
   pub unblocked : IfOk asked (λ job. ended.status ≡ 0 → IsNeverStuckIn files input out out_after job)

@@ -2,6 +2,7 @@
 use Rattle.std.specs.Prelude.{◌≡◌, ◌≢◌, ◌⊎◌, ℕ, true, List, ◌++◌, Option, codes}
 use Rattle.std.specs.Io.KnownBytes.{Appends, Keeps}
 use Rattle.og_answer.specs.declared.answer.Answer.{Answer}
+use Rattle.og_engine.specs.Unfinished.{AppendsFront}
 use Rattle.og_engine.specs.declared.fault.EngineFault.{EngineFault}
 use Rattle.og_engine.specs.declared.fault.EngineFault.TheVariants as faults
 use Rattle.og_running.specs.declared.reply.Reply.{Reply}
@@ -29,11 +30,15 @@ IsSilent before after ended = Keeps before after × (ended.told ≡ true)
 abbrev pub Fails : EngineFault → Option (List ℕ) → Option (List ℕ) → Option (List ℕ) → Option (List ℕ) → Ended → Type 0
 Fails fault out out_after err err_after ended = (fault ≢ faults.WriteFailed → Keeps out out_after) × Complains (fault_text fault) 4 err err_after ended
 
+-- the text cannot be written whole: a front of it goes to the end of what standard output holds
+abbrev pub FailsToWrite : List ℕ → Option (List ℕ) → Option (List ℕ) → Option (List ℕ) → Option (List ℕ) → Ended → Type 0
+FailsToWrite text out out_after err err_after ended = AppendsFront out out_after text × Fails faults.WriteFailed out out_after err err_after ended
+
 -- the answer goes to the end of what standard output holds and its status is the program's, or it cannot be written
 abbrev pub TellsAnswer : Answer → Option (List ℕ) → Option (List ℕ) → Option (List ℕ) → Option (List ℕ) → Ended → Type 0
 TellsAnswer answer out out_after err err_after ended =
     (Appends out out_after answer.text.items × (ended.status ≡ answer.status) × IsSilent err err_after ended)
-    ⊎ Fails faults.WriteFailed out out_after err err_after ended
+    ⊎ FailsToWrite answer.text.items out out_after err err_after ended
 
 -- the word that gives no value is told, or memory runs out
 abbrev pub TellsBadValue : List ℕ → Option (List ℕ) → Option (List ℕ) → Ended → Type 0

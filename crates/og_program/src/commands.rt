@@ -1,10 +1,10 @@
 //! The answers of the commands that print what they make of one file.
 
-ghost use Rattle.std.specs.Prelude.{IfOk, IfSome};
+ghost use Rattle.std.specs.Prelude.{◌≡◌, ◌≢◌, true, Err, IfErr, IfOk, IfSome};
 ghost use Rattle.og_engine.specs.Commands.{IsListed, IsErased};
 ghost use Rattle.og_engine.specs.Inputs.{source_of, certs_of};
 ghost use Rattle.og_engine.specs.Making.{IsFound, IsMigrated};
-ghost use Rattle.og_program.specs.Named.{source_in};
+ghost use Rattle.og_program.specs.Named.{source_in, lacks_source};
 
 use crate::files::Files;
 use crate::reading::{certificate_bytes, source_bytes};
@@ -21,7 +21,9 @@ pub(crate) fn conditions<F: Files, I: Read>(
     name: &str,
     input: &mut I,
 ) -> Result<Answer, EngineFault>
-    ensures { IfOk result (λ answer. IfSome (source_in (F.contents files.now) (I.remaining input.old) name.now) (λ s. IsListed (source_of s) answer)) }
+    ensures answer { IfOk result (λ answer. IfSome (source_in (F.contents files.now) (I.remaining input.old) name.now) (λ s. IsListed (source_of s) answer)) }
+    ensures fault { IfErr result (λ e. e ≢ EngineFault.WriteFailed) }
+    ensures missing { lacks_source (F.is_missing files.now) name.now ≡ true → result ≡ Err EngineFault.ReadFailed }
 {
     let source = source_bytes(alloc, files, name, input)?;
     Ok(listed(alloc, &source)?)
@@ -34,7 +36,9 @@ pub(crate) fn erase<F: Files, I: Read>(
     name: &str,
     input: &mut I,
 ) -> Result<Answer, EngineFault>
-    ensures { IfOk result (λ answer. IfSome (source_in (F.contents files.now) (I.remaining input.old) name.now) (λ s. IsErased (source_of s) answer)) }
+    ensures answer { IfOk result (λ answer. IfSome (source_in (F.contents files.now) (I.remaining input.old) name.now) (λ s. IsErased (source_of s) answer)) }
+    ensures fault { IfErr result (λ e. e ≢ EngineFault.WriteFailed) }
+    ensures missing { lacks_source (F.is_missing files.now) name.now ≡ true → result ≡ Err EngineFault.ReadFailed }
 {
     let source = source_bytes(alloc, files, name, input)?;
     Ok(erased(alloc, &source)?)
@@ -48,7 +52,9 @@ pub(crate) fn find<F: Files, I: Read>(
     budget: Budget,
     input: &mut I,
 ) -> Result<Answer, EngineFault>
-    ensures { IfOk result (λ answer. IfSome (source_in (F.contents files.now) (I.remaining input.old) name.now) (λ s. IsFound (source_of s) answer)) }
+    ensures answer { IfOk result (λ answer. IfSome (source_in (F.contents files.now) (I.remaining input.old) name.now) (λ s. IsFound (source_of s) answer)) }
+    ensures fault { IfErr result (λ e. e ≢ EngineFault.WriteFailed) }
+    ensures missing { lacks_source (F.is_missing files.now) name.now ≡ true → result ≡ Err EngineFault.ReadFailed }
 {
     let source = source_bytes(alloc, files, name, input)?;
     Ok(found(alloc, &source, budget)?)
@@ -56,7 +62,9 @@ pub(crate) fn find<F: Files, I: Read>(
 
 /// Certificates in version 2.
 pub(crate) fn migrate<F: Files>(alloc: Global, files: &F, name: &str) -> Result<Answer, EngineFault>
-    ensures { IfOk result (λ answer. IfSome (F.contents files.now name.now) (λ c. IsMigrated (certs_of c) answer)) }
+    ensures answer { IfOk result (λ answer. IfSome (F.contents files.now name.now) (λ c. IsMigrated (certs_of c) answer)) }
+    ensures fault { IfErr result (λ e. e ≢ EngineFault.WriteFailed) }
+    ensures missing { F.is_missing files.now name.now ≡ true → result ≡ Err EngineFault.ReadFailed }
 {
     let certs = certificate_bytes(alloc, files, name)?;
     Ok(migrated(alloc, &certs)?)

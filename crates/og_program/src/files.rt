@@ -1,6 +1,6 @@
 //! Files by their names.
 
-ghost use Rattle.std.specs.Prelude.{◌≡◌, ℕ, List, Option, IfOk};
+ghost use Rattle.std.specs.Prelude.{◌≡◌, ℕ, Bool, true, false, List, Option, IfOk, IsErr};
 
 use std::fs::File;
 use std::io;
@@ -11,6 +11,9 @@ pub trait Files {
     /// The bytes of the file of a name, where they are known.
     ghost contents: { Self → List ℕ → Option (List ℕ) };
 
+    /// Whether there is known to be no file of a name.
+    ghost is_missing: { Self → List ℕ → Bool } = { λ _ _. false };
+
     /// An open file, which is read from its beginning.
     type File: Read + Drop;
 
@@ -20,7 +23,8 @@ pub trait Files {
     ///
     /// There is no such file, or it cannot be opened.
     fn open(&self, name: &str) -> io::Result<Self::File>
-        ensures { IfOk result (λ file. Self.File.remaining file ≡ contents self.now name.now) };
+        ensures bytes { IfOk result (λ file. Self.File.remaining file ≡ contents self.now name.now) }
+        ensures missing { is_missing self.now name.now ≡ true → IsErr result };
 }
 
 /// The files of the system, of which nothing is known.

@@ -1,17 +1,18 @@
 //! Checks and runs, by threads, memory and files.
 
-ghost use Rattle.std.specs.Prelude.{◌≡◌, ◌≢◌, false, map, IfOk, IfErr, IfSome};
+ghost use Rattle.std.specs.Prelude.{◌≡◌, ◌≢◌, ◌||◌, true, false, map, Err, IfOk, IfErr, IfSome};
 ghost use Rattle.std.specs.Io.KnownBytes.{Keeps};
 ghost use Rattle.og_engine.specs.Answers.{Writes, WritesJoined};
 ghost use Rattle.og_engine.specs.NeverStuck.{HasNeverStuckSource};
 ghost use Rattle.og_engine.specs.Proven.{HasProvenSource};
 ghost use Rattle.og_engine.specs.Inputs.{source_of, certs_of, joined_of};
+ghost use Rattle.og_engine.specs.Unfinished.{WritesFront, WritesJoinedFront};
 ghost use Rattle.og_engine.specs.Wrote.{Wrote};
 ghost use Rattle.og_judge.specs.Proven.{IsProvenSource};
 ghost use Rattle.og_judge.specs.NeverStuck.{IsNeverStuckSource};
 ghost use Rattle.og_report.specs.Yes.{SaysUnblocked};
 ghost use Rattle.og_running.specs.Running.{IsRan, IsRanProved};
-ghost use Rattle.og_program.specs.Named.{source_in};
+ghost use Rattle.og_program.specs.Named.{source_in, lacks_source};
 ghost use Rattle.og_program.specs.Served.{RanAs};
 
 use crate::files::Files;
@@ -46,6 +47,7 @@ impl<'r, F: Files, H: Threads + Wait + Sync> Program<'r, F, H> {
         ensures unblocked { IfOk result (λ status. IfSome (I.remaining input.old) (λ i. status ≡ 0
             → Wrote (SaysUnblocked false) (O.contents out.old) (O.contents out.new) → HasNeverStuckSource (joined_of i))) }
         ensures unwritten { IfErr result (λ e. e ≢ EngineFault.WriteFailed → Keeps (O.contents out.old) (O.contents out.new)) }
+        ensures unfinished { IfErr result (λ e. e ≡ EngineFault.WriteFailed → IfSome (I.remaining input.old) (λ i. WritesJoinedFront false (joined_of i) (O.contents out.old) (O.contents out.new))) }
     {
         let options = Options {
             workers: Workers::ONE,
@@ -68,6 +70,9 @@ impl<'r, F: Files, H: Threads + Wait + Sync> Program<'r, F, H> {
         ensures unblocked { IfOk result (λ status. IfSome (R.remaining source.old) (λ s. status ≡ 0
             → Wrote (SaysUnblocked options.json) (O.contents out.old) (O.contents out.new) → IsNeverStuckSource (source_of s))) }
         ensures unwritten { IfErr result (λ e. e ≢ EngineFault.WriteFailed → Keeps (O.contents out.old) (O.contents out.new)) }
+        ensures unfinished { IfErr result (λ e. e ≡ EngineFault.WriteFailed → IfSome (R.remaining source.old) (λ s. IfSome (F.contents self.now.files.now certs.now) (λ c.
+            WritesFront options.json (source_of s) (certs_of c) (O.contents out.old) (O.contents out.new)))) }
+        ensures missing { F.is_missing self.now.files.now certs.now ≡ true → result ≡ Err EngineFault.ReadFailed }
     {
         let mut certs = open(self.files, certs)?;
         engine(
@@ -90,6 +95,9 @@ impl<'r, F: Files, H: Threads + Wait + Sync> Program<'r, F, H> {
         ensures unblocked { IfOk result (λ status. IfSome (source_in (F.contents self.now.files.now) (I.remaining input.old) source.now) (λ s. status ≡ 0
             → Wrote (SaysUnblocked options.json) (O.contents out.old) (O.contents out.new) → IsNeverStuckSource (source_of s))) }
         ensures unwritten { IfErr result (λ e. e ≢ EngineFault.WriteFailed → Keeps (O.contents out.old) (O.contents out.new)) }
+        ensures unfinished { IfErr result (λ e. e ≡ EngineFault.WriteFailed → IfSome (source_in (F.contents self.now.files.now) (I.remaining input.old) source.now) (λ s. IfSome (F.contents self.now.files.now certs.now) (λ c.
+            WritesFront options.json (source_of s) (certs_of c) (O.contents out.old) (O.contents out.new)))) }
+        ensures missing { (lacks_source (F.is_missing self.now.files.now) source.now || F.is_missing self.now.files.now certs.now) ≡ true → result ≡ Err EngineFault.ReadFailed }
     {
         if source == "-" {
             return self.check_from(input, certs, options, out);
@@ -108,7 +116,9 @@ impl<'r, F: Files, H: Threads + Wait + Sync> Program<'r, F, H> {
         erased: bool,
         input: &mut I,
     ) -> Result<Reply<'a>, EngineFault>
-        ensures { IfOk result (RanAs (F.contents self.now.files.now) (source_in (F.contents self.now.files.now) (I.remaining input.old) source.now) limit erased certs.entry (map (λ w. w.now) words.now)) }
+        ensures reply { IfOk result (RanAs (F.contents self.now.files.now) (source_in (F.contents self.now.files.now) (I.remaining input.old) source.now) limit erased certs.entry (map (λ w. w.now) words.now)) }
+        ensures fault { IfErr result (λ e. e ≢ EngineFault.WriteFailed) }
+        ensures missing { lacks_source (F.is_missing self.now.files.now) source.now ≡ true → result ≡ Err EngineFault.ReadFailed }
     {
         let (rt, alloc) = (self.rt, self.alloc);
         let source = source_bytes(alloc, self.files, source, input)?;

@@ -1,8 +1,8 @@
 //! The bytes of sources and certificates, by the names of their files.
 
-ghost use Rattle.std.specs.Prelude.{◌≡◌, IfOk, IfSome};
+ghost use Rattle.std.specs.Prelude.{◌≡◌, ◌≢◌, true, Err, IfErr, IfOk, IfSome};
 ghost use Rattle.og_engine.specs.Inputs.{source_of, certs_of};
-ghost use Rattle.og_program.specs.Named.{source_in};
+ghost use Rattle.og_program.specs.Named.{source_in, lacks_source};
 
 use crate::files::Files;
 use og_engine::{EngineFault, read_certificates, read_source};
@@ -11,7 +11,9 @@ use std::io::Read;
 
 // Opens a file.
 pub(crate) fn open<F: Files>(files: &F, name: &str) -> Result<F::File, EngineFault>
-    ensures { IfOk result (λ file. F.File.remaining file ≡ F.contents files.now name.now) }
+    ensures bytes { IfOk result (λ file. F.File.remaining file ≡ F.contents files.now name.now) }
+    ensures fault { IfErr result (λ e. e ≡ EngineFault.ReadFailed) }
+    ensures missing { F.is_missing files.now name.now ≡ true → result ≡ Err EngineFault.ReadFailed }
 {
     match files.open(name) {
         Ok(file) => Ok(file),
@@ -26,7 +28,9 @@ pub(crate) fn source_bytes<F: Files, I: Read>(
     name: &str,
     input: &mut I,
 ) -> Result<Vec<u8>, EngineFault>
-    ensures { IfOk result (λ text. IfSome (source_in (F.contents files.now) (I.remaining input.old) name.now) (λ s. text.items ≡ source_of s)) }
+    ensures text { IfOk result (λ text. IfSome (source_in (F.contents files.now) (I.remaining input.old) name.now) (λ s. text.items ≡ source_of s)) }
+    ensures fault { IfErr result (λ e. e ≢ EngineFault.WriteFailed) }
+    ensures missing { lacks_source (F.is_missing files.now) name.now ≡ true → result ≡ Err EngineFault.ReadFailed }
 {
     if name == "-" {
         return Ok(read_source(alloc, input)?);
@@ -41,7 +45,9 @@ pub(crate) fn certificate_bytes<F: Files>(
     files: &F,
     name: &str,
 ) -> Result<Vec<u8>, EngineFault>
-    ensures { IfOk result (λ text. IfSome (F.contents files.now name.now) (λ c. text.items ≡ certs_of c)) }
+    ensures text { IfOk result (λ text. IfSome (F.contents files.now name.now) (λ c. text.items ≡ certs_of c)) }
+    ensures fault { IfErr result (λ e. e ≢ EngineFault.WriteFailed) }
+    ensures missing { F.is_missing files.now name.now ≡ true → result ≡ Err EngineFault.ReadFailed }
 {
     let mut file = open(files, name)?;
     Ok(read_certificates(alloc, &mut file)?)

@@ -1,7 +1,8 @@
 //! From a job to what is written and the status.
 
-ghost use Rattle.std.specs.Prelude.{◌≡◌, map, string_bytes, IfOk, IfErr};
-ghost use Rattle.og_program.specs.Served.{Ends, EndsJob, EndsUsage, EndsWords, IsProvenIn, IsNeverStuckIn};
+ghost use Rattle.std.specs.Prelude.{◌≡◌, true, map, string_bytes, IfOk, IfErr};
+ghost use Rattle.og_program.specs.Served.{lacks, Ends, EndsJob, EndsUsage, EndsWords, IsProvenIn, IsNeverStuckIn};
+ghost use Rattle.og_program.specs.Told.{Fails};
 
 use crate::commands::{conditions, erase, find, migrate};
 use crate::ended::Ended;
@@ -27,6 +28,7 @@ impl<'r, F: Files, H: Threads + Wait + Sync> Program<'r, F, H> {
     ) -> Ended
         ensures ended { EndsJob (F.contents self.now.files.now) (I.remaining input.old) job.now (O.contents out.old) (O.contents out.new) (E.contents err.old) (E.contents err.new) result }
         ensures sound { result.status ≡ 0 → IsProvenIn (F.contents self.now.files.now) (I.remaining input.old) job.now }
+        ensures lacking { lacks (F.is_missing self.now.files.now) job.now ≡ true → Fails EngineFault.ReadFailed (O.contents out.old) (O.contents out.new) (E.contents err.old) (E.contents err.new) result }
         ensures unblocked { result.status ≡ 0 → IsNeverStuckIn (F.contents self.now.files.now) (I.remaining input.old) (O.contents out.old) (O.contents out.new) job.now }
     {
         let (alloc, files) = (self.alloc, self.files);
@@ -85,7 +87,8 @@ fn explain<O: Write, E: Write>(usage: Usage, out: &mut O, err: &mut E) -> Ended
 ///
 /// The status is 3, with a text to `err`, where the words are wrong or one gives no variable a value;
 /// and 4, with a text to `err`, where a file cannot be read or `out` not be written, memory runs out
-/// or a thread cannot be started. Nothing goes to `out` then, but what a failed write left.
+/// or a thread cannot be started. Nothing goes to `out` then, but a front of the answer where it
+/// could not be written whole.
 pub fn serve<F: Files, I: Read, O: Write, E: Write, H: Threads + Wait + Sync>(
     rt: &H,
     alloc: Global,
@@ -97,6 +100,7 @@ pub fn serve<F: Files, I: Read, O: Write, E: Write, H: Threads + Wait + Sync>(
 ) -> Ended
     ensures ended { Ends (F.contents files.now) (I.remaining input.old) asked.entry (O.contents out.old) (O.contents out.new) (E.contents err.old) (E.contents err.new) result }
     ensures sound { IfOk asked.entry (λ job. result.status ≡ 0 → IsProvenIn (F.contents files.now) (I.remaining input.old) job) }
+    ensures lacking { IfOk asked.entry (λ job. lacks (F.is_missing files.now) job ≡ true → Fails EngineFault.ReadFailed (O.contents out.old) (O.contents out.new) (E.contents err.old) (E.contents err.new) result) }
     ensures unblocked { IfOk asked.entry (λ job. result.status ≡ 0 → IsNeverStuckIn (F.contents files.now) (I.remaining input.old) (O.contents out.old) (O.contents out.new) job) }
 {
     match asked {
@@ -115,7 +119,7 @@ pub fn serve_words<F: Files, I: Read, O: Write, E: Write, H: Threads + Wait + Sy
     out: &mut O,
     err: &mut E,
 ) -> Ended
-    ensures words { IfOk words (λ w. EndsWords (map (λ s. string_bytes s) w.items) (F.contents files.now) (I.remaining input.old) (O.contents out.old) (O.contents out.new) (E.contents err.old) (E.contents err.new) result) }
+    ensures words { IfOk words (λ w. EndsWords (map (λ s. string_bytes s) w.items) (F.contents files.now) (F.is_missing files.now) (I.remaining input.old) (O.contents out.old) (O.contents out.new) (E.contents err.old) (E.contents err.new) result) }
     ensures none { IfErr words (λ usage. EndsUsage usage (O.contents out.old) (O.contents out.new) (E.contents err.old) (E.contents err.new) result) }
 {
     match words {

@@ -16,6 +16,10 @@ const JOBS: &[(&str, &str)] = &[
         "check - b --workers 64 --json",
         "Check { source: \"-\", certs: \"b\", workers: Workers { count: 64 }, json: true }",
     ),
+    (
+        "check --workers 2 a b",
+        "Check { source: \"a\", certs: \"b\", workers: Workers { count: 2 }, json: false }",
+    ),
     ("conditions a", "Conditions { source: \"a\" }"),
     (
         "find a",
@@ -33,6 +37,18 @@ const JOBS: &[(&str, &str)] = &[
     (
         "run a --certs f",
         "Run { source: \"a\", limit: RunLimit { steps: 1000 }, erased: false, certs: Some(\"f\"), values: [] }",
+    ),
+    (
+        "run a --erased",
+        "Run { source: \"a\", limit: RunLimit { steps: 1000 }, erased: true, certs: None, values: [] }",
+    ),
+    (
+        "run --limit 1000000 a",
+        "Run { source: \"a\", limit: RunLimit { steps: 1000000 }, erased: false, certs: None, values: [] }",
+    ),
+    (
+        "run a i=1 h=2 g=3 f=4 e=5 d=6 c=7 b=8 a=9 i=10",
+        "Run { source: \"a\", limit: RunLimit { steps: 1000 }, erased: false, certs: None, values: [\"i=1\", \"h=2\", \"g=3\", \"f=4\", \"e=5\", \"d=6\", \"c=7\", \"b=8\", \"a=9\", \"i=10\"] }",
     ),
     ("migrate c", "Migrate { certs: \"c\" }"),
 ];

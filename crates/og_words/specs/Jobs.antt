@@ -1,5 +1,7 @@
--- Which command a job is of.
-use Rattle.std.specs.Prelude.{◌≡◌, ℕ, List, length, Option, None, Some, Result, Ok, IfOk, slice_get, codes, string_bytes, ⊤}
+-- Which job words ask for.
+use Rattle.std.specs.Prelude.{◌≡◌, ℕ, List, length, map, Option, None, Some, option_map, Result, Ok, IfOk, slice_get, codes, string_bytes, ⊤}
+use Rattle.clap.specs.Words.{Row}
+use Rattle.og_words.specs.Given.{given, text_of, number_of, is_given, texts_of}
 use Rattle.og_words.specs.declared.job.Verb.{Verb}
 use Rattle.og_words.specs.declared.job.Verb.TheVariants as verbs
 use Rattle.og_words.specs.declared.job.Job.{Job}
@@ -25,9 +27,24 @@ command_of (jobs.Erase source) = Some (codes "erase")
 command_of (jobs.Run source limit erased certs values) = Some (codes "run")
 command_of (jobs.Migrate certs) = Some (codes "migrate")
 
+-- the job holds what is given for each argument of its command
+abbrev pub Holds : List Row → Job → Type 0
+Holds rows jobs.Joined = ⊤
+Holds rows (jobs.Check source certs workers json) =
+    (text_of (codes "SOURCE") rows ≡ Some source.now) × (text_of (codes "CERTS") rows ≡ Some certs.now)
+    × (number_of (codes "workers") rows ≡ Some workers) × (json ≡ is_given (codes "json") rows)
+Holds rows (jobs.Conditions source) = text_of (codes "SOURCE") rows ≡ Some source.now
+Holds rows (jobs.Find source budget) = (text_of (codes "SOURCE") rows ≡ Some source.now) × (number_of (codes "budget") rows ≡ Some budget)
+Holds rows (jobs.Erase source) = text_of (codes "SOURCE") rows ≡ Some source.now
+Holds rows (jobs.Run source limit erased certs values) =
+    (text_of (codes "SOURCE") rows ≡ Some source.now) × (number_of (codes "limit") rows ≡ Some limit) × (erased ≡ is_given (codes "erased") rows)
+    × (option_map (λ c. c.now) certs ≡ text_of (codes "certs") rows) × (map (λ w. w.now) values.items ≡ texts_of (codes "NAME=INT") rows)
+Holds rows (jobs.Migrate certs) = text_of (codes "CERTS") rows ≡ Some certs.now
+
 -- what words ask for
 pub record IsAsked (words : List (List ℕ)) (asked : Result Job Usage) : Type 0 where
   pub command : IfOk asked (λ job. command_of job ≡ slice_get words 0)
+  pub arguments : IfOk asked (λ job. Holds (given words) job)
   pub none : length words ≡ 0 → asked ≡ Ok jobs.Joined
 
 -- this text says what is wrong with the words, or there was no memory for it

@@ -1,21 +1,33 @@
 //! The command line, as help texts show it.
 
+ghost use Rattle.std.specs.Prelude.{◌≡◌, IfOk, IsOkAnd, false, codes};
+ghost use Rattle.clap.specs.Words.{app_of, shape_of, with_subcommand};
+ghost use Rattle.clap.specs.declared.builder.command.Command.TheViews.{out-Command};
+ghost use Rattle.og_words.specs.CommandLine as line;
+ghost use Rattle.og_words.specs.Made.{IsArg, IsCommand};
+
 use clap::{Arg, ArgAction, Command};
 use std::alloc::{AllocError, Global};
 
-fn source_arg<'a>(alloc: Global) -> Arg<'a> {
+fn source_arg<'a>(alloc: Global) -> Arg<'a>
+    ensures { IsArg line.source result }
+{
     Arg::new(alloc, "SOURCE")
         .required(true)
         .help("The proof outline, or - for standard input")
 }
 
-fn certs_arg<'a>(alloc: Global) -> Arg<'a> {
+fn certs_arg<'a>(alloc: Global) -> Arg<'a>
+    ensures { IsArg line.certs result }
+{
     Arg::new(alloc, "CERTS")
         .required(true)
         .help("The certificates")
 }
 
-fn workers_arg<'a>(alloc: Global) -> Arg<'a> {
+fn workers_arg<'a>(alloc: Global) -> Arg<'a>
+    ensures { IsArg line.workers result }
+{
     Arg::new(alloc, "workers")
         .long("workers")
         .value_name("N")
@@ -24,14 +36,18 @@ fn workers_arg<'a>(alloc: Global) -> Arg<'a> {
         .help("How many threads check")
 }
 
-fn json_arg<'a>(alloc: Global) -> Arg<'a> {
+fn json_arg<'a>(alloc: Global) -> Arg<'a>
+    ensures { IsArg (line.flag (codes "json")) result }
+{
     Arg::new(alloc, "json")
         .long("json")
         .action(ArgAction::SetTrue)
         .help("Print the report as JSON")
 }
 
-fn check_command<'a>(alloc: Global) -> Result<Command<'a>, AllocError> {
+fn check_command<'a>(alloc: Global) -> Result<Command<'a>, AllocError>
+    ensures { IfOk result (IsCommand line.check) }
+{
     Command::new(alloc, "check")
         .about("Check an outline by its certificates")
         .arg(source_arg(alloc))?
@@ -40,13 +56,17 @@ fn check_command<'a>(alloc: Global) -> Result<Command<'a>, AllocError> {
         .arg(json_arg(alloc))
 }
 
-fn conditions_command<'a>(alloc: Global) -> Result<Command<'a>, AllocError> {
+fn conditions_command<'a>(alloc: Global) -> Result<Command<'a>, AllocError>
+    ensures { IfOk result (IsCommand line.conditions) }
+{
     Command::new(alloc, "conditions")
         .about("Print every condition with its facts")
         .arg(source_arg(alloc))
 }
 
-fn budget_arg<'a>(alloc: Global) -> Arg<'a> {
+fn budget_arg<'a>(alloc: Global) -> Arg<'a>
+    ensures { IsArg line.budget result }
+{
     Arg::new(alloc, "budget")
         .long("budget")
         .value_name("N")
@@ -55,20 +75,26 @@ fn budget_arg<'a>(alloc: Global) -> Arg<'a> {
         .help("How many facts may be added for each condition")
 }
 
-fn find_command<'a>(alloc: Global) -> Result<Command<'a>, AllocError> {
+fn find_command<'a>(alloc: Global) -> Result<Command<'a>, AllocError>
+    ensures { IfOk result (IsCommand line.finder) }
+{
     Command::new(alloc, "find")
         .about("Print the certificates that are found")
         .arg(source_arg(alloc))?
         .arg(budget_arg(alloc))
 }
 
-fn erase_command<'a>(alloc: Global) -> Result<Command<'a>, AllocError> {
+fn erase_command<'a>(alloc: Global) -> Result<Command<'a>, AllocError>
+    ensures { IfOk result (IsCommand line.erase) }
+{
     Command::new(alloc, "erase")
         .about("Print the program without its auxiliary variables")
         .arg(source_arg(alloc))
 }
 
-fn limit_arg<'a>(alloc: Global) -> Arg<'a> {
+fn limit_arg<'a>(alloc: Global) -> Arg<'a>
+    ensures { IsArg line.limit result }
+{
     Arg::new(alloc, "limit")
         .long("limit")
         .value_name("N")
@@ -77,14 +103,18 @@ fn limit_arg<'a>(alloc: Global) -> Arg<'a> {
         .help("How many steps the history may have")
 }
 
-fn erased_arg<'a>(alloc: Global) -> Arg<'a> {
+fn erased_arg<'a>(alloc: Global) -> Arg<'a>
+    ensures { IsArg (line.flag (codes "erased")) result }
+{
     Arg::new(alloc, "erased")
         .long("erased")
         .action(ArgAction::SetTrue)
         .help("Run the erased program")
 }
 
-fn run_certs_arg<'a>(alloc: Global) -> Result<Arg<'a>, AllocError> {
+fn run_certs_arg<'a>(alloc: Global) -> Result<Arg<'a>, AllocError>
+    ensures { IfOk result (IsArg line.certs_option) }
+{
     Arg::new(alloc, "certs")
         .long("certs")
         .value_name("FILE")
@@ -92,34 +122,31 @@ fn run_certs_arg<'a>(alloc: Global) -> Result<Arg<'a>, AllocError> {
         .conflicts_with("erased")
 }
 
-fn values_arg<'a>(alloc: Global) -> Arg<'a> {
+fn values_arg<'a>(alloc: Global) -> Arg<'a>
+    ensures { IsArg line.values result }
+{
     Arg::new(alloc, "NAME=INT")
         .num_args(0..)
         .action(ArgAction::Append)
         .help("A variable's value at the start")
 }
 
-fn with_arg<'a>(
-    command: Command<'a>,
-    arg: Result<Arg<'a>, AllocError>,
-) -> Result<Command<'a>, AllocError> {
-    command.arg(arg?)
-}
-
-// Adds what stands after `--`.
-fn with_run_options<'a>(alloc: Global, command: Command<'a>) -> Result<Command<'a>, AllocError> {
-    let command = command.arg(limit_arg(alloc))?.arg(erased_arg(alloc))?;
-    with_arg(command, run_certs_arg(alloc))
-}
-
-fn run_command<'a>(alloc: Global) -> Result<Command<'a>, AllocError> {
-    let command = Command::new(alloc, "run")
+fn run_command<'a>(alloc: Global) -> Result<Command<'a>, AllocError>
+    ensures { IfOk result (IsCommand line.run) }
+{
+    let certs = run_certs_arg(alloc)?;
+    Command::new(alloc, "run")
         .about("Run the processes in threads")
-        .arg(source_arg(alloc))?;
-    with_run_options(alloc, command)?.arg(values_arg(alloc))
+        .arg(source_arg(alloc))?
+        .arg(limit_arg(alloc))?
+        .arg(erased_arg(alloc))?
+        .arg(certs)?
+        .arg(values_arg(alloc))
 }
 
-fn migrate_command<'a>(alloc: Global) -> Result<Command<'a>, AllocError> {
+fn migrate_command<'a>(alloc: Global) -> Result<Command<'a>, AllocError>
+    ensures { IfOk result (IsCommand line.migrate) }
+{
     Command::new(alloc, "migrate")
         .about("Print certificates in version 2 of their format")
         .arg(certs_arg(alloc))
@@ -129,26 +156,34 @@ fn migrate_command<'a>(alloc: Global) -> Result<Command<'a>, AllocError> {
 fn with_word<'a>(
     program: Command<'a>,
     word: Result<Command<'a>, AllocError>,
-) -> Result<Command<'a>, AllocError> {
+) -> Result<Command<'a>, AllocError>
+    ensures { IfOk result (λ r. IsOkAnd word.entry (λ w. (out-Command w).has_globals ≡ false → app_of r ≡ with_subcommand (app_of program.entry) (shape_of w))) }
+{
     program.subcommand(word?)
 }
 
 // Adds the words that look at outlines and certificates.
-fn with_outlines<'a>(alloc: Global, program: Command<'a>) -> Result<Command<'a>, AllocError> {
+fn with_outlines<'a>(alloc: Global, program: Command<'a>) -> Result<Command<'a>, AllocError>
+    ensures { IfOk result (λ r. app_of r ≡ with_subcommand (with_subcommand (with_subcommand (app_of program.entry) line.check) line.conditions) line.finder) }
+{
     let program = with_word(program, check_command(alloc))?;
     let program = with_word(program, conditions_command(alloc))?;
     with_word(program, find_command(alloc))
 }
 
 // Adds the words that look at programs, and at certificates alone.
-fn with_programs<'a>(alloc: Global, program: Command<'a>) -> Result<Command<'a>, AllocError> {
+fn with_programs<'a>(alloc: Global, program: Command<'a>) -> Result<Command<'a>, AllocError>
+    ensures { IfOk result (λ r. app_of r ≡ with_subcommand (with_subcommand (with_subcommand (app_of program.entry) line.erase) line.run) line.migrate) }
+{
     let program = with_word(program, erase_command(alloc))?;
     let program = with_word(program, run_command(alloc))?;
     with_word(program, migrate_command(alloc))
 }
 
 /// The program's command line.
-pub(crate) fn program<'a>(alloc: Global) -> Result<Command<'a>, AllocError> {
+pub(crate) fn program<'a>(alloc: Global) -> Result<Command<'a>, AllocError>
+    ensures { IfOk result (λ r. app_of r ≡ line.og) }
+{
     let program = Command::new(alloc, "og")
         .about("Checks proof outlines of parallel programs")
         .no_binary_name(true)

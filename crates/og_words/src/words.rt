@@ -1,7 +1,10 @@
 //! From words to a job.
 
-ghost use Rattle.std.specs.Prelude.{◌≡◌, IfOk, IfSome, Some, map, string_bytes};
-ghost use Rattle.og_words.specs.Jobs.{verb_name, command_of, IsAsked};
+ghost use Rattle.std.specs.Prelude.{◌≡◌, IfOk, IfSome, Some, option_map, map, codes, string_bytes};
+ghost use Rattle.clap.specs.Words.{found_of, rows_of, subcommand_of, subcommand_rows_of};
+ghost use Rattle.og_words.specs.CommandLine.{og};
+ghost use Rattle.og_words.specs.Given.{rows_below, text_of, number_of, is_given, texts_of};
+ghost use Rattle.og_words.specs.Jobs.{verb_name, command_of, Holds, IsAsked};
 
 use crate::commands::program;
 use crate::job::{Job, Usage, Verb};
@@ -24,83 +27,129 @@ fn verb_of(word: &str) -> Option<Verb>
     }
 }
 
-fn check_job<'a>(m: &ArgMatches<'a>) -> Option<Job<'a>>
-    ensures { IfSome result (λ job. command_of job ≡ Some (verb_name Verb.Check)) }
+// The word for an argument.
+fn text_of<'a>(m: &ArgMatches<'a>, name: &str) -> Option<&'a str>
+    ensures { option_map (λ s. s.now) result ≡ text_of name.now (rows_of (found_of m.now)) }
 {
-    let source = m.get_str("SOURCE")?;
-    let certs = m.get_str("CERTS")?;
-    let workers = m.get_one::<u32>("workers")?;
+    m.get_str(name)
+}
+
+// Whether a flag is given.
+fn has_flag(m: &ArgMatches<'_>, name: &str) -> bool
+    ensures { result ≡ is_given name.now (rows_of (found_of m.now)) }
+{
+    m.get_one::<bool>(name).unwrap_or(false)
+}
+
+fn workers_of(m: &ArgMatches<'_>) -> Option<Workers>
+    ensures { IfSome result (λ n. number_of (codes "workers") (rows_of (found_of m.now)) ≡ Some n) }
+{
+    Workers::new(m.get_one::<u32>("workers")?)
+}
+
+fn budget_of(m: &ArgMatches<'_>) -> Option<Budget>
+    ensures { IfSome result (λ n. number_of (codes "budget") (rows_of (found_of m.now)) ≡ Some n) }
+{
+    Budget::new(m.get_one::<u64>("budget")?)
+}
+
+fn limit_of(m: &ArgMatches<'_>) -> Option<RunLimit>
+    ensures { IfSome result (λ n. number_of (codes "limit") (rows_of (found_of m.now)) ≡ Some n) }
+{
+    RunLimit::new(m.get_one::<u32>("limit")?)
+}
+
+fn check_job<'a>(m: &ArgMatches<'a>) -> Option<Job<'a>>
+    ensures command { IfSome result (λ job. command_of job ≡ Some (verb_name Verb.Check)) }
+    ensures holds { IfSome result (Holds (rows_of (found_of m.now))) }
+{
+    let (source, certs) = (text_of(m, "SOURCE")?, text_of(m, "CERTS")?);
     Some(Job::Check {
         source,
         certs,
-        workers: Workers::new(workers)?,
-        json: m.get_flag("json"),
+        workers: workers_of(m)?,
+        json: has_flag(m, "json"),
     })
+}
+
+fn conditions_job<'a>(m: &ArgMatches<'a>) -> Option<Job<'a>>
+    ensures command { IfSome result (λ job. command_of job ≡ Some (verb_name Verb.Conditions)) }
+    ensures holds { IfSome result (Holds (rows_of (found_of m.now))) }
+{
+    let source = text_of(m, "SOURCE")?;
+    Some(Job::Conditions { source })
 }
 
 fn find_job<'a>(m: &ArgMatches<'a>) -> Option<Job<'a>>
-    ensures { IfSome result (λ job. command_of job ≡ Some (verb_name Verb.Find)) }
+    ensures command { IfSome result (λ job. command_of job ≡ Some (verb_name Verb.Find)) }
+    ensures holds { IfSome result (Holds (rows_of (found_of m.now))) }
 {
-    let source = m.get_str("SOURCE")?;
-    let budget = m.get_one::<u64>("budget")?;
-    Some(Job::Find {
-        source,
-        budget: Budget::new(budget)?,
-    })
+    let source = text_of(m, "SOURCE")?;
+    let budget = budget_of(m)?;
+    Some(Job::Find { source, budget })
 }
 
-fn values_of<'a>(alloc: Global, m: &ArgMatches<'a>) -> Result<Vec<&'a str>, AllocError> {
+fn erase_job<'a>(m: &ArgMatches<'a>) -> Option<Job<'a>>
+    ensures command { IfSome result (λ job. command_of job ≡ Some (verb_name Verb.Erase)) }
+    ensures holds { IfSome result (Holds (rows_of (found_of m.now))) }
+{
+    let source = text_of(m, "SOURCE")?;
+    Some(Job::Erase { source })
+}
+
+fn migrate_job<'a>(m: &ArgMatches<'a>) -> Option<Job<'a>>
+    ensures command { IfSome result (λ job. command_of job ≡ Some (verb_name Verb.Migrate)) }
+    ensures holds { IfSome result (Holds (rows_of (found_of m.now))) }
+{
+    let certs = text_of(m, "CERTS")?;
+    Some(Job::Migrate { certs })
+}
+
+// The words that give variables their values.
+fn values_of<'a>(alloc: Global, m: &ArgMatches<'a>) -> Result<Vec<&'a str>, AllocError>
+    ensures { IfOk result (λ v. map (λ w. w.now) v.items ≡ texts_of (codes "NAME=INT") (rows_of (found_of m.now))) }
+{
     let mut values = Vec::new(alloc);
     if let Some(words) = m.get_strs("NAME=INT") {
-        for word in words {
-            values.push(*word)?;
-        }
+        values.extend_from_slice(words)?;
     }
     Ok(values)
 }
 
-fn run_job<'a>(alloc: Global, m: &ArgMatches<'a>) -> Result<Option<Job<'a>>, AllocError>
-    ensures { IfOk result (λ r. IfSome r (λ job. command_of job ≡ Some (verb_name Verb.Run))) }
+// The job of a run, with the words that give variables their values.
+fn run_with<'a>(m: &ArgMatches<'a>, values: Vec<&'a str>) -> Option<Job<'a>>
+    requires { map (λ w. w.now) values.items ≡ texts_of (codes "NAME=INT") (rows_of (found_of m.now)) }
+    ensures command { IfSome result (λ job. command_of job ≡ Some (verb_name Verb.Run)) }
+    ensures holds { IfSome result (Holds (rows_of (found_of m.now))) }
 {
-    let values = values_of(alloc, m)?;
-    let Some(source) = m.get_str("SOURCE") else {
-        return Ok(None);
-    };
-    let Some(limit) = m.get_one::<u32>("limit") else {
-        return Ok(None);
-    };
-    let Some(limit) = RunLimit::new(limit) else {
-        return Ok(None);
-    };
-    Ok(Some(Job::Run {
-        source,
-        limit,
-        erased: m.get_flag("erased"),
-        certs: m.get_str("certs"),
+    Some(Job::Run {
+        source: text_of(m, "SOURCE")?,
+        limit: limit_of(m)?,
+        erased: has_flag(m, "erased"),
+        certs: text_of(m, "certs"),
         values,
-    }))
+    })
+}
+
+fn run_job<'a>(alloc: Global, m: &ArgMatches<'a>) -> Result<Option<Job<'a>>, AllocError>
+    ensures command { IfOk result (λ r. IfSome r (λ job. command_of job ≡ Some (verb_name Verb.Run))) }
+    ensures holds { IfOk result (λ r. IfSome r (Holds (rows_of (found_of m.now)))) }
+{
+    Ok(run_with(m, values_of(alloc, m)?))
 }
 
 // The job of a command.
 fn job_of<'a>(alloc: Global, verb: Verb, m: &ArgMatches<'a>) -> Result<Option<Job<'a>>, AllocError>
-    ensures { IfOk result (λ r. IfSome r (λ job. command_of job ≡ Some (verb_name verb))) }
+    ensures command { IfOk result (λ r. IfSome r (λ job. command_of job ≡ Some (verb_name verb))) }
+    ensures holds { IfOk result (λ r. IfSome r (Holds (rows_of (found_of m.now)))) }
 {
     match verb {
         Verb::Check => Ok(check_job(m)),
-        Verb::Conditions => match m.get_str("SOURCE") {
-            Some(source) => Ok(Some(Job::Conditions { source })),
-            None => Ok(None),
-        },
+        Verb::Conditions => Ok(conditions_job(m)),
         Verb::Find => Ok(find_job(m)),
-        Verb::Erase => match m.get_str("SOURCE") {
-            Some(source) => Ok(Some(Job::Erase { source })),
-            None => Ok(None),
-        },
+        Verb::Erase => Ok(erase_job(m)),
         Verb::Run => run_job(alloc, m),
-        Verb::Migrate => match m.get_str("CERTS") {
-            Some(certs) => Ok(Some(Job::Migrate { certs })),
-            None => Ok(None),
-        },
+        Verb::Migrate => Ok(migrate_job(m)),
     }
 }
 
@@ -110,7 +159,8 @@ fn named_job<'a>(
     name: &str,
     matches: &ArgMatches<'a>,
 ) -> Result<Option<Job<'a>>, AllocError>
-    ensures { IfOk result (λ r. IfSome r (λ job. command_of job ≡ Some name.now)) }
+    ensures command { IfOk result (λ r. IfSome r (λ job. command_of job ≡ Some name.now)) }
+    ensures holds { IfOk result (λ r. IfSome r (Holds (rows_below (subcommand_rows_of matches.now)))) }
 {
     let Some(verb) = verb_of(name) else {
         return Ok(None);
@@ -135,7 +185,9 @@ fn usage_of(alloc: Global, error: &Error) -> Result<Usage, AllocError> {
 }
 
 // What the words say by the command line.
-fn matches_of<'a>(alloc: Global, words: &'a [String]) -> Result<ArgMatches<'a>, Usage> {
+fn matches_of<'a>(alloc: Global, words: &'a [String]) -> Result<ArgMatches<'a>, Usage>
+    ensures { IfOk result (λ m. subcommand_rows_of m ≡ subcommand_of og (map (λ w. string_bytes w) words.entry.now)) }
+{
     match program(alloc)?.try_get_matches_from(words) {
         Ok(matches) => Ok(matches),
         Err(error) => Err(usage_of(alloc, &error)?),

@@ -1,0 +1,72 @@
+-- The command line: the arguments of each command, as clap's specs describe them.
+use Rattle.std.specs.Prelude.{List, [], ◌∷◌, Some, pos, true, false, codes}
+use Rattle.clap.specs.Lexer.{usize_max}
+use Rattle.clap.specs.Words.{App, Rule, Shape, Text, new_rule}
+use Rattle.clap.specs.Simple.{new_shape}
+use Rattle.clap.specs.declared.builder.action.ArgAction.TheVariants.{Append, SetTrue}
+use Rattle.clap.specs.declared.builder.value_parser.ValueParser.{ValueParser}
+use Rattle.clap.specs.declared.builder.value_parser.ValueParser.TheVariants.{Signed, Unsigned}
+
+-- a word that must be given, in its place
+abbrev pub word : Text → Rule
+word name = record (new_rule name) { required = true }
+
+-- `--NAME`
+abbrev pub flag : Text → Rule
+flag name = record (new_rule name) { long = Some name; action = Some SetTrue }
+
+-- `--NAME N`, and this N where it is not given
+abbrev pub number : Text → Text → ValueParser → Rule
+number name default within = record (new_rule name) { long = Some name; value_names = 1; defaults = default ∷ []; parser = Some within }
+
+-- `--certs FILE`, which does not go with `--erased`
+abbrev pub certs_option : Rule
+certs_option = record (new_rule (codes "certs")) { long = Some (codes "certs"); value_names = 1; is_free = false }
+
+-- the words NAME=INT, as many as there are
+abbrev pub values : Rule
+values = record (new_rule (codes "NAME=INT")) { action = Some Append; range = Some (record { start_inclusive = 0; end_inclusive = usize_max }) }
+
+abbrev pub source : Rule
+source = word (codes "SOURCE")
+
+abbrev pub certs : Rule
+certs = word (codes "CERTS")
+
+abbrev pub workers : Rule
+workers = number (codes "workers") (codes "1") (Signed (pos 1) (pos 64))
+
+abbrev pub budget : Rule
+budget = number (codes "budget") (codes "100000") (Unsigned 1 1000000000)
+
+abbrev pub limit : Rule
+limit = number (codes "limit") (codes "1000") (Signed (pos 0) (pos 1000000))
+
+-- a command with these arguments
+abbrev pub command : Text → List Rule → Shape
+command name rules = record (new_shape name) { rules = rules }
+
+abbrev pub check : Shape
+check = command (codes "check") (source ∷ certs ∷ workers ∷ flag (codes "json") ∷ [])
+
+abbrev pub conditions : Shape
+conditions = command (codes "conditions") (source ∷ [])
+
+abbrev pub finder : Shape
+finder = command (codes "find") (source ∷ budget ∷ [])
+
+abbrev pub erase : Shape
+erase = command (codes "erase") (source ∷ [])
+
+abbrev pub run : Shape
+run = command (codes "run") (source ∷ limit ∷ flag (codes "erased") ∷ certs_option ∷ values ∷ [])
+
+abbrev pub migrate : Shape
+migrate = command (codes "migrate") (certs ∷ [])
+
+-- the program, which is given the words after its name
+abbrev pub og : App
+og = record {
+  top = record (new_shape (codes "og")) { is_leaf = false; no_binary_name = true; disable_help_subcommand = true; subcommand_required = true };
+  subs = check ∷ conditions ∷ finder ∷ erase ∷ run ∷ migrate ∷ [];
+}
