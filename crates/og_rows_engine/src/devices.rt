@@ -1,9 +1,5 @@
 //! Readers and writers, and devices that fail.
 
-use crate::cases::{Case, cases};
-use crate::not_safe::NOT_SAFE;
-use crate::refused::REFUSED;
-use crate::safe::SAFE;
 use og_engine::{EngineFault, Options, engine, engine_joined};
 use og_limits::Workers;
 use og_pool::OpenGate;
@@ -101,39 +97,6 @@ impl Write for Paper {
         }
         Ok(())
     }
-}
-
-// The input: between its two parts stands a line end, where the source has none at its end.
-fn joined_of(alloc: Global, case: Case<'_>) -> Result<String, Fail> {
-    let mut input = String::from_str(alloc, case.source)?;
-    if !case.source.ends_with('\n') {
-        input.push_str("\n")?;
-    }
-    input.push_str(case.certs)?;
-    Ok(input)
-}
-
-fn expect_joined<R: Threads + Wait + Sync + Abort>(
-    rt: &R,
-    alloc: Global,
-    cases: Vec<Case<'_>>,
-) -> Result<(), Fail> {
-    for case in cases {
-        let input = joined_of(alloc, case)?;
-        let mut reader = OneByOne::new(input.as_bytes(), 0);
-        let mut paper = Paper::new(alloc, 0);
-        let status = engine_joined(rt, alloc, &mut reader, &mut paper, OPTIONS, &OpenGate)?;
-        assert!(rt; case.prints(&paper.bytes, status), "{}", case.name);
-    }
-    Ok(())
-}
-
-#[test]
-fn joined_inputs(rt: HostRuntime) -> Result<(), Fail> {
-    let alloc = rt.alloc();
-    expect_joined(&rt, alloc, cases(&rt, alloc, SAFE, 14)?)?;
-    expect_joined(&rt, alloc, cases(&rt, alloc, NOT_SAFE, 18)?)?;
-    expect_joined(&rt, alloc, cases(&rt, alloc, REFUSED, 33)?)
 }
 
 const SOURCE: &[u8] = b"{true}\ncobegin\n{true} skip {true}\ncoend\n{true}\n";
@@ -234,14 +197,35 @@ fn failing_writers(rt: HostRuntime) {
     expect_failed_writes(&rt, rt.alloc());
 }
 
-fn expect_too_long<R: Threads + Wait + Sync + Abort>(rt: &R, alloc: Global) {
+// Checks from these readers, and expects the line of a refusal.
+fn expect_refused<R: Threads + Wait + Sync + Abort, S: Read, C: Read>(
+    rt: &R,
+    alloc: Global,
+    source: &mut S,
+    certs: &mut C,
+    line: &[u8],
+) {
     let mut paper = Paper::new(alloc, 0);
-    let got = check_from(rt, &mut Spaces, &mut OneByOne::new(CERTS, 0), &mut paper);
+    let got = check_from(rt, source, certs, &mut paper);
     assert!(rt; got == Ok(2));
-    assert!(rt; paper.bytes.as_slice() == b"refused: 4 SourceTooLong\n".as_slice());
+    assert!(rt; paper.bytes.as_slice() == line);
 }
 
 #[test]
 fn spaces_without_end(rt: HostRuntime) {
-    expect_too_long(&rt, rt.alloc());
+    let (mut source, mut certs) = (SOURCE, CERTS);
+    let line = b"refused: 4 SourceTooLong\n";
+    expect_refused(&rt, rt.alloc(), &mut Spaces, &mut certs, line);
+    let line = b"refused: 23 CertsTooLong\n";
+    expect_refused(&rt, rt.alloc(), &mut source, &mut Spaces, line);
+}
+
+// A source of as many spaces as a source may have.
+#[test]
+fn spaces_up_to_the_limit(rt: HostRuntime) -> Result<(), Fail> {
+    let spaces = vec![in rt.alloc(); b' '; 1_048_576]?;
+    let (mut source, mut certs) = (spaces.as_slice(), CERTS);
+    let line = b"refused: 7 Expected at 1:1\n";
+    expect_refused(&rt, rt.alloc(), &mut source, &mut certs, line);
+    Ok(())
 }

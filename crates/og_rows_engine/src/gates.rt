@@ -3,6 +3,7 @@
 use og_engine::{Options, checked};
 use og_limits::Workers;
 use og_pool::Gate;
+use og_samples::TWO_ADD;
 use std::alloc::Global;
 use std::process::Abort;
 use std::sync::Wait;
@@ -11,11 +12,7 @@ use std::test::Fail;
 use std::thread;
 use std::thread::Threads;
 
-// Two awaits that add 1 and 2: an outline with 12 conditions.
-const SOURCE: &str =
-    "var x;\n{x = 0}\ncobegin\n{x = 0 or x = 2}\nawait true then x := x + 1\n{x = 1 or x = 3}\n//\n{x = 0 or x = 1}\nawait true then x := x + 2\n{x = 2 or x = 3}\ncoend\n{x = 3}\n";
-
-// A check without certificates.
+// A check of an outline with 12 conditions, without certificates.
 fn check<G: Gate, R: Threads + Wait + Sync + Abort>(
     rt: &R,
     alloc: Global,
@@ -26,7 +23,7 @@ fn check<G: Gate, R: Threads + Wait + Sync + Abort>(
         workers: Workers::new(count).expect(rt, "from 1 to 64"),
         json: false,
     };
-    let answer = checked(rt, alloc, SOURCE.as_bytes(), b"og-cert 1\n", options, gate)?;
+    let answer = checked(rt, alloc, TWO_ADD.as_bytes(), b"og-cert 1\n", options, gate)?;
     assert_eq!(rt; answer.status, 1);
     Ok(())
 }

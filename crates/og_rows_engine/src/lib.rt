@@ -1,22 +1,14 @@
-//! Worked examples of the whole check: from the bytes of a source and of certificates to the bytes
-//! that are printed.
+//! Whole checks through the library: devices that fail, gates that see the workers, every front of a
+//! text, and certificates that are found and then checked. The cases of `og_cases` have the rest.
 //!
-//! There is nothing to run here but the tests. The examples are texts, which `cases` takes apart.
+//! There is nothing to run here but the tests.
 #![tactic(auto)]
 
 #[cfg(test)]
-mod cases;
-#[cfg(test)]
 mod devices;
 #[cfg(test)]
+mod finding;
+#[cfg(test)]
+mod fronts;
+#[cfg(test)]
 mod gates;
-#[cfg(test)]
-mod not_safe;
-#[cfg(test)]
-mod printed;
-#[cfg(test)]
-mod refused;
-#[cfg(test)]
-mod safe;
-#[cfg(test)]
-mod whole;

@@ -1,0 +1,46 @@
+//! Certificates that are found, checked again.
+
+use og_engine::{Options, checked, found};
+use og_limits::{Budget, Workers};
+use og_pool::OpenGate;
+use og_samples::{EQUAL_ADD, TWO_ADD};
+use std::alloc::Global;
+use std::process::Abort;
+use std::sync::Wait;
+use std::test::Fail;
+use std::thread::Threads;
+
+// What is found is checked again, and has this status.
+fn expect_found<R: Threads + Wait + Sync + Abort>(
+    rt: &R,
+    alloc: Global,
+    source: &str,
+    report: &str,
+    status: u8,
+) -> Result<(), Fail> {
+    let budget = Budget::new(100_000).expect(rt, "within its limit");
+    let certs = found(alloc, source.as_bytes(), budget)?;
+    assert_eq!(rt; certs.status, status);
+    let options = Options {
+        workers: Workers::new(2).expect(rt, "from 1 to 64"),
+        json: false,
+    };
+    let answer = checked(
+        rt,
+        alloc,
+        source.as_bytes(),
+        &certs.text,
+        options,
+        &OpenGate,
+    )?;
+    assert!(rt; answer.text.ends_with(report.as_bytes()));
+    Ok(())
+}
+
+#[test]
+fn certificates_that_are_found(rt: HostRuntime) -> Result<(), Fail> {
+    let report = "conditions: 12\nproved: 12\nsafe: yes\nunblocked: yes\n";
+    expect_found(&rt, rt.alloc(), TWO_ADD, report, 0)?;
+    let report = "conditions: 12\nproved: 9\nsafe: no\nunblocked: yes\n";
+    expect_found(&rt, rt.alloc(), EQUAL_ADD, report, 1)
+}
