@@ -15,6 +15,8 @@ mod laws;
 #[cfg(test)]
 mod outlines;
 #[cfg(test)]
+mod places;
+#[cfg(test)]
 mod resolving;
 #[cfg(test)]
 mod steps;
