@@ -1,0 +1,125 @@
+//! What commands answer, as texts.
+
+use og_engine::{Answer, EngineFault, Options, checked, engine, erased, found, listed, migrated};
+use og_limits::{Budget, Workers};
+use og_pool::{OpenGate, PoolFault};
+use og_samples::{ONE_SKIP, ONE_SKIP_CERTS, TOLD_ADD, TWO_ADD, TWO_ADD_CERTS};
+use std::alloc::Global;
+use std::io::{Error, ErrorKind, Write};
+use std::sync::Wait;
+use std::thread::Threads;
+
+// Whether an answer is this text with this status.
+fn is(answer: &Answer, text: &str, status: u8) -> bool {
+    answer.text.as_slice() == text.as_bytes() && answer.status == status
+}
+
+const REPORT: &str = "conditions: 12\nproved: 12\nsafe: yes\nunblocked: yes\n";
+
+const OPTIONS: Options = Options {
+    workers: Workers::ONE,
+    json: false,
+};
+
+pub(crate) fn is_checked<R: Threads + Wait + Sync>(
+    rt: &R,
+    alloc: Global,
+) -> Result<bool, PoolFault> {
+    let (source, certs) = (TWO_ADD.as_bytes(), TWO_ADD_CERTS.as_bytes());
+    let answer = checked(rt, alloc, source, certs, OPTIONS, &OpenGate)?;
+    Ok(is(&answer, REPORT, 0))
+}
+
+// Paper of fixed length, which asks for no memory.
+#[derive(Drop)]
+struct Sheet {
+    bytes: [u8; 64],
+    used: usize,
+}
+
+impl Write for Sheet {
+    fn write(&mut self, buf: &[u8]) -> Result<usize, Error> {
+        let Some(free) = self.bytes.get_mut(self.used..) else {
+            return Err(Error::from(ErrorKind::Other));
+        };
+        let count = buf.len().min(free.len());
+        free[..count].copy_from_slice(&buf[..count]);
+        self.used = self.used.saturating_add(count);
+        Ok(count)
+    }
+
+    fn flush(&mut self) -> Result<(), Error> {
+        Ok(())
+    }
+}
+
+// Where there is no answer nothing is written.
+fn of_engine(answer: Result<u8, EngineFault>, sheet: &Sheet) -> Result<bool, PoolFault> {
+    let written = sheet.bytes.get(..sheet.used).unwrap_or_default();
+    match answer {
+        Ok(status) => Ok(status == 0 && written == REPORT.as_bytes()),
+        Err(EngineFault::Memory) if written.is_empty() => Err(PoolFault::Memory),
+        Err(_) => Ok(false),
+    }
+}
+
+pub(crate) fn is_written<R: Threads + Wait + Sync>(
+    rt: &R,
+    alloc: Global,
+) -> Result<bool, PoolFault> {
+    let (mut source, mut certs) = (TWO_ADD.as_bytes(), TWO_ADD_CERTS.as_bytes());
+    let mut sheet = Sheet {
+        bytes: [0; 64],
+        used: 0,
+    };
+    let answer = engine(
+        rt,
+        alloc,
+        &mut source,
+        &mut certs,
+        &mut sheet,
+        OPTIONS,
+        &OpenGate,
+    );
+    of_engine(answer, &sheet)
+}
+
+const LISTED: &str = "\
+cond 1 start at 3:1
+  1: 1 <= 0
+cond 2 step at 3:8
+  1: 1 <= 0
+cond 3 end at 5:1
+  1: 1 <= 0
+cond 4 blocking at 2:1
+  1: 1 <= 0
+";
+
+pub(crate) fn is_listed(alloc: Global) -> Result<bool, PoolFault> {
+    Ok(is(&listed(alloc, ONE_SKIP.as_bytes())?, LISTED, 0))
+}
+
+pub(crate) fn is_found(alloc: Global) -> Result<bool, PoolFault> {
+    let Some(budget) = Budget::new(100_000) else {
+        return Ok(false);
+    };
+    Ok(is(
+        &found(alloc, ONE_SKIP.as_bytes(), budget)?,
+        ONE_SKIP_CERTS,
+        0,
+    ))
+}
+
+const ERASED: &str =
+    "var x;\ncobegin\n  await true then x := x + 1\n//\n  await true then x := x + 1\ncoend\n";
+
+pub(crate) fn is_erased(alloc: Global) -> Result<bool, PoolFault> {
+    Ok(is(&erased(alloc, TOLD_ADD.as_bytes())?, ERASED, 0))
+}
+
+const MIGRATED: &str =
+    "og-cert 2\ncond 1\nclose 1*1\ncond 2\nsame 1\ncond 3\nsame 1\ncond 4\nsame 1\n";
+
+pub(crate) fn is_migrated(alloc: Global) -> Result<bool, PoolFault> {
+    Ok(is(&migrated(alloc, ONE_SKIP_CERTS.as_bytes())?, MIGRATED, 0))
+}

@@ -1,0 +1,119 @@
+//! Calls, each made once or twice.
+
+use crate::answers::{is_checked, is_erased, is_found, is_listed, is_migrated, is_written};
+use crate::judged::{is_judged, is_told};
+use crate::runs::{is_proved_run, is_run};
+use crate::searched::{are_examined, are_found};
+use og_pool::PoolFault;
+use std::alloc::Global;
+use std::process::Abort;
+use std::sync::Wait;
+use std::thread::Threads;
+
+#[derive(Clone, Copy, Debug)]
+enum Call {
+    Judge,
+    Tell,
+    Check,
+    Write,
+    List,
+    Find,
+    Erase,
+    Migrate,
+    Run,
+    RunProved,
+    Examine,
+    FindAll,
+}
+
+// Whether the answer is right.
+fn is_right<R: Threads + Wait + Sync>(
+    rt: &R,
+    alloc: Global,
+    call: Call,
+) -> Result<bool, PoolFault> {
+    match call {
+        Call::Judge => is_judged(rt, alloc),
+        Call::Tell => is_told(rt, alloc),
+        Call::Check => is_checked(rt, alloc),
+        Call::Write => is_written(rt, alloc),
+        Call::List => is_listed(alloc),
+        Call::Find => is_found(alloc),
+        Call::Erase => is_erased(alloc),
+        Call::Migrate => is_migrated(alloc),
+        Call::Run => is_run(rt, alloc),
+        Call::RunProved => is_proved_run(rt, alloc),
+        Call::Examine => are_examined(alloc),
+        Call::FindAll => are_found(alloc),
+    }
+}
+
+// The answer is right, the first time or, where memory or a thread was refused, the second.
+fn expect_right<R: Threads + Wait + Sync + Abort>(rt: &R, alloc: Global, call: Call) {
+    let first = is_right(rt, alloc, call);
+    if first.is_err() {
+        assert!(rt; is_right(rt, alloc, call) == Ok(true));
+    } else {
+        assert!(rt; first == Ok(true));
+    }
+}
+
+#[test]
+fn judges(rt: HostRuntime) {
+    expect_right(&rt, rt.alloc(), Call::Judge);
+}
+
+#[test]
+fn tells(rt: HostRuntime) {
+    expect_right(&rt, rt.alloc(), Call::Tell);
+}
+
+#[test]
+fn checks(rt: HostRuntime) {
+    expect_right(&rt, rt.alloc(), Call::Check);
+}
+
+#[test]
+fn writes(rt: HostRuntime) {
+    expect_right(&rt, rt.alloc(), Call::Write);
+}
+
+#[test]
+fn lists(rt: HostRuntime) {
+    expect_right(&rt, rt.alloc(), Call::List);
+}
+
+#[test]
+fn finds(rt: HostRuntime) {
+    expect_right(&rt, rt.alloc(), Call::Find);
+}
+
+#[test]
+fn erases(rt: HostRuntime) {
+    expect_right(&rt, rt.alloc(), Call::Erase);
+}
+
+#[test]
+fn migrates(rt: HostRuntime) {
+    expect_right(&rt, rt.alloc(), Call::Migrate);
+}
+
+#[test]
+fn runs(rt: HostRuntime) {
+    expect_right(&rt, rt.alloc(), Call::Run);
+}
+
+#[test]
+fn runs_what_is_proved(rt: HostRuntime) {
+    expect_right(&rt, rt.alloc(), Call::RunProved);
+}
+
+#[test]
+fn examines(rt: HostRuntime) {
+    expect_right(&rt, rt.alloc(), Call::Examine);
+}
+
+#[test]
+fn finds_all(rt: HostRuntime) {
+    expect_right(&rt, rt.alloc(), Call::FindAll);
+}

@@ -1,0 +1,70 @@
+//! Searches of the conditions of an outline.
+
+use og_cond::{Condition, ConditionsError, conditions};
+use og_find::{Verdict, examine, find_all, has_all};
+use og_pool::PoolFault;
+use og_samples::{TWO_ADD, outline_of};
+use og_source::SourceError;
+use og_typed::Outline;
+use std::alloc::Global;
+
+const BUDGET: u64 = 100_000;
+
+// The outline; none where it is refused.
+fn outline(alloc: Global) -> Result<Option<Outline>, PoolFault> {
+    match outline_of(alloc, TWO_ADD) {
+        Ok(outline) => Ok(Some(outline)),
+        Err(SourceError::Memory) => Err(PoolFault::Memory),
+        Err(SourceError::Fault(_)) => Ok(None),
+    }
+}
+
+// Its conditions; none where there are too many.
+fn listed<'a>(
+    alloc: Global,
+    outline: &'a Outline,
+) -> Result<Option<Vec<Condition<'a>>>, PoolFault> {
+    match conditions(alloc, outline) {
+        Ok(list) => Ok(Some(list)),
+        Err(ConditionsError::Memory) => Err(PoolFault::Memory),
+        Err(ConditionsError::Fault(_)) => Ok(None),
+    }
+}
+
+// Whether each condition is true.
+fn all_true(alloc: Global, list: &[Condition]) -> Result<bool, PoolFault> {
+    for condition in list {
+        let Verdict::True(_) = examine(alloc, condition, BUDGET)? else {
+            return Ok(false);
+        };
+    }
+    Ok(list.len() == 12)
+}
+
+fn examined(alloc: Global, outline: &Outline) -> Result<bool, PoolFault> {
+    match listed(alloc, outline)? {
+        Some(list) => all_true(alloc, &list),
+        None => Ok(false),
+    }
+}
+
+pub(crate) fn are_examined(alloc: Global) -> Result<bool, PoolFault> {
+    match outline(alloc)? {
+        Some(outline) => examined(alloc, &outline),
+        None => Ok(false),
+    }
+}
+
+fn found(alloc: Global, outline: &Outline) -> Result<bool, PoolFault> {
+    match listed(alloc, outline)? {
+        Some(list) => Ok(has_all(&find_all(alloc, &list, BUDGET)?, 12)),
+        None => Ok(false),
+    }
+}
+
+pub(crate) fn are_found(alloc: Global) -> Result<bool, PoolFault> {
+    match outline(alloc)? {
+        Some(outline) => found(alloc, &outline),
+        None => Ok(false),
+    }
+}
