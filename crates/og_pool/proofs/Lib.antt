@@ -1,4 +1,2 @@
-pub mod Steps
-pub mod Telling
 pub mod Statuses
 pub mod Serving

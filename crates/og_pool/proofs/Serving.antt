@@ -1,5 +1,5 @@
 -- Whether a map that is kept serves for an action.
-use Rattle.std.proofs.Common.{◌≡◌, ◌↔◌, ℕ, List, Bool, true, false, IsTrue, slice_get, Option, Some, None, sym, ap, ◌∙◌, subst}
+use Rattle.std.proofs.Common.{◌≡◌, ◌↔◌, ℕ, List, Bool, IsTrue, slice_get, Option, Some, None, sym, ap, ◌∙◌, subst}
 use Rattle.og_subst.specs.Trees.{ActionTree, tree_body}
 use Rattle.og_subst.specs.Actions.{action_tree}
 use Rattle.og_subst.specs.Subst.{forward, values}

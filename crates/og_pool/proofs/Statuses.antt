@@ -1,6 +1,6 @@
 -- The status of a condition, by what is found of it.
 use Rattle.std.proofs.lemmas.Option.{slice_get_cases}
-use Rattle.std.proofs.Common.{◌≡◌, ℕ, zero, suc, ◌-◌, ◌<◌, ◌≤◌, ⊎_elim, arith, length, get_or, List, [], ◌∷◌, map, slice_get, Option, Some, None, Ok, Err, refl, sym, ap, ◌∙◌}
+use Rattle.std.proofs.Common.{◌≡◌, ℕ, zero, suc, ◌+◌, ◌-◌, ◌<◌, ◌≤◌, ⊎_elim, arith, length, get_or, List, [], ◌∷◌, map, slice_get, Option, Some, None, Ok, Err, refl, sym, ap, ◌∙◌}
 use Rattle.og_cond.specs.Condition as plain
 use Rattle.og_cond.specs.declared.condition.Condition.{Condition}
 use Rattle.og_cond.specs.Seen.{seen}
@@ -11,6 +11,8 @@ use Rattle.og_cert_text.specs.Files.{certificate_of}
 use Rattle.og_cert_text.specs.Shown.{shown}
 use Rattle.og_cert_text.specs.declared.file.CertFile.{CertFile}
 use Rattle.og_cert.specs.Faults.{first_fault}
+use Rattle.og_draws.specs.Answers.{AreAnswers}
+use Rattle.og_pool.specs.declared.status.Status.{Status}
 use Rattle.og_pool.specs.declared.status.Status.TheVariants as status
 use Rattle.og_pool.specs.Status.{by_fault, by_facts}
 use Rattle.og_pool.specs.Numbered.{by_condition, status_of}
@@ -54,3 +56,11 @@ some_condition cs n some few = ⊎_elim
     (λ (h : (x : Condition) × (n - 1 < length cs) × (slice_get cs (n - 1) ≡ Some x) × (get_or cs (n - 1) x ≡ x)). (h.0, h.2))
     (λ (h : (length cs ≤ n - 1) × (slice_get cs (n - 1) ≡ None)). let past = h.0 in absurd (omega arith))
     (slice_get_cases cs (n - 1)).1
+
+-- an answer for each condition, which may be its status alone
+pub statuses_of : (cs : List Condition) (file : CertFile) (v : List Status) → AreAnswers (length cs) (λ n s. s ≡ status_of cs file n) v
+    → (i : ℕ) → i < length cs → slice_get v i ≡ Some (status_of cs file (i + 1))
+statuses_of cs file v h i within = ⊎_elim
+    (λ (some : (x : Status) × (i < length v) × (slice_get v i ≡ Some x) × (get_or v i x ≡ x)). some.2 ∙ ap Some (h.1 i some.0 some.2))
+    (λ (none : (length v ≤ i) × (slice_get v i ≡ None)). let len = h.0 in let past = none.0 in absurd (omega (arith, len, past, within)))
+    (slice_get_cases v i).1

@@ -1,6 +1,4 @@
-pub mod Drawing
 pub mod Last
 pub mod Names
 pub mod Status
 pub mod Numbered
-pub mod Telling

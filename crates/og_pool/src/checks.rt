@@ -1,6 +1,6 @@
 //! The statuses of conditions, found by workers.
 
-ghost use Rattle.std.specs.Prelude.{◌≡◌, [], ◌^◌, ◌<◌, ◌≤◌, ◌-◌, ◌+◌, ◌↔◌, ℕ, length, IfOk, IfErr, IsTrue, Some, slice_get, vec_len};
+ghost use Rattle.std.specs.Prelude.{◌≡◌, ◌^◌, ◌<◌, ◌≤◌, ◌-◌, ◌+◌, ◌↔◌, ℕ, length, IfOk, IfErr, IsTrue, Some, slice_get, vec_len};
 ghost use Rattle.og_cond.specs.Seen.{seen};
 ghost use Rattle.og_facts.specs.Answer.{IsFacts, IsPrepared};
 ghost use Rattle.og_cert_text.specs.Plain.{plain_cert};
@@ -10,15 +10,13 @@ ghost use Rattle.og_pool.specs.Status.{by_fault};
 ghost use Rattle.og_pool.specs.Numbered.{status_of};
 ghost use Rattle.og_pool.specs.declared.fault.PoolFault.TheVariants.{Spawn};
 
-use crate::draws::{Drawer, Draws};
 use crate::fault::PoolFault;
 use crate::gate::Gate;
 use crate::status::Status;
-use crate::told::{Told, in_order};
-use crate::workers::{Numbered, Workers};
 use og_cert::{ReplayError, replay};
 use og_cert_text::{Cert, CertFile};
 use og_cond::Condition;
+use og_draws::{Numbered, answers};
 use og_facts::{FactList, FactsError, facts, facts_with, has_few_facts};
 use og_linear::FormError;
 use og_subst::{Action, ActionMap};
@@ -33,11 +31,12 @@ pub(crate) struct Last {
     map: ActionMap,
 }
 
-/// What the workers read.
+// What the workers read, and who is told of them.
 #[derive(Clone, Copy)]
-pub(crate) struct Checks<'a, 'c> {
-    pub(crate) conditions: &'a [Condition<'c>],
-    pub(crate) certs: &'a CertFile,
+struct Checks<'a, 'c, G> {
+    conditions: &'a [Condition<'c>],
+    certs: &'a CertFile,
+    gate: &'a G,
 }
 
 // The status by the certificate's replay.
@@ -66,7 +65,7 @@ fn unprepared(
     facts(alloc, condition)
 }
 
-impl<'a, 'c> Checks<'a, 'c> {
+impl<'a, 'c, G> Checks<'a, 'c, G> {
     // Whether the map that is kept is that of an action equal to this one.
     fn serves(&self, last: &Last, action: &Action) -> bool
         requires { IsLast self.now.conditions.now last.now }
@@ -132,30 +131,35 @@ impl<'a, 'c> Checks<'a, 'c> {
     }
 }
 
-impl<'a, 'c> Numbered for Checks<'a, 'c> {
-    ghost use Rattle.std.specs.Prelude.{length};
+impl<'a, 'c, G: Gate> Numbered for Checks<'a, 'c, G> {
+    ghost use Rattle.std.specs.Prelude.{◌≡◌, length};
+    ghost use Rattle.og_pool.specs.Last.{Keeps};
     ghost use Rattle.og_pool.specs.Numbered.{status_of};
+
+    type Answer = Status;
+
+    type Kept = Option<Last>;
 
     ghost count = { λ c. length c.conditions.now };
 
-    ghost status = { λ c. status_of c.conditions.now c.certs.now };
+    ghost may_answer = { λ c n s. s ≡ status_of c.conditions.now c.certs.now n };
 
-    fn work<G: Gate>(
+    ghost keeps = { λ c last. Keeps c.conditions.now last };
+
+    fn kept(&self) -> Option<Last> {
+        None
+    }
+
+    fn answer(
         &self,
         alloc: Global,
-        draws: &Draws,
-        mut drawer: Drawer,
-        gate: &G,
-    ) -> Result<(Drawer, Vec<Told>), AllocError> {
-        let mut told = Vec::new(alloc);
-        let mut last = None;
-        while let Some(number) = draws.draw(&mut drawer) {
-            gate.before(number);
-            let status = self.status(alloc, number, &mut last)?;
-            gate.after(number);
-            told.push(Told { number, status })?;
-        }
-        Ok((drawer, told))
+        number: u32,
+        last: &mut Option<Last>,
+    ) -> Result<Status, AllocError> {
+        self.gate.before(number);
+        let status = self.status(alloc, number, last)?;
+        self.gate.after(number);
+        Ok(status)
     }
 }
 
@@ -184,17 +188,11 @@ pub fn check_all<G: Gate, R: Threads + Wait + Sync>(
         × ((i : ℕ) → i < length conditions.now → slice_get v.items i ≡ Some (status_of conditions.now certs.now (i + 1)))) }
     ensures spawn { IfErr result (λ e. e ≡ Spawn → 1 < workers) }
 {
-    let count = conditions.len() as u32;
-    let checks = Checks { conditions, certs };
-    let (draws, drawer) = Draws::new(alloc, count, workers)?;
-    let drawers = draws.one_each(alloc, drawer, workers)?;
-    let shared = Workers {
-        alloc,
-        checks: &checks,
-        draws: &draws,
+    let checks = Checks {
+        conditions,
+        certs,
         gate,
     };
-    let (drawer, told) = shared.draw_all(rt, drawers)?;
-    draws.close(drawer);
-    Ok(in_order(alloc, &checks, told.as_slice(), count)?)
+    let statuses = answers(rt, alloc, &checks, conditions.len() as u32, workers)?;
+    Ok(statuses)
 }

@@ -2,16 +2,11 @@
 #![tactic(auto)]
 
 mod checks;
-mod draws;
 mod fault;
 mod gate;
-mod rule;
 mod status;
-mod told;
-mod workers;
 
 pub use checks::check_all;
-pub use draws::{Drawer, Draws};
 pub use fault::PoolFault;
 pub use gate::{Gate, OpenGate};
 pub use status::Status;

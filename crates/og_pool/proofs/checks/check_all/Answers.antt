@@ -1,12 +1,9 @@
-use Rattle.std.proofs.Common.{◌≡◌, ◌+◌, ◌-◌, ◌<◌, subst, arith}
-use Rattle.og_pool.specs.Telling.{Tells}
+use Rattle.std.proofs.Common.{arith}
+use Rattle.og_pool.proofs.Statuses.{statuses_of}
 use Rattle.og_pool.proofs.checks.check_all.Goals as goal
 
-pub in_order-requires-clause-all : goal.in_order-requires-clause-all
-in_order-requires-clause-all g c = λ n some less.
-    let done = c.in_ok-drawer.ensures.done.2 in
-    let count = c.in_ok-draws.ensures.draws.0 in
-    let below : n - 1 < c.in_ok-draws.draws.count = omega (arith, count) in
-    let once = c.close.ensures done.0 (n - 1) below in
-    let back : n - 1 + 1 ≡ n = omega arith in
-    rw c.as_slice.ensures.value (subst (Tells c.in_ok-drawer.told.items) back (done.2 (n - 1) below (omega (arith, once))))
+pub returns-clause-statuses : goal.returns-clause-statuses
+returns-clause-statuses g c =
+    let each = c.in_ok-statuses.ensures.answers in
+    let len = each.0 in
+    (omega (arith, len, c.in_ok-statuses.statuses.ok.0), statuses_of c.args.conditions.now c.args.certs.now c.in_ok-statuses.statuses.items each)

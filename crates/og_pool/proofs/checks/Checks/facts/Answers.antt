@@ -6,7 +6,7 @@ use Rattle.og_facts.specs.Answer.{IsPrepared}
 use Rattle.og_pool.proofs.checks.Checks.facts.Goals as goal
 
 pub returns-clause-keeps : goal.returns-clause-keeps
-returns-clause-keeps c =
+returns-clause-keeps g c =
     let its : Condition = get_or c.args.self.now.conditions.now c.args.index c.index-self-index.result in (
       its,
       slice_get-get_or c.args.self.now.conditions.now c.args.index c.index-self-index.result c.requires.within,

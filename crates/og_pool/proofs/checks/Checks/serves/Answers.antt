@@ -5,14 +5,14 @@ use Rattle.og_pool.proofs.Serving.{serves_exactly, serves_none, prepared_of_equa
 use Rattle.og_pool.proofs.checks.Checks.serves.Goals as goal
 
 pub returns-in-Some-clause-exact : goal.returns-in-Some-clause-exact
-returns-in-Some-clause-exact c =
+returns-in-Some-clause-exact g c =
     let cs = c.args.self.now.conditions.now in
     let i = c.args.last.now.index in
     let its : Condition = get_or cs i c.index-self-last.result in
     serves_exactly cs i its c.in-Some.before c.args.action.now c.equals.result (slice_get-get_or cs i c.index-self-last.result (slice_get_within cs i c.requires.0 c.requires.1)) c.in-Some.is c.equals.ensures
 
 pub returns-in-Some-clause-map : goal.returns-in-Some-clause-map
-returns-in-Some-clause-map c = λ yes.
+returns-in-Some-clause-map g c = λ yes.
     let cs = c.args.self.now.conditions.now in
     let i = c.args.last.now.index in
     let its : Condition = get_or cs i c.index-self-last.result in
@@ -20,7 +20,7 @@ returns-in-Some-clause-map c = λ yes.
     c.requires.1 c.in-Some.is c.requires.2 (c.equals.ensures.0 yes)
 
 pub returns-in-None-clause-exact : goal.returns-in-None-clause-exact
-returns-in-None-clause-exact c =
+returns-in-None-clause-exact g c =
     let cs = c.args.self.now.conditions.now in
     let i = c.args.last.now.index in
     let its : Condition = get_or cs i c.index-self-last.result in

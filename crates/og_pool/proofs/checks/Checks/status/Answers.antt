@@ -10,10 +10,10 @@ use Rattle.og_pool.proofs.Statuses.{is_missing, is_too_large, is_replayed, some_
 use Rattle.og_pool.proofs.checks.Checks.status.Goals as goal
 
 pub returns-in_default-clause-status : goal.returns-in_default-clause-status
-returns-in_default-clause-status c = is_missing _ _ c.args.number (sym c.in_default.ensures.found)
+returns-in_default-clause-status g c = is_missing _ _ c.args.number (sym c.in_default.ensures.found)
 
 pub returns-in-Ok-clause-status : goal.returns-in-Ok-clause-status
-returns-in-Ok-clause-status c =
+returns-in-Ok-clause-status g c =
     let its = some_condition c.args.self.now.conditions.now c.args.number c.requires.within.0 c.requires.within.1 in
     let made = c.in-Ok.ensures.facts its.0 its.1 in
     let proof = plain_cert c.in-Some.cert.now in
@@ -22,7 +22,7 @@ returns-in-Ok-clause-status c =
     subst (λ (t : Status). IfOk c.replayed.result (λ s. s ≡ t)) is c.replayed.ensures
 
 pub returns-in-Err-Fault-clause-status : goal.returns-in-Err-Fault-clause-status
-returns-in-Err-Fault-clause-status c =
+returns-in-Err-Fault-clause-status g c =
     let its = some_condition c.args.self.now.conditions.now c.args.number c.requires.within.0 c.requires.within.1 in
     is_too_large _ _ c.args.number its.0 (plain_cert c.in-Some.cert.now) c.in-Err-Fault.field-0-0 its.1 (sym c.in-Some.ensures.found)
     (subst (λ (e : FactsError). IsFacts (seen its.0) (Err e)) c.in-Err-Fault.field-0-is (c.in-Err-Fault.ensures.facts its.0 its.1))
