@@ -3,12 +3,13 @@
 ghost use Rattle.std.specs.Prelude.{◌≡◌, length, true, IfOk, IfSome, OnSome, IsTrue, vec_len};
 ghost use Rattle.og_cond.specs.Valid.{IsValid};
 ghost use Rattle.og_cond.specs.Seen.{seen};
+ghost use Rattle.og_linear.specs.Linear.{IsProper};
 ghost use Rattle.og_facts.specs.Truth.{all_true_at};
 ghost use Rattle.og_cert_text.specs.Plain.{plain_cert};
 ghost use Rattle.og_find.specs.Found.{Certifies, Closes, IsVerdict, IsVerdictOn};
 
 use crate::reading::part_of;
-use crate::truth::{NESTING_LIMIT, all_true};
+use crate::truth::{NESTING_LIMIT, all_true, are_proper};
 use crate::verdict::Verdict;
 use og_cert::{Cert, ReplayError, replay};
 use og_cond::Condition;
@@ -55,11 +56,21 @@ fn state_of(alloc: Global, list: &FactList, model: &Model) -> Result<Option<Stat
         None => return Ok(None),
     };
     let state = State::new(values);
-    if all_true(list.as_slice(), &state, NESTING_LIMIT) {
+    if is_model(list, &state) {
         Ok(Some(state))
     } else {
         Ok(None)
     }
+}
+
+// Whether the state has a value for each variable, and all facts are true in it.
+fn is_model(list: &FactList, state: &State) -> bool
+    ensures range { IsProper state.now }
+    ensures model { IsTrue result → (length state.now ≡ list.now.variables) × (all_true_at state.now list.now.facts ≡ true) }
+{
+    are_proper(state.as_slice());
+    state.as_slice().len() == list.variables() as usize
+        && all_true(list.as_slice(), state, NESTING_LIMIT)
 }
 
 /// The verdict on a condition with these facts, by a search and a check of what it claims.
@@ -105,6 +116,37 @@ pub fn examine(alloc: Global, condition: &Condition, budget: u64) -> Result<Verd
         }
         Err(FactsError::Memory) => Err(AllocError),
         Err(FactsError::Fault(_)) => Ok(Verdict::Open),
+    }
+}
+
+// Whether a check shows that the verdict is true of a condition with these facts.
+fn is_verdict_on(alloc: Global, list: &FactList, verdict: &Verdict) -> Result<bool, AllocError>
+    ensures { IfOk result (λ yes. IsTrue yes → IsVerdictOn list.now verdict.now) }
+{
+    match verdict {
+        Verdict::True(cert) => is_closing(alloc, list, cert),
+        Verdict::False(state) => Ok(is_model(list, state)),
+        Verdict::Open => Ok(true),
+    }
+}
+
+/// Whether the verdict is true of the condition, as far as a check shows it: a replay of the
+/// certificate, or the values of the facts in the state.
+///
+/// # Errors
+///
+/// `AllocError` where an allocation was refused.
+pub fn is_verdict(
+    alloc: Global,
+    condition: &Condition,
+    verdict: &Verdict,
+) -> Result<bool, AllocError>
+    ensures { IfOk result (λ yes. IsTrue yes → IsVerdict (seen condition.now) verdict.now) }
+{
+    match facts(alloc, condition) {
+        Ok(list) => is_verdict_on(alloc, &list, verdict),
+        Err(FactsError::Memory) => Err(AllocError),
+        Err(FactsError::Fault(_)) => Ok(false),
     }
 }
 

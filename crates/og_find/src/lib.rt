@@ -12,6 +12,7 @@ mod truth;
 mod verdict;
 
 pub use all::{find_all, has_all};
-pub use finding::{examine, find};
+pub use finding::{examine, find, is_verdict};
 pub use og_cert::Cert;
+pub use reading::{has_equal_facts, mark};
 pub use verdict::Verdict;

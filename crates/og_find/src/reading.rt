@@ -1,7 +1,8 @@
 //! The facts of a condition as a search takes them.
 
 use crate::truth::NESTING_LIMIT;
-use og_facts::{Fact, FactList};
+use og_cond::Condition;
+use og_facts::{Fact, FactList, FactsError, facts};
 use og_search::Part;
 use std::alloc::{AllocError, Global};
 
@@ -32,4 +33,45 @@ fn read_parts(alloc: Global, parts: &[Vec<Fact>], depth: u32) -> Result<Vec<Part
 /// The facts as a search takes them. Choices that have 200 choices round them are left out.
 pub(crate) fn part_of(alloc: Global, list: &FactList) -> Result<Part, AllocError> {
     read_facts(alloc, list.as_slice(), NESTING_LIMIT)
+}
+
+// The facts of the condition as a search takes them, if it has facts.
+fn part_of_condition(alloc: Global, condition: &Condition) -> Result<Option<Part>, AllocError> {
+    match facts(alloc, condition) {
+        Ok(list) => Ok(Some(part_of(alloc, &list)?)),
+        Err(FactsError::Memory) => Err(AllocError),
+        Err(FactsError::Fault(_)) => Ok(None),
+    }
+}
+
+/// A mark of the condition's facts: the same for equal facts, and seldom for others. None where it
+/// has no facts, since they are too many or too large.
+///
+/// # Errors
+///
+/// `AllocError` where an allocation was refused.
+pub fn mark(alloc: Global, condition: &Condition) -> Result<Option<u128>, AllocError> {
+    match part_of_condition(alloc, condition)? {
+        Some(part) => Ok(Some(part.mark())),
+        None => Ok(None),
+    }
+}
+
+/// Whether the conditions have equal facts.
+///
+/// # Errors
+///
+/// `AllocError` where an allocation was refused.
+pub fn has_equal_facts(
+    alloc: Global,
+    condition: &Condition,
+    other: &Condition,
+) -> Result<bool, AllocError> {
+    let Some(part) = part_of_condition(alloc, condition)? else {
+        return Ok(false);
+    };
+    match part_of_condition(alloc, other)? {
+        Some(other) => Ok(part.is_same(&other)),
+        None => Ok(false),
+    }
 }

@@ -1,7 +1,7 @@
 //! Whether facts are true in a state.
 
 ghost use Rattle.std.specs.Prelude.{◌≡◌, ◌+ℤ◌, ◌*ℤ◌, map, true, IsTrue, IfSome};
-ghost use Rattle.og_linear.specs.Linear.{val, value_at};
+ghost use Rattle.og_linear.specs.Linear.{val, value_at, IsProper};
 ghost use Rattle.og_facts.specs.Answer.{shown};
 ghost use Rattle.og_facts.specs.Facts.{Atom, parts_of_list};
 ghost use Rattle.og_facts.specs.Truth.{fact_true, some_part_true, all_true_at};
@@ -12,6 +12,15 @@ use og_linear::{Form, State};
 
 /// A choice that has so many choices round it counts as false.
 pub(crate) const NESTING_LIMIT: u32 = 200;
+
+/// A law: values are in the range of `i64`.
+pub(crate) fn are_proper(values: &[i64])
+    ensures { IsProper values.now }
+{
+    for value in values {
+        let _value = *value;
+    }
+}
 
 // The value of the variable, 0 where it has none.
 fn value_at(state: &State, var: u32) -> i64

@@ -7,3 +7,5 @@
 mod searching;
 #[cfg(test)]
 mod sources;
+#[cfg(test)]
+mod workers;

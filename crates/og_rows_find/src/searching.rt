@@ -10,12 +10,12 @@ use std::alloc::{AllocError, Global};
 use std::process::Abort;
 use std::test::Fail;
 
-const BUDGET: u64 = 100_000;
+pub(crate) const BUDGET: u64 = 100_000;
 
 const GREATEST_BUDGET: u64 = 1_000_000_000;
 
 // A letter for the verdict: true, false or open.
-fn letter(verdict: &Verdict) -> u8 {
+pub(crate) fn letter(verdict: &Verdict) -> u8 {
     match verdict {
         Verdict::True(_) => b't',
         Verdict::False(_) => b'f',
@@ -98,7 +98,7 @@ fn source_has(alloc: Global, source: &str, budget: u64, expected: &str) -> Resul
     told
 }
 
-const VERDICTS: &[(&str, u64, &str)] = &[
+pub(crate) const VERDICTS: &[(&str, u64, &str)] = &[
     (TWO_ADD, BUDGET, "tttttttttttt"),
     (EQUAL_ADD, BUDGET, "ttttttftftft"),
     (TOLD_ADD, BUDGET, "tttttttttttt"),

@@ -1,0 +1,16 @@
+//! The finder over all conditions of an outline, by workers in threads.
+//!
+//! Conditions with equal facts are searched once. What is handed out was checked, by replay or by
+//! evaluation; that equal facts are searched once, and that several threads work, is only tested.
+#![tactic(auto)]
+
+mod checking;
+mod filing;
+mod finder;
+mod findings;
+mod groups;
+mod marking;
+mod searching;
+
+pub use finder::{examine_all, find_all};
+pub use findings::Findings;
