@@ -3,7 +3,8 @@
 //!
 //! Each test makes a call and, where that says that memory was refused or that a thread could not be
 //! started, makes it again; then the answer has to be right. `tools/refuse-memory` runs the tests
-//! with each request refused in turn, so a test asks for memory only within such a call.
+//! with each request refused in turn, so a test asks for memory only within such a call, and
+//! `tools/refuse-threads` with each start of a thread.
 #![tactic(auto)]
 
 #[cfg(test)]

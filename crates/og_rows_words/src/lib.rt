@@ -4,6 +4,8 @@
 #![tactic(auto)]
 
 #[cfg(test)]
+mod given;
+#[cfg(test)]
 mod inputs;
 #[cfg(test)]
 mod words;
