@@ -5,7 +5,7 @@ use og_samples::{
     AUXILIARY_LOOP, EACH_WAITS, ONE_BELOW, TWO_ADD, UP_AND_DOWN, WITH_MAIN, outline_of,
 };
 use og_step::{Moment, StartError, start};
-use og_typed::Outline;
+use og_typed::{Assert, Outline};
 use std::alloc::{AllocError, Global};
 use std::process::Abort;
 use std::test::Fail;
@@ -167,6 +167,59 @@ fn expect_end_of<R: Abort>(rt: &R, alloc: Global, outline: &Outline) -> Result<(
 fn ends_after_the_last_step(rt: HostRuntime) -> Result<(), Fail> {
     let outline = outline_of(rt.alloc(), ONE_BELOW)?;
     let told = expect_end_of(&rt, rt.alloc(), &outline);
+    drop(outline);
+    told
+}
+
+// An assertion `true`, or the constant of an equation's form, which is left minus right.
+fn of_assert(alloc: Global, assertion: &Assert) -> Result<String, AllocError> {
+    match assertion {
+        Assert::True => String::from_str(alloc, "true"),
+        Assert::Eq(form) => {
+            let constant = form.offset();
+            format!(in alloc; "{constant}")
+        }
+        _ => String::from_str(alloc, "another"),
+    }
+}
+
+// The current assertions of these processes.
+fn current_of(alloc: Global, moment: &Moment<'_>, processes: &[u32]) -> Result<String, AllocError> {
+    let mut out = String::new(alloc);
+    for p in processes {
+        let one = of_assert(alloc, moment.current(*p))?;
+        out.push_str(one.as_str())?;
+        out.push(' ')?;
+    }
+    Ok(out)
+}
+
+// The process that moves next, and the current assertions of both after its move: that of the next
+// statement, the last one of a process that has ended, and the postcondition at the main's end.
+const CURRENT: &[(u32, &str)] = &[(1, "0 -1 "), (0, "-1 -1 "), (1, "-1 -2 ")];
+
+fn expect_current<R: Abort>(rt: &R, alloc: Global, moment: &mut Moment<'_>) -> Result<(), Fail> {
+    let before = current_of(alloc, moment, &[0, 1])?;
+    assert_eq!(rt; before.as_str(), "0 true ");
+    for (process, expected) in CURRENT {
+        let _turn = moment.step(*process);
+        let got = current_of(alloc, moment, &[0, 1])?;
+        assert_eq!(rt; got.as_str(), *expected);
+    }
+    Ok(())
+}
+
+fn expect_current_of<R: Abort>(rt: &R, alloc: Global, outline: &Outline) -> Result<(), Fail> {
+    let mut moment = begun(alloc, outline, [7].as_slice())?;
+    let told = expect_current(rt, alloc, &mut moment);
+    drop(moment);
+    told
+}
+
+#[test]
+fn current_assertions(rt: HostRuntime) -> Result<(), Fail> {
+    let outline = outline_of(rt.alloc(), WITH_MAIN)?;
+    let told = expect_current_of(&rt, rt.alloc(), &outline);
     drop(outline);
     told
 }

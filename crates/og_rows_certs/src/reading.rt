@@ -309,6 +309,10 @@ fn file_of(alloc: Global, text: &str) -> Result<CertFile, Fail> {
 
 const TEXTS: &[&str] = &[
     FOUR,
+    concat!(
+        "og-cert 1|cond 1|split 3 2|close 1*2 1*4|close 1*1 1*4|cond 2|split 3 2|close 1*2 1*4|close 1*1 1*4|",
+        "cond 3|split 3 2|close 1*2 1*4|close 1*1 1*4|cond 4|split 3 2|close 1*2 1*4|close 1*1 1*4|cond 5|close 1*3|",
+    ),
     "og-cert 1|cond 1|split 3 2|close 1*2 1*4|close 1*1 1*4|cond 5|close 1*3|",
     "og-cert 1|cond 3|sum 1*1 2*l0|cut 4 2|branch -3 1*v0 -7*v12|close 1*5|split 2 3|close 1*6|close 0*1|sum 1*1|close 1*7|",
 ];

@@ -1,5 +1,7 @@
 //! Readers and writers, and devices that fail.
 
+ghost use Rattle.std.specs.Prelude.{◌≡◌, IfOk};
+
 use og_engine::{EngineFault, Options, engine, engine_joined};
 use og_limits::Workers;
 use og_pool::OpenGate;
@@ -15,11 +17,12 @@ const OPTIONS: Options = Options {
     json: false,
 };
 
-// Gives one byte at each read, and fails at the read of this number, counted from 1.
+// Gives one byte at each read, and fails in this way at the read of this number, counted from 1.
 #[derive(Drop)]
 struct OneByOne<'a> {
     bytes: &'a [u8],
     fails_at: usize,
+    kind: ErrorKind,
     reads: usize,
 }
 
@@ -28,6 +31,16 @@ impl<'a> OneByOne<'a> {
         OneByOne {
             bytes,
             fails_at,
+            kind: ErrorKind::Other,
+            reads: 0,
+        }
+    }
+
+    fn interrupted(bytes: &'a [u8], at: usize) -> OneByOne<'a> {
+        OneByOne {
+            bytes,
+            fails_at: at,
+            kind: ErrorKind::Interrupted,
             reads: 0,
         }
     }
@@ -37,7 +50,7 @@ impl<'a> Read for OneByOne<'a> {
     fn read(&mut self, buffer: &mut [u8]) -> Result<usize, Error> {
         self.reads = self.reads.saturating_add(1);
         if self.reads == self.fails_at {
-            return Err(Error::from(ErrorKind::Other));
+            return Err(Error::from(self.kind));
         }
         if buffer.is_empty() || self.bytes.is_empty() {
             return Ok(0);
@@ -59,11 +72,34 @@ impl Read for Spaces {
     }
 }
 
-// Takes one byte at each write, and fails at the write of this number, counted from 1; or at the flush.
+// Is interrupted at each read.
+#[derive(Drop)]
+struct Restless {
+    reads: u64,
+}
+
+impl Read for Restless {
+    fn read(&mut self, _buffer: &mut [u8]) -> Result<usize, Error> {
+        self.reads = self.reads.saturating_add(1);
+        Err(Error::from(ErrorKind::Interrupted))
+    }
+}
+
+// What a writer does in place of its work.
+#[derive(Clone, Copy)]
+enum Lapse {
+    Fails,
+    IsInterrupted,
+    TakesNothing,
+}
+
+// Takes one byte at each write, but for a lapse at the write of this number, counted from 1; or fails
+// at the flush.
 #[derive(Drop)]
 struct Paper {
     bytes: Vec<u8>,
     fails_at: usize,
+    lapse: Lapse,
     writes: usize,
     fails_flush: bool,
 }
@@ -73,8 +109,20 @@ impl Paper {
         Paper {
             bytes: Vec::new(alloc),
             fails_at,
+            lapse: Lapse::Fails,
             writes: 0,
             fails_flush: false,
+        }
+    }
+
+    // What the lapse answers.
+    fn lapsed(&self) -> Result<usize, Error>
+        ensures { IfOk result (λ count. count ≡ 0) }
+    {
+        match self.lapse {
+            Lapse::Fails => Err(Error::from(ErrorKind::Other)),
+            Lapse::IsInterrupted => Err(Error::from(ErrorKind::Interrupted)),
+            Lapse::TakesNothing => Ok(0),
         }
     }
 }
@@ -85,7 +133,10 @@ impl Write for Paper {
         let Some(first) = buf.first() else {
             return Ok(0);
         };
-        if self.writes == self.fails_at || self.bytes.push(*first).is_err() {
+        if self.writes == self.fails_at {
+            return self.lapsed();
+        }
+        if self.bytes.push(*first).is_err() {
             return Err(Error::from(ErrorKind::Other));
         }
         Ok(1)
@@ -165,14 +216,60 @@ fn failing_readers(rt: HostRuntime) -> Result<(), Fail> {
     expect_failed_joined_reads(&rt, rt.alloc())
 }
 
+// The whole report comes from these readers.
+fn expect_report<R: Threads + Wait + Sync + Abort>(
+    rt: &R,
+    alloc: Global,
+    mut source: OneByOne<'_>,
+    mut certs: OneByOne<'_>,
+) {
+    let mut paper = Paper::new(alloc, 0);
+    assert!(rt; check_from(rt, &mut source, &mut certs, &mut paper) == Ok(0));
+    assert!(rt; paper.bytes.as_slice() == REPORT);
+}
+
+fn expect_interrupted_reads<R: Threads + Wait + Sync + Abort>(rt: &R, alloc: Global) {
+    for at in 1..SOURCE.len() + 2 {
+        let source = OneByOne::interrupted(SOURCE, at);
+        expect_report(rt, alloc, source, OneByOne::new(CERTS, 0));
+    }
+    for at in 1..CERTS.len() + 2 {
+        let certs = OneByOne::interrupted(CERTS, at);
+        expect_report(rt, alloc, OneByOne::new(SOURCE, 0), certs);
+    }
+}
+
+// A read that is interrupted is tried again, whichever it is.
+#[test]
+fn interrupted_readers(rt: HostRuntime) {
+    expect_interrupted_reads(&rt, rt.alloc());
+}
+
+fn expect_given_up<R: Threads + Wait + Sync + Abort>(rt: &R, alloc: Global) {
+    let (mut source, mut certs) = (Restless { reads: 0 }, OneByOne::new(CERTS, 0));
+    let mut paper = Paper::new(alloc, 0);
+    let got = check_from(rt, &mut source, &mut certs, &mut paper);
+    assert!(rt; got == Err(EngineFault::ReadFailed));
+    assert!(rt; source.reads == 100_000_000);
+    assert!(rt; certs.reads == 0 && paper.writes == 0);
+}
+
+// A reader that gives nothing and does not end is read 100,000,000 times.
+#[test]
+fn a_reader_without_end(rt: HostRuntime) {
+    expect_given_up(&rt, rt.alloc());
+}
+
 fn write_to<R: Threads + Wait + Sync>(rt: &R, paper: &mut Paper) -> Result<u8, EngineFault> {
     let (mut source, mut certs) = (OneByOne::new(SOURCE, 0), OneByOne::new(CERTS, 0));
     check_from(rt, &mut source, &mut certs, paper)
 }
 
-fn expect_failed_writes<R: Threads + Wait + Sync + Abort>(rt: &R, alloc: Global) {
+// Each write lapses in turn, and what was written stays.
+fn expect_lapsed_writes<R: Threads + Wait + Sync + Abort>(rt: &R, alloc: Global, lapse: Lapse) {
     for fails_at in 1..REPORT.len() + 1 {
         let mut paper = Paper::new(alloc, fails_at);
+        paper.lapse = lapse;
         let got = write_to(rt, &mut paper);
         assert!(rt; got == Err(EngineFault::WriteFailed), "at {fails_at}");
         let written = paper.bytes.as_slice();
@@ -181,6 +278,10 @@ fn expect_failed_writes<R: Threads + Wait + Sync + Abort>(rt: &R, alloc: Global)
             "at {fails_at}"
         );
     }
+}
+
+fn expect_failed_writes<R: Threads + Wait + Sync + Abort>(rt: &R, alloc: Global) {
+    expect_lapsed_writes(rt, alloc, Lapse::Fails);
     let mut paper = Paper::new(alloc, REPORT.len() + 1);
     assert!(rt; write_to(rt, &mut paper) == Ok(0));
     assert!(rt; paper.bytes.as_slice() == REPORT);
@@ -195,6 +296,27 @@ fn expect_failed_writes<R: Threads + Wait + Sync + Abort>(rt: &R, alloc: Global)
 #[test]
 fn failing_writers(rt: HostRuntime) {
     expect_failed_writes(&rt, rt.alloc());
+}
+
+// A writer that takes nothing has failed.
+#[test]
+fn writers_that_take_nothing(rt: HostRuntime) {
+    expect_lapsed_writes(&rt, rt.alloc(), Lapse::TakesNothing);
+}
+
+fn expect_interrupted_writes<R: Threads + Wait + Sync + Abort>(rt: &R, alloc: Global) {
+    for at in 1..REPORT.len() + 1 {
+        let mut paper = Paper::new(alloc, at);
+        paper.lapse = Lapse::IsInterrupted;
+        assert!(rt; write_to(rt, &mut paper) == Ok(0), "at {at}");
+        assert!(rt; paper.bytes.as_slice() == REPORT, "at {at}");
+    }
+}
+
+// A write that is interrupted is tried again.
+#[test]
+fn interrupted_writers(rt: HostRuntime) {
+    expect_interrupted_writes(&rt, rt.alloc());
 }
 
 // Checks from these readers, and expects the line of a refusal.

@@ -3,12 +3,35 @@
 use og_engine::{Options, checked, found};
 use og_limits::{Budget, Workers};
 use og_pool::OpenGate;
-use og_samples::{EQUAL_ADD, TWO_ADD};
+use og_samples::{EQUAL_ADD, TWO_ADD, alike};
 use std::alloc::Global;
 use std::process::Abort;
 use std::sync::Wait;
 use std::test::Fail;
 use std::thread::Threads;
+
+// The whole report of a check by so many workers.
+fn expect_report<R: Threads + Wait + Sync + Abort>(
+    rt: &R,
+    alloc: Global,
+    source: &str,
+    certs: &[u8],
+    workers: u32,
+    report: &str,
+) -> Result<(), Fail> {
+    let options = Options {
+        workers: Workers::new(workers).expect(rt, "from 1 to 64"),
+        json: false,
+    };
+    let answer = checked(rt, alloc, source.as_bytes(), certs, options, &OpenGate)?;
+    assert_eq!(rt;
+        answer.text.as_slice(),
+        report.as_bytes(),
+        "by {workers} workers"
+    );
+    assert_eq!(rt; answer.status, 0);
+    Ok(())
+}
 
 // What is found is checked again, and has this status.
 fn expect_found<R: Threads + Wait + Sync + Abort>(
@@ -43,4 +66,27 @@ fn certificates_that_are_found(rt: HostRuntime) -> Result<(), Fail> {
     expect_found(&rt, rt.alloc(), TWO_ADD, report, 0)?;
     let report = "conditions: 12\nproved: 9\nsafe: no\nunblocked: yes\n";
     expect_found(&rt, rt.alloc(), EQUAL_ADD, report, 1)
+}
+
+fn expect_proved<R: Threads + Wait + Sync + Abort>(
+    rt: &R,
+    alloc: Global,
+    source: &str,
+    report: &str,
+) -> Result<(), Fail> {
+    let budget = Budget::new(100_000).expect(rt, "within its limit");
+    let certs = found(alloc, source.as_bytes(), budget)?;
+    assert_eq!(rt; certs.status, 0);
+    for workers in [1, 2, 64] {
+        expect_report(rt, alloc, source, &certs.text, workers, report)?;
+    }
+    Ok(())
+}
+
+// Eight processes of 40 statements: each condition is proved, by any number of workers.
+#[test]
+fn certificates_of_many_conditions(rt: HostRuntime) -> Result<(), Fail> {
+    let source = alike(rt.alloc(), 2, 38, 7)?;
+    let report = "conditions: 4938\nproved: 4938\nsafe: yes\nunblocked: yes\n";
+    expect_proved(&rt, rt.alloc(), source.as_str(), report)
 }
