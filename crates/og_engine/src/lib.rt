@@ -16,4 +16,4 @@ pub use fault::{EngineFault, WriteFailed};
 pub use inputs::{read_certificates, read_joined, read_source};
 pub use making::{found, migrated};
 pub use og_answer::Answer;
-pub use writing::write_answer;
+pub use writing::{write_answer, write_text};

@@ -31,8 +31,12 @@ fn write_once<W: Write>(out: &mut W, rest: &[u8]) -> Result<usize, WriteFailed>
     }
 }
 
-// Writes a text, by as many writes as it takes.
-fn write_text<W: Write>(out: &mut W, text: &[u8]) -> Result<(), WriteFailed>
+/// Writes a text, by as many writes as it takes.
+///
+/// # Errors
+///
+/// The writer failed; a front of the text may have been written then.
+pub fn write_text<W: Write>(out: &mut W, text: &[u8]) -> Result<(), WriteFailed>
     ensures written { OnOk result (Appends (W.contents out.old) (W.contents out.new) text.now) }
     ensures unfinished { IfErr result (λ _. AppendsFront (W.contents out.old) (W.contents out.new) text.now) }
 {

@@ -15,7 +15,7 @@ use Rattle.og_words.specs.declared.job.Job.TheVariants as jobs
 use Rattle.og_words.specs.declared.job.Usage.{Usage}
 use Rattle.og_program.specs.Named.{source_in}
 use Rattle.og_program.specs.Told.{fault_text, bad_value_text, Complains, IsSilent, Fails, TellsAnswer, TellsBadValue, TellsReply}
-use Rattle.og_program.specs.Served.{Checks, Gives, Answers, Does, Leaves, Refuses, EndsJob}
+use Rattle.og_program.specs.Served.{Checks, Gives, Answers, Does, Leaves, StartsThreads, Refuses, EndsJob}
 use Rattle.og_program.specs.declared.ended.Ended.{Ended}
 
 -- what holds of the job that was read holds where one was read
@@ -41,64 +41,79 @@ check_does files input source certs workers json out out_after status h =
 -- a status, or a fault
 ended_by : (files : List ℕ → Option (List ℕ)) (input : Option (List ℕ)) (job : Job) (out out_after err err_after : Option (List ℕ)) (ended : Ended) (r : Result ℕ EngineFault)
     → IfOk r (Does files input job out out_after) → IfErr r (λ e. e ≢ faults.WriteFailed → Keeps out out_after)
-    → IfErr r (λ e. e ≡ faults.WriteFailed → Leaves files input job out out_after)
+    → IfErr r (λ e. e ≡ faults.WriteFailed → Leaves files input job out out_after) → IfErr r (λ e. e ≡ faults.Spawn → StartsThreads files input job)
     → IfOk r (λ status. (ended.status ≡ status) × IsSilent err err_after ended) → IfErr r (λ fault. Complains (fault_text fault) 4 err err_after ended)
     → EndsJob files input job out out_after err err_after ended
-ended_by files input job out out_after err err_after ended (Ok status) does unwritten unfinished ok wrong =
+ended_by files input job out out_after err err_after ended (Ok status) does unwritten unfinished wants ok wrong =
     inl (subst (Does files input job out out_after) (sym ok.0) does, ok.1)
-ended_by files input job out out_after err err_after ended (Err fault) does unwritten unfinished ok wrong = inr (inr (fault, unfinished, (unwritten, wrong)))
+ended_by files input job out out_after err err_after ended (Err fault) does unwritten unfinished wants ok wrong = inr (inr (fault, unfinished, wants, (unwritten, wrong)))
 
 pub finished : (files : List ℕ → Option (List ℕ)) (input : Option (List ℕ)) (job known : Job) (out out_after err err_after : Option (List ℕ)) (ended : Ended) (r : Result ℕ EngineFault)
     → job ≡ known → IfOk r (Does files input known out out_after) → IfErr r (λ e. e ≢ faults.WriteFailed → Keeps out out_after)
-    → IfErr r (λ e. e ≡ faults.WriteFailed → Leaves files input known out out_after)
+    → IfErr r (λ e. e ≡ faults.WriteFailed → Leaves files input known out out_after) → IfErr r (λ e. e ≡ faults.Spawn → StartsThreads files input known)
     → IfOk r (λ status. (ended.status ≡ status) × IsSilent err err_after ended) → IfErr r (λ fault. Complains (fault_text fault) 4 err err_after ended)
     → EndsJob files input job out out_after err err_after ended
-finished files input job known out out_after err err_after ended r is does unwritten unfinished ok wrong =
-    subst (λ (j : Job). EndsJob files input j out out_after err err_after ended) (sym is) (ended_by files input known out out_after err err_after ended r does unwritten unfinished ok wrong)
+finished files input job known out out_after err err_after ended r is does unwritten unfinished wants ok wrong =
+    subst (λ (j : Job). EndsJob files input j out out_after err err_after ended) (sym is) (ended_by files input known out out_after err err_after ended r does unwritten unfinished wants ok wrong)
+
+-- what never comes has any reason
+pub absent : {A : Type 0} (P : Type 0) (r : Result A EngineFault) → IfErr r (λ e. e ≢ faults.Spawn) → IfErr r (λ e. e ≡ faults.Spawn → P)
+absent P (Ok a) not = tt
+absent P (Err e) not = λ is. absurd (not is)
 
 -- memory that runs out is no failed write
 memory_is_not_written : faults.Memory ≡ faults.WriteFailed → ⊥
 memory_is_not_written e = cc
 
+-- nor is it, or a failed write, a thread that is wanting
+memory_is_no_thread : faults.Memory ≡ faults.Spawn → ⊥
+memory_is_no_thread e = cc
+
+write_is_no_thread : faults.WriteFailed ≡ faults.Spawn → ⊥
+write_is_no_thread e = cc
+
 -- an answer, or a fault
 answered : (files : List ℕ → Option (List ℕ)) (input : Option (List ℕ)) (job : Job) (out out_after err err_after : Option (List ℕ)) (ended : Ended) (P : Answer → Type 0) (r : Result Answer EngineFault)
-    → ((Q : List ℕ → ℕ → Type 0) → Gives P Q → Answers files input job Q) → IfOk r P → IfErr r (λ e. e ≢ faults.WriteFailed)
+    → ((Q : List ℕ → ℕ → Type 0) → Gives P Q → Answers files input job Q) → IfOk r P → IfErr r (λ e. e ≢ faults.WriteFailed) → IfErr r (λ e. e ≡ faults.Spawn → StartsThreads files input job)
     → IfOk r (λ a. TellsAnswer a out out_after err err_after ended) → IfErr r (λ fault. Fails fault out out_after err err_after ended)
     → EndsJob files input job out out_after err err_after ended
-answered files input job out out_after err err_after ended P (Ok a) gives is unwritten (inl t) wrong =
+answered files input job out out_after err err_after ended P (Ok a) gives is unwritten wants (inl t) wrong =
     inl (gives (λ text told. Appends out out_after text × (ended.status ≡ told)) (a, is, (t.0, t.1)), t.2)
-answered files input job out out_after err err_after ended P (Ok a) gives is unwritten (inr f) wrong =
-    inr (inr (faults.WriteFailed, (λ _. gives (λ text told. AppendsFront out out_after text) (a, is, f.0)), f.1))
-answered files input job out out_after err err_after ended P (Err fault) gives is unwritten told wrong = inr (inr (fault, (λ e. absurd (unwritten e)), wrong))
+answered files input job out out_after err err_after ended P (Ok a) gives is unwritten wants (inr f) wrong =
+    inr (inr (faults.WriteFailed, (λ _. gives (λ text told. AppendsFront out out_after text) (a, is, f.0)), (λ e. absurd (write_is_no_thread e)), f.1))
+answered files input job out out_after err err_after ended P (Err fault) gives is unwritten wants told wrong = inr (inr (fault, (λ e. absurd (unwritten e)), wants, wrong))
 
 pub told : (files : List ℕ → Option (List ℕ)) (input : Option (List ℕ)) (job known : Job) (out out_after err err_after : Option (List ℕ)) (ended : Ended) (P : Answer → Type 0) (r : Result Answer EngineFault)
-    → job ≡ known → ((Q : List ℕ → ℕ → Type 0) → Gives P Q → Answers files input known Q) → IfOk r P → IfErr r (λ e. e ≢ faults.WriteFailed)
+    → job ≡ known → ((Q : List ℕ → ℕ → Type 0) → Gives P Q → Answers files input known Q) → IfOk r P → IfErr r (λ e. e ≢ faults.WriteFailed) → IfErr r (λ e. e ≢ faults.Spawn)
     → IfOk r (λ a. TellsAnswer a out out_after err err_after ended) → IfErr r (λ fault. Fails fault out out_after err err_after ended)
     → EndsJob files input job out out_after err err_after ended
-told files input job known out out_after err err_after ended P r is gives answer unwritten ok wrong =
-    subst (λ (j : Job). EndsJob files input j out out_after err err_after ended) (sym is) (answered files input known out out_after err err_after ended P r gives answer unwritten ok wrong)
+told files input job known out out_after err err_after ended P r is gives answer unwritten threadless ok wrong =
+    subst (λ (j : Job). EndsJob files input j out out_after err err_after ended) (sym is)
+    (answered files input known out out_after err err_after ended P r gives answer unwritten (absent (StartsThreads files input known) r threadless) ok wrong)
 
 -- a word that is refused, or a fault
 refused : (files : List ℕ → Option (List ℕ)) (input : Option (List ℕ)) (job : Job) (out out_after err err_after : Option (List ℕ)) (ended : Ended) (word : List ℕ)
     → Refuses files input job (bad_value_text word) → Keeps out out_after → TellsBadValue word err err_after ended → EndsJob files input job out out_after err err_after ended
 refused files input job out out_after err err_after ended word bad keeps (inl t) = inr (inl (bad_value_text word, bad, keeps, t))
-refused files input job out out_after err err_after ended word bad keeps (inr t) = inr (inr (faults.Memory, (λ e. absurd (memory_is_not_written e)), ((λ _. keeps), t)))
+refused files input job out out_after err err_after ended word bad keeps (inr t) = inr (inr (faults.Memory, (λ e. absurd (memory_is_not_written e)), (λ e. absurd (memory_is_no_thread e)), ((λ _. keeps), t)))
 
 run_ended : (files : List ℕ → Option (List ℕ)) (input : Option (List ℕ)) (job : Job) (out out_after err err_after : Option (List ℕ)) (ended : Ended) (R : Reply → Type 0) (r : Result Reply EngineFault)
     → ((Q : List ℕ → ℕ → Type 0) → Gives (λ a. R (replies.Answer a)) Q → Answers files input job Q)
     → ((word : Bor (List ℕ)) → R (replies.BadValue word) → Refuses files input job (bad_value_text word.now)) → IfOk r R → IfErr r (λ e. e ≢ faults.WriteFailed)
+    → IfErr r (λ e. e ≡ faults.Spawn → StartsThreads files input job)
     → IfOk r (λ a. TellsReply a out out_after err err_after ended) → IfErr r (λ fault. Fails fault out out_after err err_after ended)
     → EndsJob files input job out out_after err err_after ended
-run_ended files input job out out_after err err_after ended R (Ok (replies.Answer a)) gives refuses is unwritten t wrong =
-    answered files input job out out_after err err_after ended (λ a. R (replies.Answer a)) (Ok a) gives is tt t tt
-run_ended files input job out out_after err err_after ended R (Ok (replies.BadValue word)) gives refuses is unwritten t wrong =
+run_ended files input job out out_after err err_after ended R (Ok (replies.Answer a)) gives refuses is unwritten wants t wrong =
+    answered files input job out out_after err err_after ended (λ a. R (replies.Answer a)) (Ok a) gives is tt tt t tt
+run_ended files input job out out_after err err_after ended R (Ok (replies.BadValue word)) gives refuses is unwritten wants t wrong =
     refused files input job out out_after err err_after ended word.now (refuses word is) t.0 t.1
-run_ended files input job out out_after err err_after ended R (Err fault) gives refuses is unwritten t wrong = inr (inr (fault, (λ e. absurd (unwritten e)), wrong))
+run_ended files input job out out_after err err_after ended R (Err fault) gives refuses is unwritten wants t wrong = inr (inr (fault, (λ e. absurd (unwritten e)), wants, wrong))
 
 pub replied : (files : List ℕ → Option (List ℕ)) (input : Option (List ℕ)) (job known : Job) (out out_after err err_after : Option (List ℕ)) (ended : Ended) (R : Reply → Type 0) (r : Result Reply EngineFault)
     → job ≡ known → ((Q : List ℕ → ℕ → Type 0) → Gives (λ a. R (replies.Answer a)) Q → Answers files input known Q)
     → ((word : Bor (List ℕ)) → R (replies.BadValue word) → Refuses files input known (bad_value_text word.now)) → IfOk r R → IfErr r (λ e. e ≢ faults.WriteFailed)
+    → IfErr r (λ e. e ≡ faults.Spawn → StartsThreads files input known)
     → IfOk r (λ a. TellsReply a out out_after err err_after ended) → IfErr r (λ fault. Fails fault out out_after err err_after ended)
     → EndsJob files input job out out_after err err_after ended
-replied files input job known out out_after err err_after ended R r is gives refuses ran unwritten ok wrong =
-    subst (λ (j : Job). EndsJob files input j out out_after err err_after ended) (sym is) (run_ended files input known out out_after err err_after ended R r gives refuses ran unwritten ok wrong)
+replied files input job known out out_after err err_after ended R r is gives refuses ran unwritten wants ok wrong =
+    subst (λ (j : Job). EndsJob files input j out out_after err err_after ended) (sym is) (run_ended files input known out out_after err err_after ended R r gives refuses ran unwritten wants ok wrong)

@@ -1,5 +1,5 @@
 -- What the program does for a job, by its files and its input.
-use Rattle.std.specs.Prelude.{◌≡◌, ◌⊎◌, ℕ, Bool, true, false, ◌||◌, List, Option, None, Some, Result, Ok, Err, IfOk, IfSome, map, string_bytes, ⊤}
+use Rattle.std.specs.Prelude.{◌≡◌, ◌⊎◌, ◌<◌, ℕ, Bool, true, false, not, ◌||◌, List, Option, None, Some, Result, Ok, Err, IfOk, IfErr, IfSome, map, string_bytes, ⊤}
 use Rattle.std.specs.Borrow.{Bor}
 use Rattle.std.specs.Io.KnownBytes.{Appends, Keeps}
 use Rattle.og_answer.specs.declared.answer.Answer.{Answer}
@@ -17,7 +17,7 @@ use Rattle.og_input.specs.Joined.{IsSplit}
 use Rattle.og_judge.specs.Proven.{IsProvenSource}
 use Rattle.og_judge.specs.NeverStuck.{IsNeverStuckSource}
 use Rattle.og_report.specs.Yes.{SaysUnblocked}
-use Rattle.og_running.specs.Running.{IsRan, IsRanProved}
+use Rattle.og_running.specs.Running.{IsRan, IsRanProved, HasStart, HasProvedStart}
 use Rattle.og_running.specs.declared.reply.Reply.{Reply}
 use Rattle.og_running.specs.declared.reply.Reply.TheVariants as replies
 use Rattle.og_words.specs.Jobs.{IsAsked}
@@ -25,7 +25,7 @@ use Rattle.og_words.specs.declared.job.Job.{Job}
 use Rattle.og_words.specs.declared.job.Job.TheVariants as jobs
 use Rattle.og_words.specs.declared.job.Usage.{Usage}
 use Rattle.og_words.specs.declared.job.Usage.TheVariants as usages
-use Rattle.og_program.specs.Named.{source_in, lacks_source}
+use Rattle.og_program.specs.Named.{source_in, is_file, lacks_source}
 use Rattle.og_program.specs.Told.{bad_value_text, Complains, IsSilent, Fails, FailsToWrite}
 use Rattle.og_program.specs.declared.ended.Ended.{Ended}
 
@@ -73,6 +73,16 @@ lacks missing (jobs.Erase source) = lacks_source missing source.now
 lacks missing (jobs.Run source limit erased certs values) = lacks_source missing source.now
 lacks missing (jobs.Migrate certs) = missing certs.now
 
+-- whether the job is told to read standard input, which else is left as it is
+abbrev pub reads_input : Job → Bool
+reads_input jobs.Joined = true
+reads_input (jobs.Check source certs workers json) = not (is_file source.now)
+reads_input (jobs.Conditions source) = not (is_file source.now)
+reads_input (jobs.Find source budget) = not (is_file source.now)
+reads_input (jobs.Erase source) = not (is_file source.now)
+reads_input (jobs.Run source limit erased certs values) = not (is_file source.now)
+reads_input (jobs.Migrate certs) = false
+
 -- the text that says why a job cannot be done: a word of a run gives no value
 abbrev pub Refuses : (List ℕ → Option (List ℕ)) → Option (List ℕ) → Job → List ℕ → Type 0
 Refuses files input jobs.Joined text = ⊥
@@ -84,13 +94,29 @@ Refuses files input (jobs.Run source limit erased certs values) text =
     (word : Bor (List ℕ)) × RanAs files (source_in files input source.now) limit erased certs (map (λ w. w.now) values.items) (replies.BadValue word) × (text ≡ bad_value_text word.now)
 Refuses files input (jobs.Migrate certs) text = ⊥
 
+-- a thread can be wanting for a run: its values are a start, of what its certificates prove safe where they are given
+abbrev pub StartsAs : (List ℕ → Option (List ℕ)) → Option (List ℕ) → Bool → Option (Bor (List ℕ)) → List (List ℕ) → Type 0
+StartsAs files source erased None words = IfSome source (λ s. HasStart erased (source_of s) words)
+StartsAs files source erased (Some certs) words = IfSome source (λ s. IfSome (files certs.now) (λ c. HasProvedStart (source_of s) (certs_of c) words))
+
+-- a thread can be wanting for a job: for a check by two workers or more, and for such a run
+abbrev pub StartsThreads : (List ℕ → Option (List ℕ)) → Option (List ℕ) → Job → Type 0
+StartsThreads files input jobs.Joined = ⊥
+StartsThreads files input (jobs.Check source certs workers json) = 1 < workers
+StartsThreads files input (jobs.Conditions source) = ⊥
+StartsThreads files input (jobs.Find source budget) = ⊥
+StartsThreads files input (jobs.Erase source) = ⊥
+StartsThreads files input (jobs.Run source limit erased certs values) = StartsAs files (source_in files input source.now) erased certs (map (λ w. w.now) values.items)
+StartsThreads files input (jobs.Migrate certs) = ⊥
+
 -- how the program ends where it is given a job: with the job's answer, with a word that is refused, or with a fault;
--- a failed write leaves a front of the answer
+-- a failed write leaves a front of the answer, and a thread is wanting only where the job has one started
 abbrev pub EndsJob : (List ℕ → Option (List ℕ)) → Option (List ℕ) → Job → Option (List ℕ) → Option (List ℕ) → Option (List ℕ) → Option (List ℕ) → Ended → Type 0
 EndsJob files input job out out_after err err_after ended =
     (Does files input job out out_after ended.status × IsSilent err err_after ended)
     ⊎ ((text : List ℕ) × Refuses files input job text × Keeps out out_after × Complains text 3 err err_after ended)
-    ⊎ ((fault : EngineFault) × (fault ≡ faults.WriteFailed → Leaves files input job out out_after) × Fails fault out out_after err err_after ended)
+    ⊎ ((fault : EngineFault) × (fault ≡ faults.WriteFailed → Leaves files input job out out_after) × (fault ≡ faults.Spawn → StartsThreads files input job)
+    × Fails fault out out_after err err_after ended)
 
 -- how it ends where the words ask for help or are wrong, or memory ran out
 abbrev pub EndsUsage : Usage → Option (List ℕ) → Option (List ℕ) → Option (List ℕ) → Option (List ℕ) → Ended → Type 0
@@ -127,10 +153,12 @@ IsNeverStuckIn files input before after (jobs.Run source limit erased certs valu
 IsNeverStuckIn files input before after (jobs.Migrate certs) = ⊤
 
 -- how the program ends where it is given words: as what they ask for ends
-pub record EndsWords (words : List (List ℕ)) (files : List ℕ → Option (List ℕ)) (missing : List ℕ → Bool) (input out out_after err err_after : Option (List ℕ)) (ended : Ended) : Type 0 where
+pub record EndsWords (words : List (List ℕ)) (files : List ℕ → Option (List ℕ)) (missing : List ℕ → Bool) (input input_after out out_after err err_after : Option (List ℕ)) (ended : Ended) : Type 0 where
   pub asked : Result Job Usage
   pub is : IsAsked words asked
   pub ends : Ends files input asked out out_after err err_after ended
   pub sound : IfOk asked (λ job. ended.status ≡ 0 → IsProvenIn files input job)
   pub lacking : IfOk asked (λ job. lacks missing job ≡ true → Fails faults.ReadFailed out out_after err err_after ended)
   pub unblocked : IfOk asked (λ job. ended.status ≡ 0 → IsNeverStuckIn files input out out_after job)
+  pub kept : IfOk asked (λ job. reads_input job ≡ false → input_after ≡ input)
+  pub unread : IfErr asked (λ _. input_after ≡ input)

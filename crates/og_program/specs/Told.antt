@@ -1,5 +1,5 @@
 -- What is written of an answer, a fault or wrong words, and how the program ends.
-use Rattle.std.specs.Prelude.{◌≡◌, ◌≢◌, ◌⊎◌, ℕ, true, List, ◌++◌, Option, codes}
+use Rattle.std.specs.Prelude.{◌≡◌, ◌≢◌, ◌⊎◌, ℕ, Bool, true, false, List, ◌++◌, Option, codes}
 use Rattle.std.specs.Io.KnownBytes.{Appends, Keeps}
 use Rattle.og_answer.specs.declared.answer.Answer.{Answer}
 use Rattle.og_engine.specs.Unfinished.{AppendsFront}
@@ -18,9 +18,14 @@ fault_text faults.WriteFailed = codes "og: write failed\n"
 abbrev pub bad_value_text : List ℕ → List ℕ
 bad_value_text word = codes "bad value: " ++ word ++ codes "\n"
 
--- the status is this one; the text goes to the end of what standard error holds, where it could be written
+-- the text goes to the end of what is held, or a front of it where it could not be written whole
+abbrev pub IsWritten : Bool → List ℕ → Option (List ℕ) → Option (List ℕ) → Type 0
+IsWritten true text before after = Appends before after text
+IsWritten false text before after = AppendsFront before after text
+
+-- the status is this one, and the text goes to standard error
 abbrev pub Complains : List ℕ → ℕ → Option (List ℕ) → Option (List ℕ) → Ended → Type 0
-Complains text status before after ended = (ended.status ≡ status) × (ended.told ≡ true → Appends before after text)
+Complains text status before after ended = (ended.status ≡ status) × IsWritten ended.told text before after
 
 -- standard error gets nothing
 abbrev pub IsSilent : Option (List ℕ) → Option (List ℕ) → Ended → Type 0

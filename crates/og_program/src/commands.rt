@@ -4,7 +4,7 @@ ghost use Rattle.std.specs.Prelude.{◌≡◌, ◌≢◌, true, Err, IfErr, IfOk
 ghost use Rattle.og_engine.specs.Commands.{IsListed, IsErased};
 ghost use Rattle.og_engine.specs.Inputs.{source_of, certs_of};
 ghost use Rattle.og_engine.specs.Making.{IsFound, IsMigrated};
-ghost use Rattle.og_program.specs.Named.{source_in, lacks_source};
+ghost use Rattle.og_program.specs.Named.{source_in, is_file, lacks_source};
 
 use crate::files::Files;
 use crate::reading::{certificate_bytes, source_bytes};
@@ -23,7 +23,9 @@ pub(crate) fn conditions<F: Files, I: Read>(
 ) -> Result<Answer, EngineFault>
     ensures answer { IfOk result (λ answer. IfSome (source_in (F.contents files.now) (I.remaining input.old) name.now) (λ s. IsListed (source_of s) answer)) }
     ensures fault { IfErr result (λ e. e ≢ EngineFault.WriteFailed) }
+    ensures spawn { IfErr result (λ e. e ≢ EngineFault.Spawn) }
     ensures missing { lacks_source (F.is_missing files.now) name.now ≡ true → result ≡ Err EngineFault.ReadFailed }
+    ensures kept { is_file name.now ≡ true → I.remaining input.new ≡ I.remaining input.old }
 {
     let source = source_bytes(alloc, files, name, input)?;
     Ok(listed(alloc, &source)?)
@@ -38,7 +40,9 @@ pub(crate) fn erase<F: Files, I: Read>(
 ) -> Result<Answer, EngineFault>
     ensures answer { IfOk result (λ answer. IfSome (source_in (F.contents files.now) (I.remaining input.old) name.now) (λ s. IsErased (source_of s) answer)) }
     ensures fault { IfErr result (λ e. e ≢ EngineFault.WriteFailed) }
+    ensures spawn { IfErr result (λ e. e ≢ EngineFault.Spawn) }
     ensures missing { lacks_source (F.is_missing files.now) name.now ≡ true → result ≡ Err EngineFault.ReadFailed }
+    ensures kept { is_file name.now ≡ true → I.remaining input.new ≡ I.remaining input.old }
 {
     let source = source_bytes(alloc, files, name, input)?;
     Ok(erased(alloc, &source)?)
@@ -54,7 +58,9 @@ pub(crate) fn find<F: Files, I: Read>(
 ) -> Result<Answer, EngineFault>
     ensures answer { IfOk result (λ answer. IfSome (source_in (F.contents files.now) (I.remaining input.old) name.now) (λ s. IsFound (source_of s) answer)) }
     ensures fault { IfErr result (λ e. e ≢ EngineFault.WriteFailed) }
+    ensures spawn { IfErr result (λ e. e ≢ EngineFault.Spawn) }
     ensures missing { lacks_source (F.is_missing files.now) name.now ≡ true → result ≡ Err EngineFault.ReadFailed }
+    ensures kept { is_file name.now ≡ true → I.remaining input.new ≡ I.remaining input.old }
 {
     let source = source_bytes(alloc, files, name, input)?;
     Ok(found(alloc, &source, budget)?)
@@ -64,6 +70,7 @@ pub(crate) fn find<F: Files, I: Read>(
 pub(crate) fn migrate<F: Files>(alloc: Global, files: &F, name: &str) -> Result<Answer, EngineFault>
     ensures answer { IfOk result (λ answer. IfSome (F.contents files.now name.now) (λ c. IsMigrated (certs_of c) answer)) }
     ensures fault { IfErr result (λ e. e ≢ EngineFault.WriteFailed) }
+    ensures spawn { IfErr result (λ e. e ≢ EngineFault.Spawn) }
     ensures missing { F.is_missing files.now name.now ≡ true → result ≡ Err EngineFault.ReadFailed }
 {
     let certs = certificate_bytes(alloc, files, name)?;

@@ -1,6 +1,6 @@
 //! Checks and runs, by threads, memory and files.
 
-ghost use Rattle.std.specs.Prelude.{◌≡◌, ◌≢◌, ◌||◌, true, false, map, Err, IfOk, IfErr, IfSome};
+ghost use Rattle.std.specs.Prelude.{◌≡◌, ◌≢◌, ◌<◌, ◌||◌, true, false, map, Err, IfOk, IfErr, IfSome};
 ghost use Rattle.std.specs.Io.KnownBytes.{Keeps};
 ghost use Rattle.og_engine.specs.Answers.{Writes, WritesJoined};
 ghost use Rattle.og_engine.specs.NeverStuck.{HasNeverStuckSource};
@@ -12,8 +12,8 @@ ghost use Rattle.og_judge.specs.Proven.{IsProvenSource};
 ghost use Rattle.og_judge.specs.NeverStuck.{IsNeverStuckSource};
 ghost use Rattle.og_report.specs.Yes.{SaysUnblocked};
 ghost use Rattle.og_running.specs.Running.{IsRan, IsRanProved};
-ghost use Rattle.og_program.specs.Named.{source_in, lacks_source};
-ghost use Rattle.og_program.specs.Served.{RanAs};
+ghost use Rattle.og_program.specs.Named.{source_in, is_file, lacks_source};
+ghost use Rattle.og_program.specs.Served.{RanAs, StartsAs};
 
 use crate::files::Files;
 use crate::reading::{certificate_bytes, open, source_bytes};
@@ -46,6 +46,7 @@ impl<'r, F: Files, H: Threads + Wait + Sync> Program<'r, F, H> {
         ensures sound { IfOk result (λ status. IfSome (I.remaining input.old) (λ i. status ≡ 0 → HasProvenSource (joined_of i))) }
         ensures unblocked { IfOk result (λ status. IfSome (I.remaining input.old) (λ i. status ≡ 0
             → Wrote (SaysUnblocked false) (O.contents out.old) (O.contents out.new) → HasNeverStuckSource (joined_of i))) }
+        ensures spawn { IfErr result (λ e. e ≢ EngineFault.Spawn) }
         ensures unwritten { IfErr result (λ e. e ≢ EngineFault.WriteFailed → Keeps (O.contents out.old) (O.contents out.new)) }
         ensures unfinished { IfErr result (λ e. e ≡ EngineFault.WriteFailed → IfSome (I.remaining input.old) (λ i. WritesJoinedFront false (joined_of i) (O.contents out.old) (O.contents out.new))) }
     {
@@ -73,6 +74,7 @@ impl<'r, F: Files, H: Threads + Wait + Sync> Program<'r, F, H> {
         ensures unfinished { IfErr result (λ e. e ≡ EngineFault.WriteFailed → IfSome (R.remaining source.old) (λ s. IfSome (F.contents self.now.files.now certs.now) (λ c.
             WritesFront options.json (source_of s) (certs_of c) (O.contents out.old) (O.contents out.new)))) }
         ensures missing { F.is_missing self.now.files.now certs.now ≡ true → result ≡ Err EngineFault.ReadFailed }
+        ensures spawn { IfErr result (λ e. e ≡ EngineFault.Spawn → 1 < options.workers) }
     {
         let mut certs = open(self.files, certs)?;
         engine(
@@ -98,6 +100,8 @@ impl<'r, F: Files, H: Threads + Wait + Sync> Program<'r, F, H> {
         ensures unfinished { IfErr result (λ e. e ≡ EngineFault.WriteFailed → IfSome (source_in (F.contents self.now.files.now) (I.remaining input.old) source.now) (λ s. IfSome (F.contents self.now.files.now certs.now) (λ c.
             WritesFront options.json (source_of s) (certs_of c) (O.contents out.old) (O.contents out.new)))) }
         ensures missing { (lacks_source (F.is_missing self.now.files.now) source.now || F.is_missing self.now.files.now certs.now) ≡ true → result ≡ Err EngineFault.ReadFailed }
+        ensures spawn { IfErr result (λ e. e ≡ EngineFault.Spawn → 1 < options.workers) }
+        ensures kept { is_file source.now ≡ true → I.remaining input.new ≡ I.remaining input.old }
     {
         if source == "-" {
             return self.check_from(input, certs, options, out);
@@ -119,6 +123,9 @@ impl<'r, F: Files, H: Threads + Wait + Sync> Program<'r, F, H> {
         ensures reply { IfOk result (RanAs (F.contents self.now.files.now) (source_in (F.contents self.now.files.now) (I.remaining input.old) source.now) limit erased certs.entry (map (λ w. w.now) words.now)) }
         ensures fault { IfErr result (λ e. e ≢ EngineFault.WriteFailed) }
         ensures missing { lacks_source (F.is_missing self.now.files.now) source.now ≡ true → result ≡ Err EngineFault.ReadFailed }
+        ensures spawn { IfErr result (λ e. e ≡ EngineFault.Spawn
+            → StartsAs (F.contents self.now.files.now) (source_in (F.contents self.now.files.now) (I.remaining input.old) source.now) erased certs.entry (map (λ w. w.now) words.now)) }
+        ensures kept { is_file source.now ≡ true → I.remaining input.new ≡ I.remaining input.old }
     {
         let (rt, alloc) = (self.rt, self.alloc);
         let source = source_bytes(alloc, self.files, source, input)?;

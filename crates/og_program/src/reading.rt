@@ -2,7 +2,7 @@
 
 ghost use Rattle.std.specs.Prelude.{◌≡◌, ◌≢◌, true, Err, IfErr, IfOk, IfSome};
 ghost use Rattle.og_engine.specs.Inputs.{source_of, certs_of};
-ghost use Rattle.og_program.specs.Named.{source_in, lacks_source};
+ghost use Rattle.og_program.specs.Named.{source_in, is_file, lacks_source};
 
 use crate::files::Files;
 use og_engine::{EngineFault, read_certificates, read_source};
@@ -30,7 +30,9 @@ pub(crate) fn source_bytes<F: Files, I: Read>(
 ) -> Result<Vec<u8>, EngineFault>
     ensures text { IfOk result (λ text. IfSome (source_in (F.contents files.now) (I.remaining input.old) name.now) (λ s. text.items ≡ source_of s)) }
     ensures fault { IfErr result (λ e. e ≢ EngineFault.WriteFailed) }
+    ensures spawn { IfErr result (λ e. e ≢ EngineFault.Spawn) }
     ensures missing { lacks_source (F.is_missing files.now) name.now ≡ true → result ≡ Err EngineFault.ReadFailed }
+    ensures kept { is_file name.now ≡ true → I.remaining input.new ≡ I.remaining input.old }
 {
     if name == "-" {
         return Ok(read_source(alloc, input)?);
@@ -47,6 +49,7 @@ pub(crate) fn certificate_bytes<F: Files>(
 ) -> Result<Vec<u8>, EngineFault>
     ensures text { IfOk result (λ text. IfSome (F.contents files.now name.now) (λ c. text.items ≡ certs_of c)) }
     ensures fault { IfErr result (λ e. e ≢ EngineFault.WriteFailed) }
+    ensures spawn { IfErr result (λ e. e ≢ EngineFault.Spawn) }
     ensures missing { F.is_missing files.now name.now ≡ true → result ≡ Err EngineFault.ReadFailed }
 {
     let mut file = open(files, name)?;

@@ -1,7 +1,7 @@
 //! From a job to what is written and the status.
 
-ghost use Rattle.std.specs.Prelude.{◌≡◌, true, map, string_bytes, IfOk, IfErr};
-ghost use Rattle.og_program.specs.Served.{lacks, Ends, EndsJob, EndsUsage, EndsWords, IsProvenIn, IsNeverStuckIn};
+ghost use Rattle.std.specs.Prelude.{◌≡◌, true, false, map, string_bytes, IfOk, IfErr};
+ghost use Rattle.og_program.specs.Served.{lacks, reads_input, Ends, EndsJob, EndsUsage, EndsWords, IsProvenIn, IsNeverStuckIn};
 ghost use Rattle.og_program.specs.Told.{Fails};
 
 use crate::commands::{conditions, erase, find, migrate};
@@ -30,6 +30,7 @@ impl<'r, F: Files, H: Threads + Wait + Sync> Program<'r, F, H> {
         ensures sound { result.status ≡ 0 → IsProvenIn (F.contents self.now.files.now) (I.remaining input.old) job.now }
         ensures lacking { lacks (F.is_missing self.now.files.now) job.now ≡ true → Fails EngineFault.ReadFailed (O.contents out.old) (O.contents out.new) (E.contents err.old) (E.contents err.new) result }
         ensures unblocked { result.status ≡ 0 → IsNeverStuckIn (F.contents self.now.files.now) (I.remaining input.old) (O.contents out.old) (O.contents out.new) job.now }
+        ensures kept { reads_input job.now ≡ false → I.remaining input.new ≡ I.remaining input.old }
     {
         let (alloc, files) = (self.alloc, self.files);
         match job {
@@ -102,6 +103,8 @@ pub fn serve<F: Files, I: Read, O: Write, E: Write, H: Threads + Wait + Sync>(
     ensures sound { IfOk asked.entry (λ job. result.status ≡ 0 → IsProvenIn (F.contents files.now) (I.remaining input.old) job) }
     ensures lacking { IfOk asked.entry (λ job. lacks (F.is_missing files.now) job ≡ true → Fails EngineFault.ReadFailed (O.contents out.old) (O.contents out.new) (E.contents err.old) (E.contents err.new) result) }
     ensures unblocked { IfOk asked.entry (λ job. result.status ≡ 0 → IsNeverStuckIn (F.contents files.now) (I.remaining input.old) (O.contents out.old) (O.contents out.new) job) }
+    ensures kept { IfOk asked.entry (λ job. reads_input job ≡ false → I.remaining input.new ≡ I.remaining input.old) }
+    ensures unread { IfErr asked.entry (λ _. I.remaining input.new ≡ I.remaining input.old) }
 {
     match asked {
         Ok(job) => Program { rt, alloc, files }.perform(&job, input, out, err),
@@ -119,8 +122,9 @@ pub fn serve_words<F: Files, I: Read, O: Write, E: Write, H: Threads + Wait + Sy
     out: &mut O,
     err: &mut E,
 ) -> Ended
-    ensures words { IfOk words (λ w. EndsWords (map (λ s. string_bytes s) w.items) (F.contents files.now) (F.is_missing files.now) (I.remaining input.old) (O.contents out.old) (O.contents out.new) (E.contents err.old) (E.contents err.new) result) }
+    ensures words { IfOk words (λ w. EndsWords (map (λ s. string_bytes s) w.items) (F.contents files.now) (F.is_missing files.now) (I.remaining input.old) (I.remaining input.new) (O.contents out.old) (O.contents out.new) (E.contents err.old) (E.contents err.new) result) }
     ensures none { IfErr words (λ usage. EndsUsage usage (O.contents out.old) (O.contents out.new) (E.contents err.old) (E.contents err.new) result) }
+    ensures unread { IfErr words (λ _. I.remaining input.new ≡ I.remaining input.old) }
 {
     match words {
         Ok(words) => {

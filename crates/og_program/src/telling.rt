@@ -5,7 +5,7 @@ ghost use Rattle.og_program.specs.Told.{fault_text, Complains, IsSilent, Fails, 
 
 use crate::ended::Ended;
 use og_answer::Answer;
-use og_engine::{EngineFault, write_answer};
+use og_engine::{EngineFault, write_answer, write_text};
 use og_running::Reply;
 use std::alloc::Global;
 use std::io::Write;
@@ -20,8 +20,13 @@ const FAULT: u8 = 4;
 fn complain<E: Write>(text: &str, status: u8, err: &mut E) -> Ended
     ensures { Complains text.now status (E.contents err.old) (E.contents err.new) result }
 {
-    let told = err.write_all(text.as_bytes()).is_ok();
-    Ended { status, told }
+    match write_text(err, text.as_bytes()) {
+        Ok(()) => Ended { status, told: true },
+        Err(_) => Ended {
+            status,
+            told: false,
+        },
+    }
 }
 
 /// Ends with what is wrong with the words.

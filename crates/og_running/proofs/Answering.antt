@@ -1,5 +1,5 @@
 -- From the parts of an answer to the whole.
-use Rattle.std.proofs.Common.{◌≡◌, ◌⊎◌, inl, inr, subst, ℕ, ℤ, Bool, true, false, List, Result, Ok, Err, IfOk, IfErr, refl, codes}
+use Rattle.std.proofs.Common.{◌≡◌, ◌⊎◌, inl, inr, subst, ap, ℕ, ℤ, Bool, true, false, None, List, Result, Ok, Err, IfOk, IfErr, refl, codes}
 use Rattle.std.specs.Prelude.{⊤}
 use Rattle.og_typed.specs.Syntax.{Program}
 use Rattle.og_judge.specs.declared.entry.Entry.{Entry}
@@ -8,6 +8,7 @@ use Rattle.og_judge.specs.Entries.{AreEntries, is_safe, is_unblocked}
 use Rattle.og_judge.specs.NotJudged.{AreNotFound}
 use Rattle.og_judge.specs.declared.refusal.Refusal.{Refusal}
 use Rattle.og_judge.specs.declared.refusal.Refusal.TheVariants as refusal
+use Rattle.og_step.specs.Starts.{start_fault}
 use Rattle.og_step.specs.declared.fault.StartFault.TheVariants as starts
 use Rattle.og_board.specs.Runs.{Given}
 use Rattle.og_board.specs.declared.outcome.Outcome.{Outcome}
@@ -17,6 +18,7 @@ use Rattle.og_run.specs.declared.fault.RunFault.TheVariants as faults
 use Rattle.og_run.specs.declared.fault.RunError.{RunError}
 use Rattle.og_run.specs.declared.fault.RunError.TheVariants as errors
 use Rattle.og_pool.specs.declared.fault.PoolFault.{PoolFault}
+use Rattle.og_pool.specs.declared.fault.PoolFault.TheVariants as pool
 use Rattle.og_source.specs.Source.{IsSource}
 use Rattle.og_answer.specs.Told.{Says}
 use Rattle.og_answer.specs.declared.answer.Answer.{Answer}
@@ -86,3 +88,14 @@ refused_told source certs o values limit refusal.Memory (Err e) refused told = t
 pub goes : (P : Program → List ℤ → Answer → Type 0) (source : List ℕ) (words : List (List ℕ)) (o : Program) (values : List ℤ) (a : Answer) → IsSource source o → Give o words values
     → P o values a → Goes P source words (replies.Answer a)
 goes P source words o values a read gives told = record { outline = o; values = values; answer = a; read = read; given = gives; is = refl; told = told }
+
+-- ---- where a thread is wanting
+
+started : (g : Given) (ended : Result Outcome RunError) → Runs ended g → ended ≡ Err (errors.Fault faults.Spawn) → start_fault g.outline g.values ≡ None
+started g ended runs is = subst (λ (r : Result Outcome RunError). Runs r g) is runs
+
+-- the values are a start
+pub run_wants : (g : Given) (ended : Result Outcome RunError) (r : Result Answer PoolFault) → Runs ended g
+    → (r ≡ Err pool.Spawn → ended ≡ Err (errors.Fault faults.Spawn)) → IfErr r (λ e. e ≡ pool.Spawn → start_fault g.outline g.values ≡ None)
+run_wants g ended (Ok a) runs only = tt
+run_wants g ended (Err e) runs only = λ is. started g ended runs (only (ap Err is))

@@ -1,5 +1,5 @@
 -- What `run` answers, and in which order its faults come.
-use Rattle.std.specs.Prelude.{◌≡◌, ◌⊎◌, ℕ, ℤ, Bool, true, false, if◌then◌else◌, List, codes, Some, ⊤}
+use Rattle.std.specs.Prelude.{◌≡◌, ◌⊎◌, ℕ, ℤ, Bool, true, false, if◌then◌else◌, List, codes, None, Some, ⊤}
 use Rattle.og_typed.specs.Syntax.{Program}
 use Rattle.og_typed.specs.Erase.{erased}
 use Rattle.og_step.specs.Starts.{start_fault}
@@ -99,3 +99,26 @@ IsRefusedOrJudged source certs o values limit a =
 abbrev pub IsRanProved : ℕ → List ℕ → List ℕ → List (List ℕ) → Reply → Type 0
 IsRanProved limit source certs words r =
     IsEarly source words r ⊎ Goes (λ o values a. IsRefusedOrJudged source certs o values limit a) source words r
+
+-- ---- where a thread can be wanting
+
+-- the source has an outline and each word gives a value, and P of them
+pub record Has (P : Program → List ℤ → Type 0) (source : List ℕ) (words : List (List ℕ)) : Type 0 where
+  pub outline : Program
+  pub values : List ℤ
+  pub read : IsSource source outline
+  pub given : Give outline words values
+  pub holds : P outline values
+
+-- the values are a start of the source's outline, with its auxiliaries or without them
+abbrev pub HasStart : Bool → List ℕ → List (List ℕ) → Type 0
+HasStart without_auxiliaries source words =
+    Has (λ o values. start_fault (if without_auxiliaries then erased o else o) values ≡ None) source words
+
+-- the certificates prove the outline safe
+abbrev pub IsSafeBy : List ℕ → Program → Type 0
+IsSafeBy certs o = (entries : List Entry) × AreEntries certs o entries × (is_safe entries ≡ true)
+
+-- the values are a start of the source's outline, which the certificates prove safe
+abbrev pub HasProvedStart : List ℕ → List ℕ → List (List ℕ) → Type 0
+HasProvedStart source certs words = Has (λ o values. IsSafeBy certs o × (start_fault o values ≡ None)) source words

@@ -1,14 +1,16 @@
 //! The answers of `run`.
 
-ghost use Rattle.std.specs.Prelude.{◌≡◌, ◌↔◌, map, if◌then◌else◌, Err, IfOk, IfErr};
+ghost use Rattle.std.specs.Prelude.{◌≡◌, ◌↔◌, true, map, if◌then◌else◌, None, Err, IfOk, IfErr};
 ghost use Rattle.og_typed.specs.Erase.{erased as erased_of};
 ghost use Rattle.og_answer.specs.Told.{Says};
 ghost use Rattle.og_pool.specs.declared.fault.PoolFault.TheVariants.{Spawn};
 ghost use Rattle.og_run.specs.declared.fault.RunFault.TheVariants as faults;
 ghost use Rattle.og_run.specs.declared.fault.RunError.TheVariants as errors;
+ghost use Rattle.og_judge.specs.Entries.{is_safe};
 ghost use Rattle.og_judge.specs.Shown.{looked_at, found_of};
+ghost use Rattle.og_step.specs.Starts.{start_fault};
 ghost use Rattle.og_running.specs.Texts.{outcome_text, finish_status};
-ghost use Rattle.og_running.specs.Running.{given, fault_line, IsFaultTold, Tells, TellsProved, TellsJudged, IsRefusedOrJudged, IsRan, IsRanProved};
+ghost use Rattle.og_running.specs.Running.{given, fault_line, IsFaultTold, Tells, TellsProved, TellsJudged, IsRefusedOrJudged, IsRan, IsRanProved, IsSafeBy, HasStart, HasProvedStart};
 
 use crate::outcome::{finish_status, outcome_text};
 use crate::reply::Reply;
@@ -72,7 +74,8 @@ struct Runner<'r, G, H> {
 impl<'r, G: Gate, H: Threads + Wait + Sync> Runner<'r, G, H> {
     // Runs an outline.
     fn run(&self, outline: &Outline, values: State) -> Result<Answer, PoolFault>
-        ensures { IfOk result (Tells (given outline.now values self.now.limit)) }
+        ensures told { IfOk result (Tells (given outline.now values self.now.limit)) }
+        ensures spawn { IfErr result (λ e. e ≡ Spawn → start_fault outline.now values ≡ None) }
     {
         let limit = self.limit.steps();
         let ended = run(self.rt, self.alloc, outline, values, limit, self.gate);
@@ -86,7 +89,8 @@ impl<'r, G: Gate, H: Threads + Wait + Sync> Runner<'r, G, H> {
         erased: bool,
         values: State,
     ) -> Result<Answer, PoolFault>
-        ensures { IfOk result (Tells (given (if erased then erased_of outline.now else outline.now) values self.now.limit)) }
+        ensures told { IfOk result (Tells (given (if erased then erased_of outline.now else outline.now) values self.now.limit)) }
+        ensures spawn { IfErr result (λ e. e ≡ Spawn → start_fault (if erased then erased_of outline.now else outline.now) values ≡ None) }
     {
         if !erased {
             return self.run(outline, values);
@@ -98,7 +102,8 @@ impl<'r, G: Gate, H: Threads + Wait + Sync> Runner<'r, G, H> {
     // Runs an outline that was proved.
     #[tactic(auto, using(crate::proofs::Answering::proved_told))]
     fn run_proved(&self, proved: &Proved<'_>, values: State) -> Result<Answer, PoolFault>
-        ensures { IfOk result (TellsProved (given proved.now.0 values self.now.limit) proved.now.1) }
+        ensures told { IfOk result (TellsProved (given proved.now.0 values self.now.limit) proved.now.1) }
+        ensures spawn { IfErr result (λ e. e ≡ Spawn → start_fault proved.now.0 values ≡ None) }
     {
         let limit = self.limit.steps();
         let ended = run_proved(self.rt, self.alloc, proved, values, limit, self.gate);
@@ -114,7 +119,8 @@ impl<'r, G: Gate, H: Threads + Wait + Sync> Runner<'r, G, H> {
         values: State,
     ) -> Result<Answer, PoolFault>
         requires { outline.now ≡ looked_at findings.now }
-        ensures { IfOk result (TellsJudged (found_of findings.now) (given outline.now values self.now.limit)) }
+        ensures told { IfOk result (TellsJudged (found_of findings.now) (given outline.now values self.now.limit)) }
+        ensures spawn { IfErr result (λ e. e ≡ Spawn → (is_safe (found_of findings.now) ≡ true) × (start_fault outline.now values ≡ None)) }
     {
         match findings.proved(outline) {
             Some(proved) => self.run_proved(&proved, values),
@@ -133,7 +139,8 @@ impl<'r, G: Gate, H: Threads + Wait + Sync> Runner<'r, G, H> {
         certs: &[u8],
         values: State,
     ) -> Result<Answer, PoolFault>
-        ensures { IfOk result (IsRefusedOrJudged source.now.bytes certs.now source.now.outline values self.now.limit) }
+        ensures told { IfOk result (IsRefusedOrJudged source.now.bytes certs.now source.now.outline values self.now.limit) }
+        ensures spawn { IfErr result (λ e. e ≡ Spawn → IsSafeBy certs.now source.now.outline × (start_fault source.now.outline values ≡ None)) }
     {
         let outline = source.outline();
         match judge_outline(self.rt, self.alloc, outline, certs, Workers::ONE, &OpenGate) {
@@ -149,7 +156,8 @@ impl<'r, G: Gate, H: Threads + Wait + Sync> Runner<'r, G, H> {
         words: &[&'a str],
         erased: bool,
     ) -> Result<Reply<'a>, PoolFault>
-        ensures { IfOk result (IsRan erased self.now.limit source.now.bytes (map (λ w. w.now) words.now)) }
+        ensures told { IfOk result (IsRan erased self.now.limit source.now.bytes (map (λ w. w.now) words.now)) }
+        ensures spawn { IfErr result (λ e. e ≡ Spawn → HasStart erased source.now.bytes (map (λ w. w.now) words.now)) }
     {
         let outline = source.outline();
         match values(self.alloc, outline, words) {
@@ -170,7 +178,8 @@ impl<'r, G: Gate, H: Threads + Wait + Sync> Runner<'r, G, H> {
         certs: &[u8],
         words: &[&'a str],
     ) -> Result<Reply<'a>, PoolFault>
-        ensures { IfOk result (IsRanProved self.now.limit source.now.bytes certs.now (map (λ w. w.now) words.now)) }
+        ensures told { IfOk result (IsRanProved self.now.limit source.now.bytes certs.now (map (λ w. w.now) words.now)) }
+        ensures spawn { IfErr result (λ e. e ≡ Spawn → HasProvedStart source.now.bytes certs.now (map (λ w. w.now) words.now)) }
     {
         match values(self.alloc, source.outline(), words) {
             Ok(values) => {
@@ -197,7 +206,8 @@ impl<'r, G: Gate, H: Threads + Wait + Sync> Runner<'r, G, H> {
 ///
 /// # Errors
 ///
-/// `Spawn` where a thread could not be started, `Memory` where an allocation was refused.
+/// `Spawn` where a thread could not be started: the source has an outline then, each word gives a
+/// value, and the values are a start. `Memory` where an allocation was refused.
 pub fn ran<'a, G: Gate, H: Threads + Wait + Sync>(
     rt: &H,
     alloc: Global,
@@ -207,7 +217,8 @@ pub fn ran<'a, G: Gate, H: Threads + Wait + Sync>(
     erased: bool,
     gate: &G,
 ) -> Result<Reply<'a>, PoolFault>
-    ensures { IfOk result (IsRan erased limit source.now (map (λ w. w.now) words.now)) }
+    ensures told { IfOk result (IsRan erased limit source.now (map (λ w. w.now) words.now)) }
+    ensures spawn { IfErr result (λ e. e ≡ Spawn → HasStart erased source.now (map (λ w. w.now) words.now)) }
 {
     let runner = Runner {
         rt,
@@ -232,7 +243,7 @@ pub fn ran<'a, G: Gate, H: Threads + Wait + Sync>(
 ///
 /// # Errors
 ///
-/// As `ran`.
+/// As `ran`; where `Spawn` is answered, the certificates prove the outline safe.
 pub fn ran_proved<'a, G: Gate, H: Threads + Wait + Sync>(
     rt: &H,
     alloc: Global,
@@ -242,7 +253,8 @@ pub fn ran_proved<'a, G: Gate, H: Threads + Wait + Sync>(
     limit: RunLimit,
     gate: &G,
 ) -> Result<Reply<'a>, PoolFault>
-    ensures { IfOk result (IsRanProved limit source.now certs.now (map (λ w. w.now) words.now)) }
+    ensures told { IfOk result (IsRanProved limit source.now certs.now (map (λ w. w.now) words.now)) }
+    ensures spawn { IfErr result (λ e. e ≡ Spawn → HasProvedStart source.now certs.now (map (λ w. w.now) words.now)) }
 {
     let runner = Runner {
         rt,

@@ -65,6 +65,16 @@ fn enter_seq<'a>(parts: &mut Vec<&'a [Item]>, seq: &'a Seq)
     }
 }
 
+// Room for all that a sequence nests, and no more.
+fn room_for<'a>(alloc: Global, seq: &'a Seq) -> Result<Vec<&'a [Item]>, AllocError>
+    ensures items { IfOk result (λ v. v.items ≡ []) }
+    ensures room { IfOk result (λ v. vec_capacity v ≡ depth (sequence seq.now) + 1) }
+{
+    let depth = seq_depth(seq).ok_or(AllocError)?;
+    let room = depth.checked_add(1).ok_or(AllocError)?;
+    Vec::with_capacity(alloc, room)
+}
+
 impl<'a> Todo<'a> {
     /// Nothing is left. Takes no memory.
     pub(crate) fn none(alloc: Global) -> Todo<'a>
@@ -79,9 +89,7 @@ impl<'a> Todo<'a> {
     pub(crate) fn new(alloc: Global, seq: &'a Seq) -> Result<Todo<'a>, AllocError>
         ensures { IfOk result (λ t. t ≡ items (sequence seq.now)) }
     {
-        let depth = seq_depth(seq).ok_or(AllocError)?;
-        let room = depth.checked_add(1).ok_or(AllocError)?;
-        let mut parts = Vec::with_capacity(alloc, room)?;
+        let mut parts = room_for(alloc, seq)?;
         enter_seq(&mut parts, seq);
         Ok(Todo { parts })
     }

@@ -25,10 +25,14 @@ loop-init g c = record {
   taken = consumes_none _ _ c.new-text.ensures.items;
   within = let none = ap length c.new-text.ensures.items in omega arith;
   room = omega (arith, c.in_ok-chunk.ensures);
+  some = λ h. omega (arith, h);
 }
 
 pub loop-preserved : goal.loop-preserved
 loop-preserved g c =
     let len : vec_len c.loop.text ≡ length c.loop.text.items = c.loop.text.ok.0 in
     let more = takes_more _ _ _ c.loop.text.items c.read_once.new.text.items c.args.most _ c.loop.invariant.taken (omega (arith, length-take c.min-size.result c.deref_mut.result.now)) c.in_ok-read_once.ensures.takes in
-    record { taken = more.0; within = more.1; room = c.loop.invariant.room }
+    record { taken = more.0; within = more.1; room = c.loop.invariant.room; some = λ _. omega arith }
+
+pub returns-clause-failed : goal.returns-clause-failed
+returns-clause-failed g c = λ _. c.loop.invariant.some (omega arith)

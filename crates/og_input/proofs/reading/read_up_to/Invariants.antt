@@ -7,4 +7,5 @@ invariant-loop g l = record {
   taken : Consumes (g.R.Read.remaining l.initial.reader) (g.R.Read.remaining l.reader) l.text.items;
   within : length l.text.items ≤ l.most;
   room : 0 < vec_len l.chunk;
+  some : 0 < l.counter → 0 < l.most;
 }

@@ -1,36 +1,37 @@
-use Rattle.std.proofs.Common.{ℕ, List, Bor, IfOk, map, refl, subst}
+use Rattle.std.proofs.Common.{◌≡◌, ℕ, List, Bor, IfOk, IfErr, map, refl, subst}
 use Rattle.std.proofs.lemmas.Result.{IfOk-weaker}
 use Rattle.og_running.specs.declared.reply.Reply.{Reply}
 use Rattle.og_program.specs.Named.{source_in}
-use Rattle.og_program.specs.Served.{RanAs}
-use Rattle.og_program.proofs.Ending.{joined_does, check_does, finished, told, replied}
+use Rattle.og_engine.specs.declared.fault.EngineFault.TheVariants as faults
+use Rattle.og_program.specs.Served.{RanAs, StartsAs}
+use Rattle.og_program.proofs.Ending.{joined_does, check_does, absent, finished, told, replied}
 use Rattle.og_program.proofs.program.Program.perform.Goals as goal
 
 pub returns-in-Joined-clause-ended : goal.returns-in-Joined-clause-ended
 returns-in-Joined-clause-ended g c =
     finished _ _ _ _ _ _ _ _ c.finish.result c.joined.result c.in-Joined.is (IfOk-weaker c.joined.result _ _ (λ status h. joined_does (g.F.Files.contents c.args.self.now.files.now) (g.I.Read.remaining c.args.input.now) (g.O.Write.contents c.args.out.now) (g.O.Write.contents c.joined.new.out) status h) c.joined.ensures.answer)
-    c.joined.ensures.unwritten c.joined.ensures.unfinished c.finish.ensures.ok c.finish.ensures.err
+    c.joined.ensures.unwritten c.joined.ensures.unfinished (absent _ c.joined.result c.joined.ensures.spawn) c.finish.ensures.ok c.finish.ensures.err
 
 pub returns-in-Check-clause-ended : goal.returns-in-Check-clause-ended
 returns-in-Check-clause-ended g c =
     finished _ _ _ _ _ _ _ _ c.finish-in-Check.result c.check.result c.in-Check.is (IfOk-weaker c.check.result _ _ (λ status h. check_does (g.F.Files.contents c.args.self.now.files.now) (g.I.Read.remaining c.args.input.now) c.in-Check.source c.in-Check.certs c.in-Check.workers c.in-Check.json (g.O.Write.contents c.args.out.now) (g.O.Write.contents c.check.new.out) status h) c.check.ensures.answer)
-    c.check.ensures.unwritten c.check.ensures.unfinished c.finish-in-Check.ensures.ok c.finish-in-Check.ensures.err
+    c.check.ensures.unwritten c.check.ensures.unfinished c.check.ensures.spawn c.finish-in-Check.ensures.ok c.finish-in-Check.ensures.err
 
 pub returns-in-Conditions-clause-ended : goal.returns-in-Conditions-clause-ended
 returns-in-Conditions-clause-ended g c =
-    told _ _ _ _ _ _ _ _ c.tell.result _ c.conditions.result c.in-Conditions.is (λ Q gives. gives) c.conditions.ensures.answer c.conditions.ensures.fault c.tell.ensures.ok c.tell.ensures.err
+    told _ _ _ _ _ _ _ _ c.tell.result _ c.conditions.result c.in-Conditions.is (λ Q gives. gives) c.conditions.ensures.answer c.conditions.ensures.fault c.conditions.ensures.spawn c.tell.ensures.ok c.tell.ensures.err
 
 pub returns-in-Find-clause-ended : goal.returns-in-Find-clause-ended
 returns-in-Find-clause-ended g c =
-    told _ _ _ _ _ _ _ _ c.tell-in-Find.result _ c.find.result c.in-Find.is (λ Q gives. gives) c.find.ensures.answer c.find.ensures.fault c.tell-in-Find.ensures.ok c.tell-in-Find.ensures.err
+    told _ _ _ _ _ _ _ _ c.tell-in-Find.result _ c.find.result c.in-Find.is (λ Q gives. gives) c.find.ensures.answer c.find.ensures.fault c.find.ensures.spawn c.tell-in-Find.ensures.ok c.tell-in-Find.ensures.err
 
 pub returns-in-Erase-clause-ended : goal.returns-in-Erase-clause-ended
 returns-in-Erase-clause-ended g c =
-    told _ _ _ _ _ _ _ _ c.tell-in-Erase.result _ c.erase.result c.in-Erase.is (λ Q gives. gives) c.erase.ensures.answer c.erase.ensures.fault c.tell-in-Erase.ensures.ok c.tell-in-Erase.ensures.err
+    told _ _ _ _ _ _ _ _ c.tell-in-Erase.result _ c.erase.result c.in-Erase.is (λ Q gives. gives) c.erase.ensures.answer c.erase.ensures.fault c.erase.ensures.spawn c.tell-in-Erase.ensures.ok c.tell-in-Erase.ensures.err
 
 pub returns-in-Migrate-clause-ended : goal.returns-in-Migrate-clause-ended
 returns-in-Migrate-clause-ended g c =
-    told _ _ _ _ _ _ _ _ c.tell-in-Migrate.result _ c.migrate.result c.in-Migrate.is (λ Q gives. gives) c.migrate.ensures.answer c.migrate.ensures.fault c.tell-in-Migrate.ensures.ok c.tell-in-Migrate.ensures.err
+    told _ _ _ _ _ _ _ _ c.tell-in-Migrate.result _ c.migrate.result c.in-Migrate.is (λ Q gives. gives) c.migrate.ensures.answer c.migrate.ensures.fault c.migrate.ensures.spawn c.tell-in-Migrate.ensures.ok c.tell-in-Migrate.ensures.err
 
 pub returns-in-Run-clause-ended : goal.returns-in-Run-clause-ended
 returns-in-Run-clause-ended g c =
@@ -38,4 +39,6 @@ returns-in-Run-clause-ended g c =
     let source = source_in files (g.I.Read.remaining c.args.input.now) c.in-Run.source.now in
     let Ran = λ (words : List (Bor (List ℕ))) (r : Reply). RanAs files source c.in-Run.limit c.in-Run.erased c.in-Run.certs (map (λ w. w.now) words) r in
     replied _ _ _ _ _ _ _ _ c.reply.result (Ran c.in-Run.values.items) c.run-ran.result c.in-Run.is (λ Q gives. gives) (λ word bad. (word, bad, refl))
-    (subst (λ (words : List (Bor (List ℕ))). IfOk c.run-ran.result (Ran words)) c.deref.ensures.value c.run-ran.ensures.reply) c.run-ran.ensures.fault c.reply.ensures.ok c.reply.ensures.err
+    (subst (λ (words : List (Bor (List ℕ))). IfOk c.run-ran.result (Ran words)) c.deref.ensures.value c.run-ran.ensures.reply) c.run-ran.ensures.fault
+    (subst (λ (words : List (Bor (List ℕ))). IfErr c.run-ran.result (λ e. e ≡ faults.Spawn → StartsAs files source c.in-Run.erased c.in-Run.certs (map (λ w. w.now) words))) c.deref.ensures.value c.run-ran.ensures.spawn)
+    c.reply.ensures.ok c.reply.ensures.err

@@ -6,10 +6,10 @@ use Rattle.og_running.specs.Running.{IsRefusedOrJudged}
 use Rattle.og_running.proofs.Answering.{goes}
 use Rattle.og_running.proofs.running.Runner.ran_proved.Goals as goal
 
-pub returns-in_ok-answer-in-Ok : goal.returns-in_ok-answer-in-Ok
-returns-in_ok-answer-in-Ok g c =
+pub returns-in_ok-answer-in-Ok-clause-told : goal.returns-in_ok-answer-in-Ok-clause-told
+returns-in_ok-answer-in-Ok-clause-told g c =
     let s = c.args.source.now in
     let words = map (λ w. w.now) c.args.words.now in
     inr (goes (λ o values a. IsRefusedOrJudged s.bytes c.args.certs.now o values c.args.self.now.limit a) s.bytes words s.outline c.in-Ok.values
     c.in_ok-answer-in-Ok.answer (subst (IsSource s.bytes) c.outline.ensures.same c.outline.ensures.source)
-    (subst (λ (o : Program). Give o words c.in-Ok.values) c.outline.ensures.same c.in-Ok.ensures.values) c.in_ok-answer-in-Ok.ensures)
+    (subst (λ (o : Program). Give o words c.in-Ok.values) c.outline.ensures.same c.in-Ok.ensures.values) c.in_ok-answer-in-Ok.ensures.told)
