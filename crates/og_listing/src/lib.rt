@@ -10,5 +10,6 @@ mod places;
 mod words;
 
 pub use conditions::conditions_text;
+pub use forms::{put_constant, put_name, put_times};
 pub use places::{Places, Position};
 pub use words::{put_action_place, put_number, put_position};

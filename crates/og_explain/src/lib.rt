@@ -1,0 +1,19 @@
+//! Why a condition is false in a state: which assertions of the outline are true there, what the
+//! step does, and what is false then.
+//!
+//! Each place is looked up in the outline, and what is told of it is evaluated; so nothing rests on
+//! how conditions are made. specs/Explained.antt says what is promised.
+#![tactic(auto)]
+
+mod actor;
+mod explaining;
+mod explanation;
+mod frame;
+mod lookup;
+mod stands;
+mod unexplained;
+
+pub use actor::Actors;
+pub use explaining::explain;
+pub use explanation::{Explanation, Fault, Stand, Test};
+pub use unexplained::Unexplained;

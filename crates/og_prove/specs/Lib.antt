@@ -1,0 +1,4 @@
+pub mod Blocks
+pub mod Report
+pub mod Sentences
+pub mod Told

@@ -1,0 +1,84 @@
+-- What is told of all conditions of an outline.
+use Rattle.std.specs.Prelude.{ℕ, ◌+◌, ◌-◌, List, [], ◌∷◌, length, take, slice_get, Bool, true, false, if◌then◌else◌, Option, Some, None, codes}
+use Rattle.std.specs.Fmt.{decimal}
+use Rattle.std.specs.List.{list_all}
+use Rattle.og_cond.specs.Condition.{Condition}
+use Rattle.og_cond.specs.Names.{name_of_kind}
+use Rattle.og_listing.specs.Places.{◌&◌, position_of, position_text, with_text}
+use Rattle.og_prove.specs.Blocks.{block_text}
+use Rattle.og_prove.specs.declared.telling.Told.{Told}
+use Rattle.og_prove.specs.declared.telling.Told.TheVariants as told
+
+abbrev pub head_text : List ℕ → ℕ → Condition → List ℕ → List ℕ
+head_text source n c word =
+    position_text (position_of source c.at) & codes ": condition " & decimal n & codes " " & name_of_kind c.kind
+    & with_text source c.action_at & codes ": " & word & codes "\n"
+
+-- ---- totals
+
+abbrev pub is_proved : Told → Bool
+is_proved told.Proved = true
+is_proved (told.False block) = false
+is_proved told.Open = false
+
+abbrev pub is_false : Told → Bool
+is_false told.Proved = false
+is_false (told.False block) = true
+is_false told.Open = false
+
+abbrev pub is_open : Told → Bool
+is_open told.Proved = false
+is_open (told.False block) = false
+is_open told.Open = true
+
+-- how many of them are so
+abbrev pub count : (Told → Bool) → List Told → ℕ
+count is [] = 0
+count is (t ∷ ts) = (if is t then 1 else 0) + count is ts
+
+-- every condition but the last is proved
+abbrev pub is_safe : List Told → Bool
+is_safe ts = list_all is_proved (take (length ts - 1) ts)
+
+abbrev pub is_there_and_proved : Option Told → Bool
+is_there_and_proved None = false
+is_there_and_proved (Some t) = is_proved t
+
+-- the last one is
+abbrev pub is_unblocked : List Told → Bool
+is_unblocked ts = is_there_and_proved (slice_get ts (length ts - 1))
+
+abbrev pub yes_or_no : Bool → List ℕ
+yes_or_no true = codes "yes\n"
+yes_or_no false = codes "no\n"
+
+abbrev pub yes_line : List ℕ → Bool → List ℕ
+yes_line word is = word & codes ": " & yes_or_no is
+
+-- a word and a number
+abbrev pub number_line : List ℕ → ℕ → List ℕ
+number_line word n = word & codes ": " & decimal n & codes "\n"
+
+abbrev pub totals_text : List Told → List ℕ
+totals_text ts =
+    number_line (codes "conditions") (length ts) & number_line (codes "proved") (count is_proved ts)
+    & number_line (codes "false") (count is_false ts) & number_line (codes "open") (count is_open ts)
+    & yes_line (codes "safe") (is_safe ts) & yes_line (codes "unblocked") (is_unblocked ts)
+
+-- ---- all of it
+
+module _ (names : List (List ℕ)) (source : List ℕ) where
+  -- nothing of a condition that is proved
+  abbrev pub told_text : ℕ → Condition → Told → List ℕ
+  told_text n c told.Proved = []
+  told_text n c (told.False block) = head_text source n c (codes "false") & block_text names source block
+  told_text n c told.Open = head_text source n c (codes "open")
+
+  -- numbered on
+  abbrev pub told_lines : ℕ → List Condition → List Told → List ℕ
+  told_lines n [] ts = []
+  told_lines n (c ∷ cs) [] = []
+  told_lines n (c ∷ cs) (t ∷ ts) = told_text n c t & told_lines (n + 1) cs ts
+
+  abbrev pub report_text : List Condition → List Told → List ℕ
+  report_text cs ts = told_lines 1 cs ts & totals_text ts

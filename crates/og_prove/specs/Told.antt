@@ -1,0 +1,22 @@
+-- What is told of a condition.
+use Rattle.std.specs.Prelude.{◌≡◌, ⊤}
+use Rattle.og_typed.specs.Syntax.{Program}
+use Rattle.og_cond.specs.Condition.{Condition}
+use Rattle.og_cond.specs.Valid.{IsValid}
+use Rattle.og_find.specs.Found.{IsFalseAt}
+use Rattle.og_explain.specs.Explanations.{IsExplained}
+use Rattle.og_prove.specs.declared.block.Block.{Block}
+use Rattle.og_prove.specs.declared.telling.Told.{Told}
+use Rattle.og_prove.specs.declared.telling.Told.TheVariants as told
+
+-- the condition is false in the state of the block, and what is told besides is so
+pub record IsBlock (o : Program) (c : Condition) (block : Block) : Type 0 where
+  pub is_false : IsFalseAt c block.values
+  pub explained : IsExplained o c block.values block.explanation
+  pub kind : block.kind ≡ c.kind
+
+-- proved: true in every state; false: in the state that is told
+abbrev pub IsTold : Program → Condition → Told → Type 0
+IsTold o c told.Proved = IsValid c
+IsTold o c (told.False block) = IsBlock o c block
+IsTold o c told.Open = ⊤

@@ -1,0 +1,15 @@
+//! What is told of the conditions of an outline.
+//!
+//! specs/Told.antt says what is promised; specs/Sentences.antt, Blocks.antt and Report.antt define the texts.
+#![tactic(auto)]
+
+mod block;
+mod focus;
+mod lines;
+mod reporting;
+mod sentences;
+mod telling;
+
+pub use block::{Block, put_block};
+pub use reporting::{is_safe, is_unblocked, report};
+pub use telling::{Told, tell};

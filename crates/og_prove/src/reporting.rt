@@ -1,0 +1,229 @@
+//! What is told of all conditions of an outline.
+
+ghost use Rattle.std.specs.Prelude.{◌≡◌, ◌+◌, ◌++◌, ◌<◌, ◌≤◌, ◌^◌, if◌then◌else◌, length, map, IfOk, OnOk};
+ghost use Rattle.og_cond.specs.Seen.{seen};
+ghost use Rattle.og_prove.specs.Report.{head_text, is_proved, is_false, is_open, count, is_safe, is_unblocked, yes_line, number_line, totals_text, told_text, told_lines, report_text};
+
+use crate::block::put_block;
+use crate::telling::Told;
+use og_cond::Condition;
+use og_listing::{Places, put_action_place, put_number, put_position};
+use og_text::Name;
+use og_typed::Outline;
+use std::alloc::{AllocError, Global};
+
+// The place, the number and the kind of a condition, and what is found of it.
+fn put_head(
+    text: &mut Vec<u8>,
+    places: &Places,
+    number: u128,
+    condition: &Condition,
+    word: &[u8],
+) -> Result<(), AllocError>
+    ensures { OnOk result (text.new.items ≡ text.old.items ++ head_text places.now number (seen condition.now) word.now) }
+{
+    put_position(text, places.position(condition.at))?;
+    text.extend_from_slice(b": condition ")?;
+    put_number(text, number)?;
+    text.extend_from_slice(b" ")?;
+    text.extend_from_slice(condition.kind.name().as_bytes())?;
+    put_action_place(text, places, condition.action_at)?;
+    text.extend_from_slice(b": ")?;
+    text.extend_from_slice(word)?;
+    text.extend_from_slice(b"\n")
+}
+
+// What is told of a condition.
+fn put_told(
+    text: &mut Vec<u8>,
+    names: &[Name],
+    source: &[u8],
+    places: &Places,
+    number: u128,
+    condition: &Condition,
+    told: &Told,
+) -> Result<(), AllocError>
+    requires { places.now ≡ source.now }
+    ensures { OnOk result (text.new.items ≡ text.old.items ++ told_text names.now source.now number (seen condition.now) told.now) }
+{
+    match told {
+        Told::Proved => Ok(()),
+        Told::False(block) => {
+            put_head(text, places, number, condition, b"false")?;
+            put_block(text, names, source, places, block)
+        }
+        Told::Open => put_head(text, places, number, condition, b"open"),
+    }
+}
+
+// What is told of each condition, numbered from 1.
+fn put_all(
+    text: &mut Vec<u8>,
+    names: &[Name],
+    source: &[u8],
+    places: &Places,
+    conditions: &[Condition],
+    told: &[Told],
+) -> Result<(), AllocError>
+    requires places { places.now ≡ source.now }
+    requires each { length told.now ≡ length conditions.now }
+    ensures { OnOk result (text.new.items ≡ text.old.items ++ told_lines names.now source.now 1 (map seen conditions.now) told.now) }
+{
+    for index in 0..conditions.len() {
+        let number = index as u128 + 1;
+        put_told(
+            text,
+            names,
+            source,
+            places,
+            number,
+            &conditions[index],
+            &told[index],
+        )?;
+    }
+    Ok(())
+}
+
+impl<'a> Told<'a> {
+    /// Whether the condition is proved. Takes no memory.
+    pub fn is_proved(&self) -> bool
+        ensures { result ≡ is_proved self.now }
+    {
+        match self {
+            Told::Proved => true,
+            Told::False(_) => false,
+            Told::Open => false,
+        }
+    }
+}
+
+// How many conditions of each kind there are.
+#[derive(Clone, Copy)]
+struct Totals {
+    proved: usize,
+    refuted: usize,
+    unknown: usize,
+}
+
+impl Totals {
+    // With one condition more.
+    fn add(&mut self, told: &Told)
+        requires { self.old.proved + self.old.refuted + self.old.unknown < 2 ^ 63 }
+        ensures proved { self.new.proved ≡ self.old.proved + (if is_proved told.now then 1 else 0) }
+        ensures refuted { self.new.refuted ≡ self.old.refuted + (if is_false told.now then 1 else 0) }
+        ensures unknown { self.new.unknown ≡ self.old.unknown + (if is_open told.now then 1 else 0) }
+        ensures all { self.new.proved + self.new.refuted + self.new.unknown ≡ self.old.proved + self.old.refuted + self.old.unknown + 1 }
+    {
+        match told {
+            Told::Proved => self.proved += 1,
+            Told::False(_) => self.refuted += 1,
+            Told::Open => self.unknown += 1,
+        }
+    }
+
+    // Of all conditions.
+    fn of(told: &[Told]) -> Totals
+        requires { length told.now < 2 ^ 32 }
+        ensures proved { result.proved ≡ count is_proved told.now }
+        ensures refuted { result.refuted ≡ count is_false told.now }
+        ensures unknown { result.unknown ≡ count is_open told.now }
+    {
+        let mut totals = Totals {
+            proved: 0,
+            refuted: 0,
+            unknown: 0,
+        };
+        for each in told {
+            totals.add(each);
+        }
+        totals
+    }
+}
+
+/// Whether every condition but the last is proved. Takes no memory.
+pub fn is_safe(told: &[Told]) -> bool
+    ensures { result ≡ is_safe told.now }
+{
+    match told {
+        [] => true,
+        [most @ .., _] => most.iter().all(|each| each.is_proved()),
+    }
+}
+
+/// Whether the last condition is proved. Takes no memory.
+pub fn is_unblocked(told: &[Told]) -> bool
+    ensures { result ≡ is_unblocked told.now }
+{
+    match told {
+        [] => false,
+        [.., last] => last.is_proved(),
+    }
+}
+
+// A word and a number.
+fn put_number_line(text: &mut Vec<u8>, word: &[u8], number: usize) -> Result<(), AllocError>
+    ensures { OnOk result (text.new.items ≡ text.old.items ++ number_line word.now number) }
+{
+    text.extend_from_slice(word)?;
+    text.extend_from_slice(b": ")?;
+    put_number(text, number as u128)?;
+    text.extend_from_slice(b"\n")
+}
+
+fn put_yes_line(text: &mut Vec<u8>, word: &[u8], yes: bool) -> Result<(), AllocError>
+    ensures { OnOk result (text.new.items ≡ text.old.items ++ yes_line word.now yes) }
+{
+    text.extend_from_slice(word)?;
+    text.extend_from_slice(b": ")?;
+    if yes {
+        text.extend_from_slice(b"yes\n")
+    } else {
+        text.extend_from_slice(b"no\n")
+    }
+}
+
+// The totals.
+fn put_totals(text: &mut Vec<u8>, told: &[Told]) -> Result<(), AllocError>
+    requires { length told.now < 2 ^ 32 }
+    ensures { OnOk result (text.new.items ≡ text.old.items ++ totals_text told.now) }
+{
+    let totals = Totals::of(told);
+    put_number_line(text, b"conditions", told.len())?;
+    put_number_line(text, b"proved", totals.proved)?;
+    put_number_line(text, b"false", totals.refuted)?;
+    put_number_line(text, b"open", totals.unknown)?;
+    put_yes_line(text, b"safe", is_safe(told))?;
+    put_yes_line(text, b"unblocked", is_unblocked(told))
+}
+
+/// What is told of all conditions of an outline, as a text: those that are not proved, in order,
+/// and the totals. Places are lines and columns of the source, which has at most 1,048,576 bytes.
+///
+/// # Errors
+///
+/// An allocation was refused.
+pub fn report(
+    alloc: Global,
+    outline: &Outline,
+    source: &[u8],
+    conditions: &[Condition],
+    told: &[Told],
+) -> Result<Vec<u8>, AllocError>
+    requires short { length source.now ≤ 2 ^ 20 }
+    requires each { length told.now ≡ length conditions.now }
+    requires few { length told.now < 2 ^ 32 }
+    ensures { IfOk result (λ text. text.items ≡ report_text outline.now.names source.now (map seen conditions.now) told.now) }
+{
+    let places = Places::new(alloc, source)?;
+    let mut text = Vec::new(alloc);
+    put_all(
+        &mut text,
+        outline.names(),
+        source,
+        &places,
+        conditions,
+        told,
+    )?;
+    put_totals(&mut text, told)?;
+    Ok(text)
+}

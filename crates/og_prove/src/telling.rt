@@ -1,0 +1,134 @@
+//! What is told of a condition.
+
+ghost use Rattle.std.specs.Prelude.{◌≡◌, IfOk};
+ghost use Rattle.og_cond.specs.Seen.{seen};
+ghost use Rattle.og_find.specs.Found.{IsVerdict, IsFalseAt};
+ghost use Rattle.og_explain.specs.Explanations.{IsExplained};
+ghost use Rattle.og_prove.specs.Told.{IsTold, IsBlock};
+
+use crate::block::Block;
+use crate::focus::Vars;
+use og_cond::Condition;
+use og_explain::{Actors, Explanation, Unexplained, explain};
+use og_find::Verdict;
+use og_linear::State;
+use og_places::Index;
+use og_subst::Action;
+use og_typed::Outline;
+use og_values::Values;
+use std::alloc::{AllocError, Global};
+
+/// What is told of a condition.
+#[derive(Debug, Drop)]
+pub enum Told<'a> {
+    /// It is true in every state.
+    Proved,
+    /// It is false in a state.
+    False(Block<'a>),
+    /// Nothing is known.
+    Open,
+}
+
+// The auxiliaries, where their initial values are told.
+fn initial(alloc: Global, outline: &Outline, starts: bool) -> Result<Vec<u32>, AllocError> {
+    outline.follows_rule();
+    let mut vars = Vec::new(alloc);
+    if starts {
+        for var in outline.vars()..outline.names().len() as u32 {
+            vars.push(var)?;
+        }
+    }
+    Ok(vars)
+}
+
+// The variables that the action assigns.
+fn assigned(alloc: Global, count: u32, action: &Option<Action>) -> Result<Vec<u32>, AllocError> {
+    let mut vars = Vec::new(alloc);
+    let Some(action) = action else {
+        return Ok(vars);
+    };
+    for var in 0..count {
+        if action.assigns(var) {
+            vars.push(var)?;
+        }
+    }
+    Ok(vars)
+}
+
+// The block of a condition that is false in a state.
+fn block_of<'a>(
+    alloc: Global,
+    outline: &Outline,
+    index: &Index<'a>,
+    condition: &Condition,
+    values: Values,
+    explanation: Explanation<'a>,
+) -> Result<Block<'a>, AllocError>
+    ensures { IfOk result (λ b. (b.kind ≡ condition.now.kind) × (b.values ≡ values) × (b.explanation ≡ explanation.entry)) }
+{
+    let mut focus = Vars::of_fault(alloc, condition, &explanation.fault)?;
+    let vars = focus.list(alloc)?;
+    focus.add_tests(&explanation);
+    let (state, besides) = Vars::of_condition(alloc, condition)?.told(alloc, &focus)?;
+    let initial = initial(alloc, outline, explanation.starts)?;
+    let assigned = assigned(alloc, condition.variables, &condition.action)?;
+    Ok(Block {
+        kind: condition.kind,
+        actors: Actors::of(outline, index, condition),
+        values,
+        explanation,
+        focus: vars,
+        state,
+        besides,
+        initial,
+        assigned,
+    })
+}
+
+// What is told of a condition that is false in the state.
+fn told_false<'a>(
+    alloc: Global,
+    outline: &'a Outline,
+    index: &Index<'a>,
+    condition: &Condition,
+    state: &State,
+) -> Result<Told<'a>, AllocError>
+    requires index { index.now ≡ outline.now }
+    requires is_false { IsFalseAt (seen condition.now) state.now }
+    ensures { IfOk result (IsTold outline.now (seen condition.now)) }
+{
+    match explain(alloc, outline, index, condition, state) {
+        Ok(explanation) => {
+            let values = Values::of(alloc, state)?;
+            let block = block_of(alloc, outline, index, condition, values, explanation)?;
+            Ok(Told::False(block))
+        }
+        Err(Unexplained::Open) => Ok(Told::Open),
+        Err(Unexplained::Memory) => Err(AllocError),
+    }
+}
+
+/// What is told of a condition of the outline by a verdict on it: of one that is true, that it is
+/// proved; of one that is false, the state and what explains it, as `IsExplained` says; and that it
+/// is open where the verdict is, or where a value leaves 128 bits.
+///
+/// # Errors
+///
+/// An allocation was refused.
+pub fn tell<'a>(
+    alloc: Global,
+    outline: &'a Outline,
+    index: &Index<'a>,
+    condition: &Condition,
+    verdict: &Verdict,
+) -> Result<Told<'a>, AllocError>
+    requires index { index.now ≡ outline.now }
+    requires verdict { IsVerdict (seen condition.now) verdict.now }
+    ensures { IfOk result (IsTold outline.now (seen condition.now)) }
+{
+    match verdict {
+        Verdict::True(_) => Ok(Told::Proved),
+        Verdict::False(state) => told_false(alloc, outline, index, condition, state),
+        Verdict::Open => Ok(Told::Open),
+    }
+}
