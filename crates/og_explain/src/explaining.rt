@@ -218,9 +218,8 @@ fn too_large<'a>(
 ///
 /// # Errors
 ///
-/// `Open` where a value leaves 128 bits, or what stands at a place of the condition is not as told;
-/// that does not happen of a condition of the outline and a state in which it is false. `Memory`
-/// where an allocation was refused.
+/// `Open` where a value leaves 128 bits, or what stands at a place of the condition is not as it
+/// has to be; no clause says when. `Memory` where an allocation was refused.
 pub fn explain<'a>(
     alloc: Global,
     outline: &'a Outline,

@@ -1,9 +1,11 @@
 -- What is told of a condition.
-use Rattle.std.specs.Prelude.{◌≡◌, ⊤}
+use Rattle.std.specs.Prelude.{◌≡◌, ℤ, List, ⊤}
 use Rattle.og_typed.specs.Syntax.{Program}
 use Rattle.og_cond.specs.Condition.{Condition}
 use Rattle.og_cond.specs.Valid.{IsValid}
 use Rattle.og_find.specs.Found.{IsFalseAt}
+use Rattle.og_find.specs.declared.verdict.Verdict.{Verdict}
+use Rattle.og_find.specs.declared.verdict.Verdict.TheVariants as verdicts
 use Rattle.og_explain.specs.Explanations.{IsExplained}
 use Rattle.og_prove.specs.declared.block.Block.{Block}
 use Rattle.og_prove.specs.declared.telling.Told.{Told}
@@ -20,3 +22,15 @@ abbrev pub IsTold : Program → Condition → Told → Type 0
 IsTold o c told.Proved = IsValid c
 IsTold o c (told.False block) = IsBlock o c block
 IsTold o c told.Open = ⊤
+
+-- false in this state, or open
+abbrev pub IsOfState : List ℤ → Told → Type 0
+IsOfState s told.Proved = ⊥
+IsOfState s (told.False block) = block.values ≡ s
+IsOfState s told.Open = ⊤
+
+-- proved exactly where the verdict is that the condition is true; a state that is told is the verdict's
+abbrev pub Follows : Verdict → Told → Type 0
+Follows (verdicts.True cert) t = t ≡ told.Proved
+Follows (verdicts.False s) t = IsOfState s t
+Follows verdicts.Open t = t ≡ told.Open

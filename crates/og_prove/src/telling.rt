@@ -3,8 +3,7 @@
 ghost use Rattle.std.specs.Prelude.{◌≡◌, IfOk};
 ghost use Rattle.og_cond.specs.Seen.{seen};
 ghost use Rattle.og_find.specs.Found.{IsVerdict, IsFalseAt};
-ghost use Rattle.og_explain.specs.Explanations.{IsExplained};
-ghost use Rattle.og_prove.specs.Told.{IsTold, IsBlock};
+ghost use Rattle.og_prove.specs.Told.{IsTold, IsOfState, Follows};
 
 use crate::block::Block;
 use crate::focus::Vars;
@@ -95,7 +94,8 @@ fn told_false<'a>(
 ) -> Result<Told<'a>, AllocError>
     requires index { index.now ≡ outline.now }
     requires is_false { IsFalseAt (seen condition.now) state.now }
-    ensures { IfOk result (IsTold outline.now (seen condition.now)) }
+    ensures told { IfOk result (IsTold outline.now (seen condition.now)) }
+    ensures state { IfOk result (IsOfState state.now) }
 {
     match explain(alloc, outline, index, condition, state) {
         Ok(explanation) => {
@@ -124,7 +124,8 @@ pub fn tell<'a>(
 ) -> Result<Told<'a>, AllocError>
     requires index { index.now ≡ outline.now }
     requires verdict { IsVerdict (seen condition.now) verdict.now }
-    ensures { IfOk result (IsTold outline.now (seen condition.now)) }
+    ensures told { IfOk result (IsTold outline.now (seen condition.now)) }
+    ensures follows { IfOk result (Follows verdict.now) }
 {
     match verdict {
         Verdict::True(_) => Ok(Told::Proved),

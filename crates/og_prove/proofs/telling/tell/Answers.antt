@@ -5,7 +5,7 @@ use Rattle.og_find.specs.Found.{IsVerdict}
 use Rattle.og_find.proofs.Certified.{certified_valid}
 use Rattle.og_prove.proofs.telling.tell.Goals as goal
 
-pub returns-in-True : goal.returns-in-True
-returns-in-True c =
+pub returns-in-True-clause-told : goal.returns-in-True-clause-told
+returns-in-True-clause-told c =
     let condition = seen c.args.condition.now in
     certified_valid condition (plain_cert c.in-True.field-0) (subst (IsVerdict condition) c.in-True.is c.requires.verdict)
