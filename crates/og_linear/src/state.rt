@@ -1,7 +1,7 @@
 //! States.
 
 ghost use Rattle.std.specs.Prelude.{◌≡◌, ◌<◌, length};
-ghost use Rattle.og_linear.specs.Linear.{put};
+ghost use Rattle.og_linear.specs.Linear.{put, IsProper};
 
 use std::marker::Model;
 
@@ -39,6 +39,13 @@ impl State {
         ensures { result.now ≡ self.now }
     {
         self.values.as_slice()
+    }
+
+    /// A law: each value is an `i64`.
+    pub fn values_fit(&self)
+        ensures { IsProper self.now }
+    {
+        let _values = &self.values;
     }
 
     /// Gives the variable a value. Takes no memory.
