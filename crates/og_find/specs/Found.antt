@@ -1,5 +1,5 @@
 -- What is found for conditions.
-use Rattle.std.specs.Prelude.{◌≡◌, ◌⊎◌, ℕ, ◌-◌, ◌<◌, ℤ, List, length, true, false, ⊤, IsSomeAnd, IsOkAnd, slice_get}
+use Rattle.std.specs.Prelude.{◌≡◌, ℕ, ◌-◌, ◌<◌, ℤ, List, length, true, false, ⊤, IsSomeAnd, IsOkAnd, slice_get}
 use Rattle.std.specs.List.{AllByRecursion}
 use Rattle.og_linear.specs.Linear.{IsProper}
 use Rattle.og_cond.specs.Condition.{assignments, Condition}
@@ -10,7 +10,7 @@ use Rattle.og_facts.specs.Listed.{Listed}
 use Rattle.og_cert_text.specs.Tree.{Cert}
 use Rattle.og_cert_text.specs.Plain.{plain_cert}
 use Rattle.og_cert_text.specs.Shallow.{is_well_formed}
-use Rattle.og_cert_text.specs.Files.{Entries, with_entry}
+use Rattle.og_cert_text.specs.Files.{Entries}
 use Rattle.og_cert.specs.Closes.{closes}
 use Rattle.og_find.specs.declared.verdict.Verdict.{Verdict}
 use Rattle.og_find.specs.declared.verdict.Verdict.TheVariants as verdicts
@@ -42,11 +42,11 @@ AreOf cs = AllByRecursion (IsOfOne cs)
 abbrev pub Closes : Listed → Cert → Type 0
 Closes list proof = (is_well_formed proof ≡ true) × (closes list.variables list.facts proof ≡ true)
 
+-- a state of i64 values, one for each variable, in which all facts are true
+abbrev pub IsModel : Listed → List ℤ → Type 0
+IsModel list s = IsProper s × (length s ≡ list.variables) × (all_true_at s list.facts ≡ true)
+
 abbrev pub IsVerdictOn : Listed → Verdict → Type 0
 IsVerdictOn list (verdicts.True cert) = Closes list (plain_cert cert)
-IsVerdictOn list (verdicts.False s) = IsProper s × (length s ≡ list.variables) × (all_true_at s list.facts ≡ true)
+IsVerdictOn list (verdicts.False s) = IsModel list s
 IsVerdictOn list verdicts.Open = ⊤
-
--- the file is as before, or it has a certificate more, which closes the facts
-abbrev pub Gains : Listed → ℕ → Entries → Entries → Type 0
-Gains list n before after = (after ≡ before) ⊎ ((c : Cert) × Closes list c × (after ≡ with_entry n c before))

@@ -1,25 +1,24 @@
 //! Certificates of conditions, and states in which conditions are false.
 
-ghost use Rattle.std.specs.Prelude.{◌≡◌, length, true, IfOk, IfSome, OnSome, IsTrue, vec_len};
+ghost use Rattle.std.specs.Prelude.{◌≡◌, IfOk, IfSome, OnSome, IsTrue, vec_len};
 ghost use Rattle.og_cond.specs.Valid.{IsValid};
 ghost use Rattle.og_cond.specs.Seen.{seen};
-ghost use Rattle.og_linear.specs.Linear.{IsProper};
-ghost use Rattle.og_facts.specs.Truth.{all_true_at};
 ghost use Rattle.og_cert_text.specs.Plain.{plain_cert};
-ghost use Rattle.og_find.specs.Found.{Certifies, Closes, IsVerdict, IsVerdictOn};
+ghost use Rattle.og_find.specs.Found.{Certifies, Closes, IsModel, IsVerdict, IsVerdictOn};
 
 use crate::reading::part_of;
-use crate::truth::{NESTING_LIMIT, all_true, are_proper};
+use crate::truth::{NESTING_LIMIT, all_true};
 use crate::verdict::Verdict;
 use og_cert::{Cert, ReplayError, replay};
 use og_cond::Condition;
 use og_facts::{FactList, FactsError, facts};
 use og_linear::State;
 use og_search::{Claim, Model, Part, search_among};
+use og_values::Values;
 use std::alloc::{AllocError, Global};
 
 // Whether the certificate is well formed and closes the facts.
-pub(crate) fn is_closing(alloc: Global, list: &FactList, cert: &Cert) -> Result<bool, AllocError>
+fn is_closing(alloc: Global, list: &FactList, cert: &Cert) -> Result<bool, AllocError>
     ensures { IfOk result (λ yes. IsTrue yes → Closes list.now (plain_cert cert.now)) }
 {
     if !cert.is_well_formed() {
@@ -48,15 +47,14 @@ fn values_of(alloc: Global, model: &Model, variables: u32) -> Result<Option<Vec<
 
 // The state of these values, if all facts are true in it.
 fn state_of(alloc: Global, list: &FactList, model: &Model) -> Result<Option<State>, AllocError>
-    ensures { IfOk result (λ some. IfSome some (λ s.
-        (length s ≡ list.now.variables) × (all_true_at s list.now.facts ≡ true))) }
+    ensures { IfOk result (λ some. IfSome some (IsModel list.now)) }
 {
     let values = match values_of(alloc, model, list.variables())? {
         Some(values) => values,
         None => return Ok(None),
     };
     let state = State::new(values);
-    if is_model(list, &state) {
+    if is_model(alloc, list, &state)? {
         Ok(Some(state))
     } else {
         Ok(None)
@@ -64,17 +62,19 @@ fn state_of(alloc: Global, list: &FactList, model: &Model) -> Result<Option<Stat
 }
 
 // Whether the state has a value for each variable, and all facts are true in it.
-fn is_model(list: &FactList, state: &State) -> bool
-    ensures range { IsProper state.now }
-    ensures model { IsTrue result → (length state.now ≡ list.now.variables) × (all_true_at state.now list.now.facts ≡ true) }
+fn is_model(alloc: Global, list: &FactList, state: &State) -> Result<bool, AllocError>
+    ensures { IfOk result (λ yes. IsTrue yes → IsModel list.now state.now) }
 {
-    are_proper(state.as_slice());
-    state.as_slice().len() == list.variables() as usize
-        && all_true(list.as_slice(), state, NESTING_LIMIT)
+    state.values_fit();
+    if state.as_slice().len() != list.variables() as usize {
+        return Ok(false);
+    }
+    let values = Values::of(alloc, state)?;
+    Ok(all_true(list.as_slice(), &values, NESTING_LIMIT))
 }
 
-/// The verdict on a condition with these facts, by a search and a check of what it claims.
-pub(crate) fn examine_facts(
+// The verdict on a condition with these facts, by a search and a check of what it claims.
+fn examine_facts(
     alloc: Global,
     list: &FactList,
     part: &Part,
@@ -125,7 +125,7 @@ fn is_verdict_on(alloc: Global, list: &FactList, verdict: &Verdict) -> Result<bo
 {
     match verdict {
         Verdict::True(cert) => is_closing(alloc, list, cert),
-        Verdict::False(state) => Ok(is_model(list, state)),
+        Verdict::False(state) => is_model(alloc, list, state),
         Verdict::Open => Ok(true),
     }
 }

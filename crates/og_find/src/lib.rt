@@ -7,11 +7,10 @@
 mod all;
 mod finding;
 mod reading;
-mod repeats;
 mod truth;
 mod verdict;
 
-pub use all::{find_all, has_all};
+pub use all::has_all;
 pub use finding::{examine, find, is_verdict};
 pub use og_cert::Cert;
 pub use reading::{has_equal_facts, mark};

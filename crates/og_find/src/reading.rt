@@ -44,8 +44,8 @@ fn part_of_condition(alloc: Global, condition: &Condition) -> Result<Option<Part
     }
 }
 
-/// A mark of the condition's facts: the same for equal facts, and seldom for others. None where it
-/// has no facts, since they are too many or too large.
+/// A mark of the condition's facts: the same for equal facts, and for others only by a chance of a
+/// hash. None where it has no facts, since they are too many or too large.
 ///
 /// # Errors
 ///

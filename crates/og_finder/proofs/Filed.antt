@@ -1,6 +1,6 @@
 -- Files of the certificates of verdicts.
 use Rattle.std.proofs.Common.{◌≡◌, ◌≤◌, ⊎_elim, get_or, inl, inr, ℕ, ◌+◌, ◌-◌, ◌<◌, List, [], ◌∷◌, ◌++◌, zero, suc, length, Bool, true, false, Option, Some, None, refl, sym, ap, ◌∙◌, subst, arith}
-use Rattle.std.specs.Prelude.{nat_lt, ◌==◌, if◌then◌else◌, slice_get, IsSomeAnd}
+use Rattle.std.specs.Prelude.{nat_lt, ◌==◌, if◌then◌else◌, slice_get, IsSomeAnd, Result, Ok, Err, OnOk}
 use Rattle.std.proofs.lemmas.Option.{slice_get_cases, slice_get_past}
 use Rattle.std.specs.Global.{Box}
 use Rattle.std.specs.List.{AllByRecursion}
@@ -16,6 +16,12 @@ use Rattle.og_find.specs.declared.verdict.Verdict.TheVariants as verdicts
 use Rattle.og_finder.specs.Findings.{verdict_at, own_or, verdict_in, verdict_of, AreVerdicts}
 use Rattle.og_finder.specs.declared.findings.Findings.{Findings}
 use Rattle.og_finder.specs.Filing.{IsCertificateOf, AreFiled, IsAtPlace, IsPut, IsShared}
+
+-- ---- results
+
+pub on_ok : {T E : Type 0} (r : Result T E) (P Q : Type 0) → (P → Q) → OnOk r P → OnOk r Q
+on_ok (Ok x) P Q f p = f p
+on_ok (Err e) P Q f p = tt
 
 -- ---- entries
 

@@ -1,18 +1,25 @@
 //! What the finder tells of the conditions of outlines.
 
+ghost use Rattle.std.specs.Prelude.{◌<◌, ◌≤◌, ◌^◌, length};
+
 use crate::sources::{LARGE, NO_FACTS, NOT_EVEN, deep, many, multiplied};
 use og_cert_text::{CertFile, write_certs};
 use og_cond::{Condition, conditions};
-use og_find::{Verdict, examine, find, find_all, has_all};
+use og_find::{Verdict, examine, find, has_all};
+use og_finder::find_all;
 use og_samples::{EQUAL_ADD, NESTED, TOLD_ADD, TWO_ADD, alike, outline_of};
 use og_typed::Outline;
 use std::alloc::{AllocError, Global};
 use std::process::Abort;
+use std::sync::Wait;
 use std::test::Fail;
+use std::thread::Threads;
 
 pub(crate) const BUDGET: u64 = 100_000;
 
 const GREATEST_BUDGET: u64 = 1_000_000_000;
+
+const WORKERS: u32 = 2;
 
 // A letter for the verdict: true, false or open.
 pub(crate) fn letter(verdict: &Verdict) -> u8 {
@@ -66,34 +73,44 @@ fn has_letters(
     Ok(list.len() == expected.len())
 }
 
-fn list_has(
+fn list_has<R: Threads + Wait + Sync>(
+    rt: &R,
     alloc: Global,
     list: &[Condition],
     budget: u64,
     expected: &[u8],
-) -> Result<bool, AllocError> {
-    let file = find_all(alloc, list, budget)?;
+) -> Result<bool, Fail>
+    requires few { length list.now < 2 ^ 32 }
+{
+    let file = find_all(rt, alloc, list, budget, WORKERS)?;
     let told = has_letters(alloc, list, &file, budget, expected);
     drop(file);
-    told
+    Ok(told?)
 }
 
-fn outline_has(
+fn outline_has<R: Threads + Wait + Sync>(
+    rt: &R,
     alloc: Global,
     outline: &Outline,
     budget: u64,
     expected: &[u8],
 ) -> Result<bool, Fail> {
     let list = conditions(alloc, outline)?;
-    let told = list_has(alloc, &list, budget, expected);
+    let told = list_has(rt, alloc, &list, budget, expected);
     drop(list);
-    Ok(told?)
+    told
 }
 
 // Whether these are the letters of the conditions of a source.
-fn source_has(alloc: Global, source: &str, budget: u64, expected: &str) -> Result<bool, Fail> {
+fn source_has<R: Threads + Wait + Sync>(
+    rt: &R,
+    alloc: Global,
+    source: &str,
+    budget: u64,
+    expected: &str,
+) -> Result<bool, Fail> {
     let outline = outline_of(alloc, source)?;
-    let told = outline_has(alloc, &outline, budget, expected.as_bytes());
+    let told = outline_has(rt, alloc, &outline, budget, expected.as_bytes());
     drop(outline);
     told
 }
@@ -111,14 +128,14 @@ pub(crate) const VERDICTS: &[(&str, u64, &str)] = &[
     (TWO_ADD, GREATEST_BUDGET, "tttttttttttt"),
 ];
 
-fn expect_letters(
-    rt: &impl Abort,
+fn expect_letters<R: Threads + Wait + Sync + Abort>(
+    rt: &R,
     alloc: Global,
     source: &str,
     budget: u64,
     expected: &str,
 ) -> Result<(), Fail> {
-    let is_right = source_has(alloc, source, budget, expected)?;
+    let is_right = source_has(rt, alloc, source, budget, expected)?;
     assert!(rt; is_right, "{expected} of {source} with {budget}");
     Ok(())
 }
@@ -131,8 +148,13 @@ fn verdicts(rt: HostRuntime) -> Result<(), Fail> {
     Ok(())
 }
 
-fn expect_made(rt: &impl Abort, alloc: Global, source: String, expected: &str) -> Result<(), Fail> {
-    let is_right = source_has(alloc, source.as_str(), BUDGET, expected)?;
+fn expect_made<R: Threads + Wait + Sync + Abort>(
+    rt: &R,
+    alloc: Global,
+    source: String,
+    expected: &str,
+) -> Result<(), Fail> {
+    let is_right = source_has(rt, alloc, source.as_str(), BUDGET, expected)?;
     assert!(rt; is_right, "{expected}");
     Ok(())
 }
@@ -150,18 +172,28 @@ fn made_sources(rt: HostRuntime) -> Result<(), Fail> {
 }
 
 // How many conditions there are, and whether all are certified.
-fn certified_list(alloc: Global, list: &[Condition]) -> Result<(usize, bool), AllocError> {
-    let file = find_all(alloc, list, BUDGET)?;
+fn certified_list<R: Threads + Wait + Sync>(
+    rt: &R,
+    alloc: Global,
+    list: &[Condition],
+) -> Result<(usize, bool), Fail>
+    requires few { length list.now < 2 ^ 32 }
+{
+    let file = find_all(rt, alloc, list, BUDGET, WORKERS)?;
     let all = has_all(&file, 4938);
     drop(file);
     Ok((list.len(), all))
 }
 
-fn certified(alloc: Global, outline: &Outline) -> Result<(usize, bool), Fail> {
+fn certified<R: Threads + Wait + Sync>(
+    rt: &R,
+    alloc: Global,
+    outline: &Outline,
+) -> Result<(usize, bool), Fail> {
     let list = conditions(alloc, outline)?;
-    let told = certified_list(alloc, &list);
+    let told = certified_list(rt, alloc, &list);
     drop(list);
-    Ok(told?)
+    told
 }
 
 #[test]
@@ -169,29 +201,48 @@ fn many_conditions(rt: HostRuntime) -> Result<(), Fail> {
     let alloc = rt.alloc();
     let source = alike(alloc, 2, 38, 7)?;
     let outline = outline_of(alloc, source.as_str())?;
-    let told = certified(alloc, &outline);
+    let told = certified(&rt, alloc, &outline);
     drop(outline);
     assert!(rt; told? == (4938, true));
     Ok(())
 }
 
-// The text of what is found.
-fn found(alloc: Global, list: &[Condition], budget: u64) -> Result<Vec<u8>, Fail> {
-    let file = find_all(alloc, list, budget)?;
+// The text of what is found by so many workers.
+pub(crate) fn text_of_found<R: Threads + Wait + Sync>(
+    rt: &R,
+    alloc: Global,
+    list: &[Condition],
+    budget: u64,
+    workers: u32,
+) -> Result<Vec<u8>, Fail>
+    requires workers { (0 < workers) × (workers ≤ 64) }
+    requires few { length list.now < 2 ^ 32 }
+{
+    let file = find_all(rt, alloc, list, budget, workers)?;
     let text = write_certs(alloc, &file);
     drop(file);
     Ok(text?)
 }
 
-fn is_same(alloc: Global, list: &[Condition]) -> Result<bool, Fail> {
-    let usual = found(alloc, list, BUDGET)?;
-    let greatest = found(alloc, list, GREATEST_BUDGET)?;
+fn is_same<R: Threads + Wait + Sync>(
+    rt: &R,
+    alloc: Global,
+    list: &[Condition],
+) -> Result<bool, Fail>
+    requires few { length list.now < 2 ^ 32 }
+{
+    let usual = text_of_found(rt, alloc, list, BUDGET, WORKERS)?;
+    let greatest = text_of_found(rt, alloc, list, GREATEST_BUDGET, WORKERS)?;
     Ok(usual == greatest)
 }
 
-fn is_same_of(alloc: Global, outline: &Outline) -> Result<bool, Fail> {
+fn is_same_of<R: Threads + Wait + Sync>(
+    rt: &R,
+    alloc: Global,
+    outline: &Outline,
+) -> Result<bool, Fail> {
     let list = conditions(alloc, outline)?;
-    let told = is_same(alloc, &list);
+    let told = is_same(rt, alloc, &list);
     drop(list);
     told
 }
@@ -201,7 +252,7 @@ fn is_same_of(alloc: Global, outline: &Outline) -> Result<bool, Fail> {
 fn same_certificates(rt: HostRuntime) -> Result<(), Fail> {
     let alloc = rt.alloc();
     let outline = outline_of(alloc, EQUAL_ADD)?;
-    let told = is_same_of(alloc, &outline);
+    let told = is_same_of(&rt, alloc, &outline);
     drop(outline);
     assert!(rt; told?);
     Ok(())

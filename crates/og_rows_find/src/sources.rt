@@ -12,6 +12,11 @@ pub(crate) const LARGE: &str =
 // A condition that has no facts at all: it is false.
 pub(crate) const NO_FACTS: &str = "{false}\ncobegin\n{true} skip {false}\ncoend\n{false}\n";
 
+// Conditions 3 and 4 have facts that differ only in a sign: their second one is -x - 4 <= 0 in the
+// one and x - 4 <= 0 in the other.
+pub(crate) const TURNED: &str =
+    "var x;\n{x <= 5 and x <= 4 and x >= -4}\ncobegin\n{x <= 5 and x >= -4} skip {x <= 5}\n//\n{x <= 5 and x <= 4} skip {x <= 5}\ncoend\n{x <= 5}\n";
+
 // A process that multiplies x so often by 2^31.
 pub(crate) fn multiplied(alloc: Global, times: usize) -> Result<String, AllocError> {
     let steps = "; x := 2147483648*x".repeat(alloc, times)?;

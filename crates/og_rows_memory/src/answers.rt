@@ -99,15 +99,12 @@ pub(crate) fn is_listed(alloc: Global) -> Result<bool, PoolFault> {
     Ok(is(&listed(alloc, ONE_SKIP.as_bytes())?, LISTED, 0))
 }
 
-pub(crate) fn is_found(alloc: Global) -> Result<bool, PoolFault> {
-    let Some(budget) = Budget::new(100_000) else {
+pub(crate) fn is_found<R: Threads + Wait + Sync>(rt: &R, alloc: Global) -> Result<bool, PoolFault> {
+    let (Some(budget), Some(workers)) = (Budget::new(100_000), Workers::new(2)) else {
         return Ok(false);
     };
-    Ok(is(
-        &found(alloc, ONE_SKIP.as_bytes(), budget)?,
-        ONE_SKIP_CERTS,
-        0,
-    ))
+    let answer = found(rt, alloc, ONE_SKIP.as_bytes(), budget, workers)?;
+    Ok(is(&answer, ONE_SKIP_CERTS, 0))
 }
 
 const ERASED: &str =

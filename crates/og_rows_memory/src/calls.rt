@@ -38,13 +38,13 @@ fn is_right<R: Threads + Wait + Sync>(
         Call::Check => is_checked(rt, alloc),
         Call::Write => is_written(rt, alloc),
         Call::List => is_listed(alloc),
-        Call::Find => is_found(alloc),
+        Call::Find => is_found(rt, alloc),
         Call::Erase => is_erased(alloc),
         Call::Migrate => is_migrated(alloc),
         Call::Run => is_run(rt, alloc),
         Call::RunProved => is_proved_run(rt, alloc),
         Call::Examine => are_examined(alloc),
-        Call::FindAll => are_found(alloc),
+        Call::FindAll => are_found(rt, alloc),
     }
 }
 

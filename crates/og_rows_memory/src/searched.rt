@@ -1,12 +1,17 @@
 //! Searches of the conditions of an outline.
 
+ghost use Rattle.std.specs.Prelude.{◌<◌, ◌^◌, IfOk, IfSome, vec_len};
+
 use og_cond::{Condition, ConditionsError, conditions};
-use og_find::{Verdict, examine, find_all, has_all};
+use og_find::{Verdict, examine, has_all};
+use og_finder::find_all;
 use og_pool::PoolFault;
 use og_samples::{TWO_ADD, outline_of};
 use og_source::SourceError;
 use og_typed::Outline;
 use std::alloc::Global;
+use std::sync::Wait;
+use std::thread::Threads;
 
 const BUDGET: u64 = 100_000;
 
@@ -20,10 +25,9 @@ fn outline(alloc: Global) -> Result<Option<Outline>, PoolFault> {
 }
 
 // Its conditions; none where there are too many.
-fn listed<'a>(
-    alloc: Global,
-    outline: &'a Outline,
-) -> Result<Option<Vec<Condition<'a>>>, PoolFault> {
+fn listed<'a>(alloc: Global, outline: &'a Outline) -> Result<Option<Vec<Condition<'a>>>, PoolFault>
+    ensures { IfOk result (λ some. IfSome some (λ list. vec_len list < 2 ^ 32)) }
+{
     match conditions(alloc, outline) {
         Ok(list) => Ok(Some(list)),
         Err(ConditionsError::Memory) => Err(PoolFault::Memory),
@@ -55,16 +59,23 @@ pub(crate) fn are_examined(alloc: Global) -> Result<bool, PoolFault> {
     }
 }
 
-fn found(alloc: Global, outline: &Outline) -> Result<bool, PoolFault> {
+fn found<R: Threads + Wait + Sync>(
+    rt: &R,
+    alloc: Global,
+    outline: &Outline,
+) -> Result<bool, PoolFault> {
     match listed(alloc, outline)? {
-        Some(list) => Ok(has_all(&find_all(alloc, &list, BUDGET)?, 12)),
+        Some(list) => Ok(has_all(&find_all(rt, alloc, &list, BUDGET, 2)?, 12)),
         None => Ok(false),
     }
 }
 
-pub(crate) fn are_found(alloc: Global) -> Result<bool, PoolFault> {
+pub(crate) fn are_found<R: Threads + Wait + Sync>(
+    rt: &R,
+    alloc: Global,
+) -> Result<bool, PoolFault> {
     match outline(alloc)? {
-        Some(outline) => found(alloc, &outline),
+        Some(outline) => found(rt, alloc, &outline),
         None => Ok(false),
     }
 }

@@ -4,34 +4,36 @@ use crate::linear::{Linear, next_mark};
 use crate::part::{Atom, Choice, Part};
 
 fn mark_form(mark: u128, form: &Linear) -> u128 {
-    let mut next = next_mark(mark, form.constant.unsigned_abs());
+    let mut next = next_mark(mark, form.constant.cast_unsigned());
+    next = next_mark(next, form.terms.len() as u128);
     for term in &form.terms {
         next = next_mark(next, u128::from(term.var));
-        next = next_mark(next, term.coefficient.unsigned_abs());
+        next = next_mark(next, term.coefficient.cast_unsigned());
     }
     next
 }
 
 fn mark_atoms(mark: u128, atoms: &[Atom]) -> u128 {
-    let mut next = mark;
+    let mut next = next_mark(mark, atoms.len() as u128);
     for atom in atoms {
-        next = mark_form(next, &atom.form);
+        next = mark_form(next_mark(next, atom.index as u128), &atom.form);
     }
     next
 }
 
 #[cycle(marking)]
 fn mark_part(mark: u128, part: &Part) -> u128 {
-    let mut next = next_mark(mark_atoms(mark, &part.atoms), 1);
+    let mut next = mark_atoms(next_mark(mark, part.count as u128), &part.atoms);
+    next = next_mark(next, part.choices.len() as u128);
     for choice in &part.choices {
-        next = mark_parts(next, &choice.parts);
+        next = mark_parts(next_mark(next, choice.index as u128), &choice.parts);
     }
     next
 }
 
 #[cycle(marking)]
 fn mark_parts(mark: u128, parts: &[Part]) -> u128 {
-    let mut next = next_mark(mark, 2);
+    let mut next = next_mark(mark, parts.len() as u128);
     for part in parts {
         next = mark_part(next, part);
     }
@@ -80,7 +82,8 @@ fn are_same_parts(a: &[Part], b: &[Part]) -> bool {
 }
 
 impl Part {
-    /// A number that is the same for equal facts, and seldom for others.
+    /// A number that is the same for equal facts. It is made of all that `is_same` compares, in order,
+    /// so other facts have it only by a chance of the hash.
     pub fn mark(&self) -> u128 {
         mark_part(0, self)
     }

@@ -9,7 +9,7 @@ use Rattle.og_find.proofs.truth.+truth.Goals as goal
 
 pub is_true-returns-in-Some : goal.is_true-returns-in-Some
 is_true-returns-in-Some t c = λ yes.
-    let s = c.args.state.now in
+    let s = c.args.values.now in
     ap (λ f. fact_true s (plain_fact f)) c.in-Split.is
     ∙ ap (fact_true s) (plain_split c.in-Split.parts)
     ∙ ap (λ l. some_part_true s (parts_of_list (map shown l))) (sym c.deref.ensures.value)
@@ -17,6 +17,6 @@ is_true-returns-in-Some t c = λ yes.
 
 pub some_true-returns-then-all_true : goal.some_true-returns-then-all_true
 some_true-returns-then-all_true t c = λ yes.
-    let s = c.args.state.now in
+    let s = c.args.values.now in
     some_at s c.args.parts.now c.loop-part.part-index c.part-item.result c.loop-part-test.true c.part-item.is
     (ap (λ l. all_true_at s (map plain_fact l)) (sym c.deref.ensures.value) ∙ c.all_true.ensures c.if-all_true.true)

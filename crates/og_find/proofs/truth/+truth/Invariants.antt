@@ -13,4 +13,4 @@ abbrev pub decreases-some_true : goal.decreases-some_true
 decreases-some_true l = 3 * l.depth + 2
 
 abbrev pub invariant-all_true-loop-fact : goal.invariant-all_true-loop-fact
-invariant-all_true-loop-fact l = all_true_at l.state (map plain_fact (drop l.fact-index l.facts)) ≡ all_true_at l.state (map plain_fact l.facts)
+invariant-all_true-loop-fact l = all_true_at l.values (map plain_fact (drop l.fact-index l.facts)) ≡ all_true_at l.values (map plain_fact l.facts)

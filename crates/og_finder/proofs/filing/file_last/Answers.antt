@@ -5,9 +5,8 @@ use Rattle.og_cert_text.specs.Plain.{plain_cert}
 use Rattle.og_cert_text.specs.Shown.{shown}
 use Rattle.og_find.specs.declared.verdict.Verdict.{Verdict}
 use Rattle.og_find.specs.declared.verdict.Verdict.TheVariants as verdicts
-use Rattle.og_find.proofs.Certified.{on_ok}
 use Rattle.og_finder.specs.Filing.{AreFiled, IsPut}
-use Rattle.og_finder.proofs.Filed.{own_filed}
+use Rattle.og_finder.proofs.Filed.{on_ok, own_filed}
 use Rattle.og_finder.proofs.filing.file_last.Goals as goal
 
 pub returns-in-Some-number_of : goal.returns-in-Some-number_of

@@ -1,9 +1,8 @@
 use Rattle.std.proofs.Common.{ℕ, List, ◌≡◌, ◌-◌, subst, arith, rules}
 use Rattle.og_cert_text.specs.Shown.{shown}
 use Rattle.og_find.specs.declared.verdict.Verdict.{Verdict}
-use Rattle.og_find.proofs.Certified.{on_ok}
 use Rattle.og_finder.specs.Filing.{AreFiled, IsAtPlace, IsShared}
-use Rattle.og_finder.proofs.Filed.{shared_filed}
+use Rattle.og_finder.proofs.Filed.{on_ok, shared_filed}
 use Rattle.og_finder.proofs.filing.Filing.file_shared.Goals as goal
 
 pub returns : goal.returns

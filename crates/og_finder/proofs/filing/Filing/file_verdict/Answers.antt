@@ -2,11 +2,10 @@ use Rattle.std.proofs.Common.{List}
 use Rattle.og_cert_text.specs.Plain.{plain_cert}
 use Rattle.og_cert_text.specs.Shown.{shown}
 use Rattle.og_find.specs.declared.verdict.Verdict.{Verdict}
-use Rattle.og_find.proofs.Certified.{on_ok}
 use Rattle.std.specs.Prelude.{slice_get}
 use Rattle.std.proofs.Common.{◌≡◌, Some}
 use Rattle.og_finder.specs.Filing.{AreFiled, IsPut}
-use Rattle.og_finder.proofs.Filed.{verdict_filed}
+use Rattle.og_finder.proofs.Filed.{on_ok, verdict_filed}
 use Rattle.og_finder.proofs.filing.Filing.file_verdict.Goals as goal
 
 pub returns-in-Some : goal.returns-in-Some

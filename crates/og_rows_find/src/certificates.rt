@@ -1,0 +1,125 @@
+//! The certificates that several workers find, as texts.
+
+ghost use Rattle.std.specs.Prelude.{◌<◌, ◌^◌, length};
+
+use crate::searching::{BUDGET, text_of_found};
+use crate::sources::TURNED;
+use og_cert_text::{CertFile, put_cert, write_certs};
+use og_cond::{Condition, conditions};
+use og_find::{find, mark};
+use og_samples::{EQUAL_ADD, NESTED, TOLD_ADD, TWO_ADD, alike, outline_of};
+use og_typed::Outline;
+use std::alloc::Global;
+use std::process::Abort;
+use std::sync::Wait;
+use std::test::Fail;
+use std::thread::Threads;
+
+// The text of the certificates that searches of each condition alone find.
+fn text_alone(alloc: Global, list: &[Condition]) -> Result<Vec<u8>, Fail> {
+    let mut file = CertFile::new(alloc);
+    let mut number = 0u32;
+    for condition in list {
+        number = number.saturating_add(1);
+        if let Some(cert) = find(alloc, condition, BUDGET)? {
+            file.add(number, cert)?;
+        }
+    }
+    let text = write_certs(alloc, &file);
+    drop(file);
+    Ok(text?)
+}
+
+// Each number of workers finds what searches of each condition alone find.
+fn expect_alone<R: Threads + Wait + Sync + Abort>(
+    rt: &R,
+    alloc: Global,
+    list: &[Condition],
+) -> Result<(), Fail>
+    requires few { length list.now < 2 ^ 32 }
+{
+    let alone = text_alone(alloc, list)?;
+    for workers in [1, 2, 3, 64] {
+        let text = text_of_found(rt, alloc, list, BUDGET, workers)?;
+        assert!(rt; text == alone, "by {workers} workers");
+    }
+    Ok(())
+}
+
+fn expect_alone_of<R: Threads + Wait + Sync + Abort>(
+    rt: &R,
+    alloc: Global,
+    outline: &Outline,
+) -> Result<(), Fail> {
+    let list = conditions(alloc, outline)?;
+    let told = expect_alone(rt, alloc, &list);
+    drop(list);
+    told
+}
+
+fn expect_alone_in<R: Threads + Wait + Sync + Abort>(
+    rt: &R,
+    alloc: Global,
+    source: &str,
+) -> Result<(), Fail> {
+    let outline = outline_of(alloc, source)?;
+    let told = expect_alone_of(rt, alloc, &outline);
+    drop(outline);
+    told
+}
+
+#[test]
+fn certificates_of_workers(rt: HostRuntime) -> Result<(), Fail> {
+    for source in [TWO_ADD, EQUAL_ADD, TOLD_ADD, NESTED, TURNED] {
+        expect_alone_in(&rt, rt.alloc(), source)?;
+    }
+    Ok(())
+}
+
+// Of 4,938 conditions most have the facts of others.
+#[test]
+fn certificates_of_many_conditions(rt: HostRuntime) -> Result<(), Fail> {
+    let source = alike(rt.alloc(), 2, 38, 7)?;
+    expect_alone_in(&rt, rt.alloc(), source.as_str())
+}
+
+// The lines of the certificate that is found for the condition.
+fn lines_of(alloc: Global, condition: &Condition) -> Result<Vec<u8>, Fail> {
+    let mut lines = Vec::new(alloc);
+    if let Some(cert) = find(alloc, condition, BUDGET)? {
+        put_cert(&mut lines, &cert)?;
+    }
+    Ok(lines)
+}
+
+fn expect_turned(rt: &impl Abort, alloc: Global, list: &[Condition]) -> Result<(), Fail> {
+    let first = list.get(2).expect(rt, "condition 3");
+    let second = list.get(3).expect(rt, "condition 4");
+    assert!(rt; mark(alloc, first)? != mark(alloc, second)?);
+    assert_eq!(rt;
+        lines_of(alloc, first)?.as_slice(),
+        b"close 1*3 1*1\n".as_slice()
+    );
+    assert_eq!(rt;
+        lines_of(alloc, second)?.as_slice(),
+        b"close 1*3 1*2\n".as_slice()
+    );
+    Ok(())
+}
+
+fn expect_turned_of(rt: &impl Abort, alloc: Global, outline: &Outline) -> Result<(), Fail> {
+    let list = conditions(alloc, outline)?;
+    let told = expect_turned(rt, alloc, &list);
+    drop(list);
+    told
+}
+
+// The certificate of the first condition would do for the second too, which finds another.
+#[test]
+fn facts_with_another_sign(rt: HostRuntime) -> Result<(), Fail> {
+    let alloc = rt.alloc();
+    let outline = outline_of(alloc, TURNED)?;
+    let told = expect_turned_of(&rt, alloc, &outline);
+    drop(outline);
+    told
+}
