@@ -9,6 +9,18 @@ use std::test::Fail;
 const JOBS: &[(&str, &str)] = &[
     ("", "Joined"),
     (
+        "prove a",
+        "Prove { source: \"a\", budget: Budget { facts: 100000 }, workers: Workers { count: 1 }, json: false }",
+    ),
+    (
+        "prove - --budget 1 --workers 64 --json",
+        "Prove { source: \"-\", budget: Budget { facts: 1 }, workers: Workers { count: 64 }, json: true }",
+    ),
+    (
+        "prove --json --workers 2 --budget 1000000000 a",
+        "Prove { source: \"a\", budget: Budget { facts: 1000000000 }, workers: Workers { count: 2 }, json: true }",
+    ),
+    (
         "check a b",
         "Check { source: \"a\", certs: \"b\", workers: Workers { count: 1 }, json: false }",
     ),
@@ -23,11 +35,19 @@ const JOBS: &[(&str, &str)] = &[
     ("conditions a", "Conditions { source: \"a\" }"),
     (
         "find a",
-        "Find { source: \"a\", budget: Budget { facts: 100000 } }",
+        "Find { source: \"a\", budget: Budget { facts: 100000 }, workers: Workers { count: 1 } }",
     ),
     (
         "find a --budget 1000000000",
-        "Find { source: \"a\", budget: Budget { facts: 1000000000 } }",
+        "Find { source: \"a\", budget: Budget { facts: 1000000000 }, workers: Workers { count: 1 } }",
+    ),
+    (
+        "find a --workers 64",
+        "Find { source: \"a\", budget: Budget { facts: 100000 }, workers: Workers { count: 64 } }",
+    ),
+    (
+        "find --workers 2 --budget 7 -",
+        "Find { source: \"-\", budget: Budget { facts: 7 }, workers: Workers { count: 2 } }",
     ),
     ("erase a", "Erase { source: \"a\" }"),
     (
@@ -55,6 +75,13 @@ const JOBS: &[(&str, &str)] = &[
 
 // Lines that ask for no job, and the kind of the refusal.
 const NO_JOBS: &[(&str, &str)] = &[
+    ("prove", "wrong"),
+    ("prove --json", "wrong"),
+    ("prove a b", "wrong"),
+    ("prove a --budget 0", "wrong"),
+    ("prove a --budget 1000000001", "wrong"),
+    ("prove a --workers 0", "wrong"),
+    ("prove a --workers 65", "wrong"),
     ("check", "wrong"),
     ("check a", "wrong"),
     ("check a b c", "wrong"),
@@ -62,12 +89,17 @@ const NO_JOBS: &[(&str, &str)] = &[
     ("check a b --workers 65", "wrong"),
     ("find a --budget 0", "wrong"),
     ("find a --budget 1000000001", "wrong"),
+    ("find a --workers 0", "wrong"),
+    ("find a --workers 65", "wrong"),
+    ("find a --json", "wrong"),
     ("run a --limit 1000001", "wrong"),
     ("run a --erased --certs f", "wrong"),
     ("migrate", "wrong"),
-    ("prove a", "wrong"),
+    ("verify a", "wrong"),
     ("--help", "asked"),
+    ("prove --help", "asked"),
     ("check --help", "asked"),
+    ("find --help", "asked"),
 ];
 
 // The words of a line, cut at single blanks.

@@ -46,6 +46,9 @@ limit = number (codes "limit") (codes "1000") (Signed (pos 0) (pos 1000000))
 abbrev pub command : Text → List Rule → Shape
 command name rules = record (new_shape name) { rules = rules }
 
+abbrev pub prover : Shape
+prover = command (codes "prove") (source ∷ budget ∷ workers ∷ flag (codes "json") ∷ [])
+
 abbrev pub check : Shape
 check = command (codes "check") (source ∷ certs ∷ workers ∷ flag (codes "json") ∷ [])
 
@@ -53,7 +56,7 @@ abbrev pub conditions : Shape
 conditions = command (codes "conditions") (source ∷ [])
 
 abbrev pub finder : Shape
-finder = command (codes "find") (source ∷ budget ∷ [])
+finder = command (codes "find") (source ∷ budget ∷ workers ∷ [])
 
 abbrev pub erase : Shape
 erase = command (codes "erase") (source ∷ [])
@@ -68,5 +71,5 @@ migrate = command (codes "migrate") (certs ∷ [])
 abbrev pub og : App
 og = record {
   top = record (new_shape (codes "og")) { is_leaf = false; no_binary_name = true; disable_help_subcommand = true; subcommand_required = true };
-  subs = check ∷ conditions ∷ finder ∷ erase ∷ run ∷ migrate ∷ [];
+  subs = prover ∷ check ∷ conditions ∷ finder ∷ erase ∷ run ∷ migrate ∷ [];
 }

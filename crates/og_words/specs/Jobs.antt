@@ -10,6 +10,7 @@ use Rattle.og_words.specs.declared.job.Usage.{Usage}
 use Rattle.og_words.specs.declared.job.Usage.TheVariants as usages
 
 abbrev pub verb_name : Verb → List ℕ
+verb_name verbs.Prove = codes "prove"
 verb_name verbs.Check = codes "check"
 verb_name verbs.Conditions = codes "conditions"
 verb_name verbs.Find = codes "find"
@@ -20,9 +21,10 @@ verb_name verbs.Migrate = codes "migrate"
 -- the word that names a job's command; the joined run has none
 abbrev pub command_of : Job → Option (List ℕ)
 command_of jobs.Joined = None
+command_of (jobs.Prove source budget workers json) = Some (codes "prove")
 command_of (jobs.Check source certs workers json) = Some (codes "check")
 command_of (jobs.Conditions source) = Some (codes "conditions")
-command_of (jobs.Find source budget) = Some (codes "find")
+command_of (jobs.Find source budget workers) = Some (codes "find")
 command_of (jobs.Erase source) = Some (codes "erase")
 command_of (jobs.Run source limit erased certs values) = Some (codes "run")
 command_of (jobs.Migrate certs) = Some (codes "migrate")
@@ -30,11 +32,16 @@ command_of (jobs.Migrate certs) = Some (codes "migrate")
 -- the job holds what is given for each argument of its command
 abbrev pub Holds : List Row → Job → Type 0
 Holds rows jobs.Joined = ⊤
+Holds rows (jobs.Prove source budget workers json) =
+    (text_of (codes "SOURCE") rows ≡ Some source.now) × (number_of (codes "budget") rows ≡ Some budget)
+    × (number_of (codes "workers") rows ≡ Some workers) × (json ≡ is_given (codes "json") rows)
 Holds rows (jobs.Check source certs workers json) =
     (text_of (codes "SOURCE") rows ≡ Some source.now) × (text_of (codes "CERTS") rows ≡ Some certs.now)
     × (number_of (codes "workers") rows ≡ Some workers) × (json ≡ is_given (codes "json") rows)
 Holds rows (jobs.Conditions source) = text_of (codes "SOURCE") rows ≡ Some source.now
-Holds rows (jobs.Find source budget) = (text_of (codes "SOURCE") rows ≡ Some source.now) × (number_of (codes "budget") rows ≡ Some budget)
+Holds rows (jobs.Find source budget workers) =
+    (text_of (codes "SOURCE") rows ≡ Some source.now) × (number_of (codes "budget") rows ≡ Some budget)
+    × (number_of (codes "workers") rows ≡ Some workers)
 Holds rows (jobs.Erase source) = text_of (codes "SOURCE") rows ≡ Some source.now
 Holds rows (jobs.Run source limit erased certs values) =
     (text_of (codes "SOURCE") rows ≡ Some source.now) × (number_of (codes "limit") rows ≡ Some limit) × (erased ≡ is_given (codes "erased") rows)

@@ -25,7 +25,8 @@ fn certs_arg<'a>(alloc: Global) -> Arg<'a>
         .help("The certificates")
 }
 
-fn workers_arg<'a>(alloc: Global) -> Arg<'a>
+// How many workers there are; the help text says what they do.
+fn workers_arg<'a>(alloc: Global, help: &'a str) -> Arg<'a>
     ensures { IsArg line.workers result }
 {
     Arg::new(alloc, "workers")
@@ -33,7 +34,7 @@ fn workers_arg<'a>(alloc: Global) -> Arg<'a>
         .value_name("N")
         .default_value("1")
         .value_parser(clap::value_parser!(u32).range(1..=64))
-        .help("How many threads check")
+        .help(help)
 }
 
 fn json_arg<'a>(alloc: Global) -> Arg<'a>
@@ -43,25 +44,6 @@ fn json_arg<'a>(alloc: Global) -> Arg<'a>
         .long("json")
         .action(ArgAction::SetTrue)
         .help("Print the report as JSON")
-}
-
-fn check_command<'a>(alloc: Global) -> Result<Command<'a>, AllocError>
-    ensures { IfOk result (IsCommand line.check) }
-{
-    Command::new(alloc, "check")
-        .about("Check an outline by its certificates")
-        .arg(source_arg(alloc))?
-        .arg(certs_arg(alloc))?
-        .arg(workers_arg(alloc))?
-        .arg(json_arg(alloc))
-}
-
-fn conditions_command<'a>(alloc: Global) -> Result<Command<'a>, AllocError>
-    ensures { IfOk result (IsCommand line.conditions) }
-{
-    Command::new(alloc, "conditions")
-        .about("Print every condition with its facts")
-        .arg(source_arg(alloc))
 }
 
 fn budget_arg<'a>(alloc: Global) -> Arg<'a>
@@ -75,13 +57,44 @@ fn budget_arg<'a>(alloc: Global) -> Arg<'a>
         .help("How many facts may be added for each condition")
 }
 
+fn prove_command<'a>(alloc: Global) -> Result<Command<'a>, AllocError>
+    ensures { IfOk result (IsCommand line.prover) }
+{
+    Command::new(alloc, "prove")
+        .about("Prove an outline, or say what is wrong with it")
+        .arg(source_arg(alloc))?
+        .arg(budget_arg(alloc))?
+        .arg(workers_arg(alloc, "How many threads work"))?
+        .arg(json_arg(alloc))
+}
+
+fn check_command<'a>(alloc: Global) -> Result<Command<'a>, AllocError>
+    ensures { IfOk result (IsCommand line.check) }
+{
+    Command::new(alloc, "check")
+        .about("Check an outline by its certificates")
+        .arg(source_arg(alloc))?
+        .arg(certs_arg(alloc))?
+        .arg(workers_arg(alloc, "How many threads check"))?
+        .arg(json_arg(alloc))
+}
+
+fn conditions_command<'a>(alloc: Global) -> Result<Command<'a>, AllocError>
+    ensures { IfOk result (IsCommand line.conditions) }
+{
+    Command::new(alloc, "conditions")
+        .about("Print every condition with its facts")
+        .arg(source_arg(alloc))
+}
+
 fn find_command<'a>(alloc: Global) -> Result<Command<'a>, AllocError>
     ensures { IfOk result (IsCommand line.finder) }
 {
     Command::new(alloc, "find")
         .about("Print the certificates that are found")
         .arg(source_arg(alloc))?
-        .arg(budget_arg(alloc))
+        .arg(budget_arg(alloc))?
+        .arg(workers_arg(alloc, "How many threads work"))
 }
 
 fn erase_command<'a>(alloc: Global) -> Result<Command<'a>, AllocError>
@@ -162,11 +175,18 @@ fn with_word<'a>(
     program.subcommand(word?)
 }
 
-// Adds the words that look at outlines and certificates.
-fn with_outlines<'a>(alloc: Global, program: Command<'a>) -> Result<Command<'a>, AllocError>
-    ensures { IfOk result (λ r. app_of r ≡ with_subcommand (with_subcommand (with_subcommand (app_of program.entry) line.check) line.conditions) line.finder) }
+// Adds the words that judge outlines.
+fn with_verdicts<'a>(alloc: Global, program: Command<'a>) -> Result<Command<'a>, AllocError>
+    ensures { IfOk result (λ r. app_of r ≡ with_subcommand (with_subcommand (app_of program.entry) line.prover) line.check) }
 {
-    let program = with_word(program, check_command(alloc))?;
+    let program = with_word(program, prove_command(alloc))?;
+    with_word(program, check_command(alloc))
+}
+
+// Adds the words that print the conditions of outlines, and their certificates.
+fn with_outlines<'a>(alloc: Global, program: Command<'a>) -> Result<Command<'a>, AllocError>
+    ensures { IfOk result (λ r. app_of r ≡ with_subcommand (with_subcommand (app_of program.entry) line.conditions) line.finder) }
+{
     let program = with_word(program, conditions_command(alloc))?;
     with_word(program, find_command(alloc))
 }
@@ -189,5 +209,7 @@ pub(crate) fn program<'a>(alloc: Global) -> Result<Command<'a>, AllocError>
         .no_binary_name(true)
         .disable_help_subcommand(true)
         .subcommand_required(true);
-    with_programs(alloc, with_outlines(alloc, program)?)
+    let program = with_verdicts(alloc, program)?;
+    let program = with_outlines(alloc, program)?;
+    with_programs(alloc, program)
 }

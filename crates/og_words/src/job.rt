@@ -10,6 +10,7 @@ use std::alloc::{AllocError, AllocFailed, Global};
 /// The words that name commands.
 #[derive(Clone, Copy)]
 pub(crate) enum Verb {
+    Prove,
     Check,
     Conditions,
     Find,
@@ -23,6 +24,16 @@ pub(crate) enum Verb {
 pub enum Job<'a> {
     /// Check one input that holds the source and then the certificates.
     Joined,
+    /// Search for the certificates of an outline and judge it by them.
+    Prove {
+        source: &'a str,
+        /// How many facts may be added for each condition.
+        budget: Budget,
+        /// How many threads work.
+        workers: Workers,
+        /// Whether the report is to be JSON.
+        json: bool,
+    },
     /// Check an outline by its certificates.
     Check {
         source: &'a str,
@@ -41,6 +52,8 @@ pub enum Job<'a> {
         source: &'a str,
         /// How many facts may be added for each condition.
         budget: Budget,
+        /// How many threads work.
+        workers: Workers,
     },
     /// Print the program without its auxiliary variables.
     Erase {

@@ -17,6 +17,7 @@ fn verb_of(word: &str) -> Option<Verb>
     ensures { IfSome result (λ v. verb_name v ≡ word.now) }
 {
     match word {
+        "prove" => Some(Verb::Prove),
         "check" => Some(Verb::Check),
         "conditions" => Some(Verb::Conditions),
         "find" => Some(Verb::Find),
@@ -59,6 +60,21 @@ fn limit_of(m: &ArgMatches<'_>) -> Option<RunLimit>
     RunLimit::new(m.get_one::<u32>("limit")?)
 }
 
+fn prove_job<'a>(m: &ArgMatches<'a>) -> Option<Job<'a>>
+    ensures command { IfSome result (λ job. command_of job ≡ Some (verb_name Verb.Prove)) }
+    ensures holds { IfSome result (Holds (rows_of (found_of m.now))) }
+{
+    let source = text_of(m, "SOURCE")?;
+    let (budget, workers) = (budget_of(m)?, workers_of(m)?);
+    let json = has_flag(m, "json");
+    Some(Job::Prove {
+        source,
+        budget,
+        workers,
+        json,
+    })
+}
+
 fn check_job<'a>(m: &ArgMatches<'a>) -> Option<Job<'a>>
     ensures command { IfSome result (λ job. command_of job ≡ Some (verb_name Verb.Check)) }
     ensures holds { IfSome result (Holds (rows_of (found_of m.now))) }
@@ -86,7 +102,12 @@ fn find_job<'a>(m: &ArgMatches<'a>) -> Option<Job<'a>>
 {
     let source = text_of(m, "SOURCE")?;
     let budget = budget_of(m)?;
-    Some(Job::Find { source, budget })
+    let workers = workers_of(m)?;
+    Some(Job::Find {
+        source,
+        budget,
+        workers,
+    })
 }
 
 fn erase_job<'a>(m: &ArgMatches<'a>) -> Option<Job<'a>>
@@ -144,6 +165,7 @@ fn job_of<'a>(alloc: Global, verb: Verb, m: &ArgMatches<'a>) -> Result<Option<Jo
     ensures holds { IfOk result (λ r. IfSome r (Holds (rows_of (found_of m.now)))) }
 {
     match verb {
+        Verb::Prove => Ok(prove_job(m)),
         Verb::Check => Ok(check_job(m)),
         Verb::Conditions => Ok(conditions_job(m)),
         Verb::Find => Ok(find_job(m)),

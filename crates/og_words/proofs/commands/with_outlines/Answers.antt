@@ -8,6 +8,5 @@ use Rattle.og_words.proofs.commands.with_outlines.Goals as goal
 pub returns : goal.returns
 returns c =
     let start = app_of c.args.program in
-    let one = with_word c.args.program c.in_ok-program.program c.check_command.result start line.check c.in_ok-program.ensures c.check_command.ensures refl in
-    let two = with_word c.in_ok-program.program c.in_ok-program-2.program c.conditions_command.result (with_subcommand start line.check) line.conditions c.in_ok-program-2.ensures c.conditions_command.ensures one in
-    IfOk-weaker c.with_word-3.result _ _ (λ r h. with_word c.in_ok-program-2.program r c.find_command.result (with_subcommand (with_subcommand start line.check) line.conditions) line.finder h c.find_command.ensures two) c.with_word-3.ensures
+    let one = with_word c.args.program c.in_ok-program.program c.conditions_command.result start line.conditions c.in_ok-program.ensures c.conditions_command.ensures refl in
+    IfOk-weaker c.with_word-2.result _ _ (λ r h. with_word c.in_ok-program.program r c.find_command.result (with_subcommand start line.conditions) line.finder h c.find_command.ensures one) c.with_word-2.ensures
