@@ -3,33 +3,34 @@ use Rattle.std.proofs.Common.{◌≡◌, ◌⊎◌, inl, inr, ℕ, suc, List, []
 use Rattle.std.proofs.lemmas.List.{append_assoc, append_cancel_right}
 use Rattle.json.specs.Print.{quoted}
 use Rattle.serde_json.proofs.OnLiterals.{serde_json_on_literals}
-use Rattle.serde_json.specs.Data.{Data, boolean, array, object, Items, no_items, Members, member, no_members}
+use Rattle.serde_json.specs.Data.{Data, boolean, array, object, Items, no_items, item, Members, member, no_members}
 use Rattle.serde_json.specs.View.{items_of}
 use Rattle.serde_json.specs.Written.{compact_text, items_text, members_text, comma_if}
+use Rattle.og_json.specs.Numbers.{natural}
 use Rattle.og_judge.specs.declared.entry.Entry.{Entry}
 use Rattle.og_judge.specs.Entries.{is_proved, is_safe, is_unblocked}
 use Rattle.og_report.specs.Report.{unproved_lines, count_text, answer_text, report_text}
-use Rattle.og_report.specs.Json.{natural, entry_data, unproved_data, json_text}
+use Rattle.og_report.specs.Json.{entry_data, unproved_data, json_text}
 use Rattle.og_report.specs.Yes.{EndsWith, SaysUnblocked}
 
 -- ---- ends of texts
 
-ends_with : (a e : List ℕ) → EndsWith e (a ++ e)
+pub ends_with : (a e : List ℕ) → EndsWith e (a ++ e)
 ends_with a e = (a, refl)
 
-ends_after : (a e t : List ℕ) → EndsWith e t → EndsWith e (a ++ t)
+pub ends_after : (a e t : List ℕ) → EndsWith e t → EndsWith e (a ++ t)
 ends_after a e t h = (a ++ h.0, ap (λ (x : List ℕ). a ++ x) h.1 ∙ sym (append_assoc a h.0 e))
 
-ends_then : (e t s : List ℕ) → EndsWith e t → EndsWith (e ++ s) (t ++ s)
+pub ends_then : (e t s : List ℕ) → EndsWith e t → EndsWith (e ++ s) (t ++ s)
 ends_then e t s h = (h.0, ap (λ (x : List ℕ). x ++ s) h.1 ∙ append_assoc h.0 e s)
 
-ends_less : (a e t : List ℕ) → EndsWith (a ++ e) t → EndsWith e t
+pub ends_less : (a e t : List ℕ) → EndsWith (a ++ e) t → EndsWith e t
 ends_less a e t h = (h.0 ++ a, h.1 ∙ sym (append_assoc h.0 a e))
 
-ends_of_end : (e s t : List ℕ) → EndsWith e s → EndsWith s t → EndsWith e t
+pub ends_of_end : (e s t : List ℕ) → EndsWith e s → EndsWith s t → EndsWith e t
 ends_of_end e s t p q = (q.0 ++ p.0, q.1 ∙ ap (λ (x : List ℕ). q.0 ++ x) p.1 ∙ sym (append_assoc q.0 p.0 e))
 
-ends_before : (e t s : List ℕ) → EndsWith (e ++ s) (t ++ s) → EndsWith e t
+pub ends_before : (e t s : List ℕ) → EndsWith (e ++ s) (t ++ s) → EndsWith e t
 ends_before e t s h = (h.0, append_cancel_right t (h.0 ++ e) s (h.1 ∙ sym (append_assoc h.0 e s)))
 
 abbrev last_of : ℕ → List ℕ → ℕ
@@ -41,7 +42,7 @@ last_after d x [] = refl
 last_after d x (y ∷ s) = last_after y x s
 
 -- what stands before the same end is the same
-same_before : (x y : ℕ) (s t : List ℕ) → EndsWith (x ∷ s) t → EndsWith (y ∷ s) t → x ≡ y
+pub same_before : (x y : ℕ) (s t : List ℕ) → EndsWith (x ∷ s) t → EndsWith (y ∷ s) t → x ≡ y
 same_before x y s t p q =
     let both = append_assoc p.0 (x ∷ []) s ∙ sym p.1 ∙ q.1 ∙ sym (append_assoc q.0 (y ∷ []) s) in
     let cut = append_cancel_right (p.0 ++ x ∷ []) (q.0 ++ y ∷ []) s both in
@@ -49,44 +50,48 @@ same_before x y s t p q =
 
 -- ---- the text
 
-text_answers : (b : Bool) (t : List ℕ) → EndsWith (answer_text (codes "unblocked: ") b) t → EndsWith (codes "unblocked: yes\n") t → b ≡ true
+pub text_answers : (b : Bool) (t : List ℕ) → EndsWith (answer_text (codes "unblocked: ") b) t → EndsWith (codes "unblocked: yes\n") t → b ≡ true
 text_answers true t p q = refl
 text_answers false t p q =
     absurd (omega (arith, same_before 111 115 (10 ∷ []) t (ends_less (codes "unblocked: n") (111 ∷ 10 ∷ []) t p) (ends_less (codes "unblocked: ye") (115 ∷ 10 ∷ []) t q)))
 
 -- ---- JSON
 
-ends_member : (e : List ℕ) (later : Bool) (k : List ℕ) (d : Data) (ms : Members) → EndsWith e (members_text true ms) → EndsWith e (members_text later (member k d ms))
+pub ends_member : (e : List ℕ) (later : Bool) (k : List ℕ) (d : Data) (ms : Members) → EndsWith e (members_text true ms) → EndsWith e (members_text later (member k d ms))
 ends_member e later k d ms h =
     ends_after (comma_if later) e _ (ends_after (quoted k) e _ (ends_after (58 ∷ []) e _ (ends_after (compact_text d) e _ h)))
 
-members_end : (later : Bool) (ms : Members) → EndsWith (125 ∷ []) (members_text later ms)
+pub members_end : (later : Bool) (ms : Members) → EndsWith (125 ∷ []) (members_text later ms)
 members_end later no_members = ends_with [] (125 ∷ [])
 members_end later (member k d ms) = ends_member (125 ∷ []) later k d ms (members_end true ms)
 
 -- no item, or a text that ends with a brace before the bracket
-abbrev EndsWithBrace : Items → Type 0
+abbrev pub EndsWithBrace : Items → Type 0
 EndsWithBrace ds = (ds ≡ no_items) ⊎ ((later : Bool) → EndsWith (125 ∷ 93 ∷ []) (items_text later ds))
 
-entry_ends : (source : List ℕ) (n : ℕ) (e : Entry) → EndsWith (125 ∷ []) (compact_text (entry_data source n e))
-entry_ends source n e = ends_after (123 ∷ []) (125 ∷ []) _ (members_end false _)
+object_ends : (ms : Members) → EndsWith (125 ∷ []) (compact_text (object ms))
+object_ends ms = ends_after (123 ∷ []) (125 ∷ []) _ (members_end false ms)
 
-first_ends : (source : List ℕ) (n : ℕ) (e : Entry) (ds : Items) → EndsWithBrace ds → (later : Bool) → EndsWith (125 ∷ 93 ∷ []) (comma_if later ++ (compact_text (entry_data source n e) ++ items_text true ds))
-first_ends source n e ds (inl none) later =
-    ends_after (comma_if later) (125 ∷ 93 ∷ []) _ (subst (λ (x : Items). EndsWith (125 ∷ 93 ∷ []) (compact_text (entry_data source n e) ++ items_text true x)) (sym none)
-    (ends_then (125 ∷ []) _ (93 ∷ []) (entry_ends source n e)))
-first_ends source n e ds (inr more) later = ends_after (comma_if later) (125 ∷ 93 ∷ []) _ (ends_after (compact_text (entry_data source n e)) (125 ∷ 93 ∷ []) _ (more true))
+object_then : (ms : Members) (ds : Items) → EndsWithBrace ds → (later : Bool) → EndsWith (125 ∷ 93 ∷ []) (items_text later (item (object ms) ds))
+object_then ms ds (inl none) later =
+    ends_after (comma_if later) (125 ∷ 93 ∷ []) _ (subst (λ (x : Items). EndsWith (125 ∷ 93 ∷ []) (compact_text (object ms) ++ items_text true x)) (sym none)
+    (ends_then (125 ∷ []) _ (93 ∷ []) (object_ends ms)))
+object_then ms ds (inr more) later = ends_after (comma_if later) (125 ∷ 93 ∷ []) _ (ends_after (compact_text (object ms)) (125 ∷ 93 ∷ []) _ (more true))
+
+-- an object more in front
+pub braced : (ms : Members) (ds : Items) → EndsWithBrace ds → EndsWithBrace (item (object ms) ds)
+braced ms ds h = inr (object_then ms ds h)
 
 unproved_step : (source : List ℕ) (n : ℕ) (e : Entry) (es : List Entry) (b : Bool) → EndsWithBrace (items_of (unproved_data source (suc n) es))
     → EndsWithBrace (items_of (cond b [] (entry_data source n e ∷ []) ++ unproved_data source (suc n) es))
 unproved_step source n e es true h = h
-unproved_step source n e es false h = inr (first_ends source n e _ h)
+unproved_step source n e es false h = braced _ _ h
 
 unproved_end : (source : List ℕ) (n : ℕ) (es : List Entry) → EndsWithBrace (items_of (unproved_data source n es))
 unproved_end source n [] = inl refl
 unproved_end source n (e ∷ es) = unproved_step source n e es (is_proved e) (unproved_end source (suc n) es)
 
-abbrev last_members : Bool → Items → Members
+abbrev pub last_members : Bool → Items → Members
 last_members b ds = member (codes "unblocked") (boolean b) (member (codes "unproved") (array ds) no_members)
 
 unblocked_ends : (e : List ℕ) (n proved : ℕ) (safe : Bool) (ms : Members) → EndsWith e (members_text true ms)
@@ -124,6 +129,11 @@ json_answers false ds t (inr more) p q =
           (ends_less (codes "\"unblocked\":true,\"unproved\":") (91 ∷ 93 ∷ 125 ∷ []) t q),
     ))
 
+-- a text that ends with these members, before its LF
+pub members_answer : (b : Bool) (ds : Items) (t : List ℕ) → EndsWithBrace ds → EndsWith (members_text true (last_members b ds)) t → SaysUnblocked true (t ++ 10 ∷ []) → b ≡ true
+members_answer b ds t brace ends h =
+    json_answers b ds t brace ends (ends_before (codes "\"unblocked\":true,\"unproved\":[]}") t (10 ∷ []) h)
+
 -- ---- both
 
 text_ends : (source : List ℕ) (es : List Entry) → EndsWith (answer_text (codes "unblocked: ") (is_unblocked es)) (report_text source es)
@@ -138,9 +148,7 @@ pub text_says : (source : List ℕ) (es : List Entry) → SaysUnblocked false (r
 text_says source es h = text_answers (is_unblocked es) (report_text source es) (text_ends source es) h
 
 pub json_says : (source : List ℕ) (es : List Entry) → SaysUnblocked true (json_text source es ++ 10 ∷ []) → is_unblocked es ≡ true
-json_says source es h =
-    json_answers (is_unblocked es) (items_of (unproved_data source 1 es)) (json_text source es) (unproved_end source 1 es) (json_ends source es)
-    (ends_before (codes "\"unblocked\":true,\"unproved\":[]}") (json_text source es) (10 ∷ []) h)
+json_says source es = members_answer (is_unblocked es) (items_of (unproved_data source 1 es)) (json_text source es) (unproved_end source 1 es) (json_ends source es)
 
 pub json_says_of : {X E : Type 0} (items : X → List ℕ) (r : Result X E) (source : List ℕ) (es : List Entry) → IfOk r (λ t. items t ≡ json_text source es)
     → IfOk r (λ t. SaysUnblocked true (items t ++ 10 ∷ []) → is_unblocked es ≡ true)

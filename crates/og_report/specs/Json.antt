@@ -1,8 +1,9 @@
 -- The report of a judgement, as JSON: its members stand in the order of their bytes.
 use Rattle.std.specs.Prelude.{ℕ, suc, if◌then◌else◌, List, [], ◌∷◌, ◌++◌, length, count_by, codes, Option, Some, None}
-use Rattle.serde_json.specs.Data.{Data, Members, number, unsigned, string, boolean, array, object, member, no_members}
+use Rattle.serde_json.specs.Data.{Data, Members, string, boolean, array, object, member, no_members}
 use Rattle.serde_json.specs.View.{items_of}
 use Rattle.serde_json.specs.Written.{compact_text}
+use Rattle.og_json.specs.Numbers.{natural}
 use Rattle.og_cond.specs.Names as cond
 use Rattle.og_cert.specs.Names as cert
 use Rattle.og_text.specs.Place.{line_at, column_at}
@@ -10,9 +11,6 @@ use Rattle.og_pool.specs.declared.status.Status.{Status}
 use Rattle.og_pool.specs.declared.status.Status.TheVariants as status
 use Rattle.og_judge.specs.declared.entry.Entry.{Entry}
 use Rattle.og_judge.specs.Entries.{is_proved, is_safe, is_unblocked}
-
-abbrev pub natural : ℕ → Data
-natural n = number (unsigned n)
 
 abbrev pub status_word : Status → List ℕ
 status_word status.Missing = codes "missing"

@@ -1,21 +1,22 @@
 //! The report as JSON.
 
-ghost use Rattle.std.specs.Prelude.{◌≡◌, ◌≤◌, ◌^◌, [], ◌∷◌, ◌++◌, length, map, codes, true, false, IfOk, OnOk};
-ghost use Rattle.serde_json.specs.Data.{object, member, no_members, string, boolean, array, put as with_member};
-ghost use Rattle.serde_json.specs.View.{view, items_view, members_view};
-ghost use Rattle.serde_json.specs.Written.{compact_text, has_float};
+ghost use Rattle.std.specs.Prelude.{◌≡◌, ◌≤◌, ◌^◌, [], ◌∷◌, ◌++◌, length, map, codes, true, IfOk, OnOk};
+ghost use Rattle.serde_json.specs.Data.{object, member, no_members, string, boolean};
+ghost use Rattle.serde_json.specs.View.{view, members_view};
+ghost use Rattle.og_json.specs.Numbers.{natural};
 ghost use Rattle.og_cond.specs.Names.{name_of_kind};
 ghost use Rattle.og_judge.specs.Entries.{is_unblocked};
 ghost use Rattle.og_judge.specs.Shown.{entries_of};
 ghost use Rattle.og_listing.specs.Places.{position_of};
-ghost use Rattle.og_report.specs.Json.{natural, status_word, entry_data, unproved_data, report_data, json_text};
+ghost use Rattle.og_report.specs.Json.{status_word, entry_data, unproved_data, report_data, json_text};
 ghost use Rattle.og_report.specs.Yes.{SaysUnblocked};
 
 use crate::report::count_proved;
+use og_json::{bytes_of, list_value, put_number, put_text};
 use og_judge::{Entry, Judgement};
 use og_listing::Places;
 use og_pool::Status;
-use serde_json::{Map, Value, json, put};
+use serde_json::{Map, Value, json};
 use std::alloc::{AllocError, Global};
 
 // The word for what was found.
@@ -28,32 +29,6 @@ fn word_of(status: Status) -> &'static str
         Status::Proved => "proved",
         Status::Failed(_) => "failed",
     }
-}
-
-// Sets a member to a text.
-fn put_text(
-    members: &mut Map<String, Value>,
-    alloc: Global,
-    key: &str,
-    text: &str,
-) -> Result<(), AllocError>
-    ensures { OnOk result (members_view members.new.entries
-        ≡ with_member key.now (string text.now) (members_view members.old.entries)) }
-{
-    put(members, alloc, key, Value::try_from_str(alloc, text)?)
-}
-
-// Sets a member to a number.
-fn put_number(
-    members: &mut Map<String, Value>,
-    alloc: Global,
-    key: &str,
-    number: u64,
-) -> Result<(), AllocError>
-    ensures { OnOk result (members_view members.new.entries
-        ≡ with_member key.now (natural number) (members_view members.old.entries)) }
-{
-    put(members, alloc, key, Value::from(number))
 }
 
 // Sets the members that every condition has.
@@ -137,13 +112,6 @@ fn unproved_values(
     Ok(values)
 }
 
-// A list as a value.
-fn list_value(values: Vec<Value>) -> Value
-    ensures { view result ≡ array (items_view values.items) }
-{
-    Value::Array(values)
-}
-
 // The whole report.
 fn report_value(
     alloc: Global,
@@ -186,14 +154,6 @@ fn judgement_value(
         judgement.unblocked(),
         unproved,
     )
-}
-
-// The bytes of a value without floats.
-fn bytes_of(alloc: Global, value: &Value) -> Result<Vec<u8>, AllocError>
-    requires { has_float (view value.now) ≡ false }
-    ensures { IfOk result (λ t. t.items ≡ compact_text (view value.now)) }
-{
-    Ok(value.to_string(alloc)?.into_bytes())
 }
 
 /// The report of a judgement as JSON, in one line without an LF: how many conditions there are and

@@ -1,0 +1,4 @@
+pub mod Floats
+pub mod Puts
+pub mod Says
+pub mod Texts

@@ -1,0 +1,11 @@
+//! What is told of the conditions of an outline, as JSON.
+//!
+//! specs/Json.antt defines the text.
+#![tactic(auto)]
+
+mod faults;
+mod reporting;
+mod unproved;
+mod values;
+
+pub use reporting::json;
