@@ -1,4 +1,5 @@
 pub mod Blocks
+pub mod Effects
 pub mod Report
 pub mod Sentences
 pub mod Told

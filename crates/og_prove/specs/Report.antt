@@ -1,11 +1,14 @@
 -- What is told of all conditions of an outline.
-use Rattle.std.specs.Prelude.{ℕ, ◌+◌, ◌-◌, List, [], ◌∷◌, length, take, slice_get, Bool, true, false, if◌then◌else◌, Option, Some, None, codes}
+use Rattle.std.specs.Prelude.{ℕ, ◌+◌, ◌-◌, List, [], ◌∷◌, ◌++◌, length, take, slice_get, Bool, true, false, if◌then◌else◌, Option, Some, None, codes}
 use Rattle.std.specs.Fmt.{decimal}
 use Rattle.std.specs.List.{list_all}
+use Rattle.og_typed.specs.Syntax.{Formula}
 use Rattle.og_cond.specs.Condition.{Condition}
 use Rattle.og_cond.specs.Names.{name_of_kind}
 use Rattle.og_listing.specs.Places.{◌&◌, position_of, position_text, with_text}
 use Rattle.og_prove.specs.Blocks.{block_text}
+use Rattle.og_prove.specs.Effects.{effect_of, effect_text, first_with, alike_line}
+use Rattle.og_prove.specs.declared.block.Block.{Block}
 use Rattle.og_prove.specs.declared.telling.Told.{Told}
 use Rattle.og_prove.specs.declared.telling.Told.TheVariants as told
 
@@ -68,17 +71,31 @@ totals_text ts =
 -- ---- all of it
 
 module _ (names : List (List ℕ)) (source : List ℕ) where
-  -- nothing of a condition that is proved
-  abbrev pub told_text : ℕ → Condition → Told → List ℕ
-  told_text n c told.Proved = []
-  told_text n c (told.False block) = head_text source n c (codes "false") & block_text names source block
-  told_text n c told.Open = head_text source n c (codes "open")
+  -- the block, or that the condition is as an earlier one
+  abbrev pub alike_or_block : Option ℕ → List Formula → Block → List ℕ
+  alike_or_block None found block = block_text names source block
+  alike_or_block (Some k) found block = alike_line names k found
 
-  -- numbered on
-  abbrev pub told_lines : ℕ → List Condition → List Told → List ℕ
-  told_lines n [] ts = []
-  told_lines n (c ∷ cs) [] = []
-  told_lines n (c ∷ cs) (t ∷ ts) = told_text n c t & told_lines (n + 1) cs ts
+  -- where it is known which conditions told an effect before
+  abbrev pub effect_or_block : (List ℕ → Option ℕ) → Option (ℕ × List Formula) → Block → List ℕ
+  effect_or_block known None block = block_text names source block
+  effect_or_block known (Some effect) block = alike_or_block (known (effect_text names source effect)) effect.1 block
+
+  abbrev pub body_text : (List ℕ → Option ℕ) → Block → List ℕ
+  body_text known block = effect_or_block known (effect_of block.explanation.action block.explanation.fault) block
+
+  -- nothing of a condition that is proved
+  abbrev pub told_text : (List ℕ → Option ℕ) → ℕ → Condition → Told → List ℕ
+  told_text known n c told.Proved = []
+  told_text known n c (told.False block) = head_text source n c (codes "false") & body_text known block
+  told_text known n c told.Open = head_text source n c (codes "open")
+
+  -- after these
+  abbrev pub told_lines : List Told → List Condition → List Told → List ℕ
+  told_lines done [] ts = []
+  told_lines done (c ∷ cs) [] = []
+  told_lines done (c ∷ cs) (t ∷ ts) =
+      told_text (λ text. first_with names source text 1 done) (length done + 1) c t & told_lines (done ++ t ∷ []) cs ts
 
   abbrev pub report_text : List Condition → List Told → List ℕ
-  report_text cs ts = told_lines 1 cs ts & totals_text ts
+  report_text cs ts = told_lines [] cs ts & totals_text ts

@@ -1,5 +1,5 @@
 -- What is told of a condition.
-use Rattle.std.specs.Prelude.{◌≡◌, ℤ, List, ⊤}
+use Rattle.std.specs.Prelude.{◌≡◌, ℤ, List, [], ◌∷◌, ⊤}
 use Rattle.og_typed.specs.Syntax.{Program}
 use Rattle.og_cond.specs.Condition.{Condition}
 use Rattle.og_cond.specs.Valid.{IsValid}
@@ -22,6 +22,13 @@ abbrev pub IsTold : Program → Condition → Told → Type 0
 IsTold o c told.Proved = IsValid c
 IsTold o c (told.False block) = IsBlock o c block
 IsTold o c told.Open = ⊤
+
+-- of each condition, one for one
+abbrev pub AreTold : Program → List Condition → List Told → Type 0
+AreTold o [] [] = ⊤
+AreTold o [] (t ∷ ts) = ⊥
+AreTold o (c ∷ cs) [] = ⊥
+AreTold o (c ∷ cs) (t ∷ ts) = IsTold o c t × AreTold o cs ts
 
 -- false in this state, or open
 abbrev pub IsOfState : List ℤ → Told → Type 0

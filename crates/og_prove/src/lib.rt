@@ -1,9 +1,10 @@
 //! What is told of the conditions of an outline.
 //!
-//! specs/Told.antt says what is promised; specs/Sentences.antt, Blocks.antt and Report.antt define the texts.
+//! specs/Told.antt says what is promised; specs/Sentences.antt, Blocks.antt, Effects.antt and Report.antt define the texts.
 #![tactic(auto)]
 
 mod block;
+mod earlier;
 mod focus;
 mod lines;
 mod reporting;

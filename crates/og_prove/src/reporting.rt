@@ -1,10 +1,13 @@
 //! What is told of all conditions of an outline.
 
-ghost use Rattle.std.specs.Prelude.{◌≡◌, ◌+◌, ◌++◌, ◌<◌, ◌≤◌, ◌^◌, if◌then◌else◌, length, map, IfOk, OnOk};
+ghost use Rattle.std.specs.Prelude.{◌≡◌, ◌+◌, ◌++◌, ◌<◌, ◌≤◌, ◌^◌, if◌then◌else◌, ℕ, List, [], length, map, IfOk, OnOk};
 ghost use Rattle.og_cond.specs.Seen.{seen};
-ghost use Rattle.og_prove.specs.Report.{head_text, is_proved, is_false, is_open, count, is_safe, is_unblocked, yes_line, number_line, totals_text, told_text, told_lines, report_text};
+ghost use Rattle.og_cert_read.specs.Firsts.{found as number_of};
+ghost use Rattle.og_prove.specs.Effects.{effect_of, after_effect, after_told};
+ghost use Rattle.og_prove.specs.Report.{body_text, head_text, is_proved, is_false, is_open, count, is_safe, is_unblocked, yes_line, number_line, totals_text, told_text, told_lines, report_text};
 
-use crate::block::put_block;
+use crate::block::{Block, put_block};
+use crate::earlier::{Firsts, effect_of, effect_text, number_or_add, put_alike};
 use crate::telling::Told;
 use og_cond::Condition;
 use og_listing::{Places, put_action_place, put_number, put_position};
@@ -33,49 +36,78 @@ fn put_head(
     text.extend_from_slice(b"\n")
 }
 
+// What all that is told is printed with.
+#[derive(Clone, Copy)]
+struct Page<'a> {
+    names: &'a [Name],
+    source: &'a [u8],
+    places: &'a Places<'a>,
+}
+
+// The block of a false condition, or that it is as an earlier one.
+fn put_body(
+    text: &mut Vec<u8>,
+    firsts: &mut Firsts,
+    page: Page,
+    number: u128,
+    block: &Block,
+) -> Result<(), AllocError>
+    requires { page.places.now ≡ page.source.now }
+    ensures text { OnOk result (text.new.items ≡ text.old.items ++ body_text page.entry.names.now page.entry.source.now (λ t. number_of t firsts.old) block.now) }
+    ensures firsts { OnOk result ((t : List ℕ) → number_of t firsts.new
+        ≡ after_effect page.entry.names.now page.entry.source.now (effect_of block.now.explanation.action block.now.explanation.fault) t number (number_of t firsts.old)) }
+{
+    let Some((at, found)) = effect_of(&block.explanation) else {
+        return put_block(text, page.names, page.source, page.places, block);
+    };
+    let effect = effect_text(*text.allocator(), page.names, page.places, at, found)?;
+    match number_or_add(firsts, effect, number)? {
+        Some(first) => put_alike(text, page.names, first, found),
+        None => put_block(text, page.names, page.source, page.places, block),
+    }
+}
+
 // What is told of a condition.
 fn put_told(
     text: &mut Vec<u8>,
-    names: &[Name],
-    source: &[u8],
-    places: &Places,
+    firsts: &mut Firsts,
+    page: Page,
     number: u128,
     condition: &Condition,
     told: &Told,
 ) -> Result<(), AllocError>
-    requires { places.now ≡ source.now }
-    ensures { OnOk result (text.new.items ≡ text.old.items ++ told_text names.now source.now number (seen condition.now) told.now) }
+    requires { page.places.now ≡ page.source.now }
+    ensures text { OnOk result (text.new.items ≡ text.old.items ++ told_text page.entry.names.now page.entry.source.now (λ t. number_of t firsts.old) number (seen condition.now) told.now) }
+    ensures firsts { OnOk result ((t : List ℕ) → number_of t firsts.new ≡ after_told page.entry.names.now page.entry.source.now told.now t number (number_of t firsts.old)) }
 {
     match told {
         Told::Proved => Ok(()),
         Told::False(block) => {
-            put_head(text, places, number, condition, b"false")?;
-            put_block(text, names, source, places, block)
+            put_head(text, page.places, number, condition, b"false")?;
+            put_body(text, firsts, page, number, block)
         }
-        Told::Open => put_head(text, places, number, condition, b"open"),
+        Told::Open => put_head(text, page.places, number, condition, b"open"),
     }
 }
 
 // What is told of each condition, numbered from 1.
 fn put_all(
     text: &mut Vec<u8>,
-    names: &[Name],
-    source: &[u8],
-    places: &Places,
+    page: Page,
     conditions: &[Condition],
     told: &[Told],
 ) -> Result<(), AllocError>
-    requires places { places.now ≡ source.now }
+    requires places { page.places.now ≡ page.source.now }
     requires each { length told.now ≡ length conditions.now }
-    ensures { OnOk result (text.new.items ≡ text.old.items ++ told_lines names.now source.now 1 (map seen conditions.now) told.now) }
+    ensures { OnOk result (text.new.items ≡ text.old.items ++ told_lines page.entry.names.now page.entry.source.now [] (map seen conditions.now) told.now) }
 {
+    let mut firsts = Firsts::new(*text.allocator());
     for index in 0..conditions.len() {
         let number = index as u128 + 1;
         put_told(
             text,
-            names,
-            source,
-            places,
+            &mut firsts,
+            page,
             number,
             &conditions[index],
             &told[index],
@@ -216,14 +248,12 @@ pub fn report(
 {
     let places = Places::new(alloc, source)?;
     let mut text = Vec::new(alloc);
-    put_all(
-        &mut text,
-        outline.names(),
+    let page = Page {
+        names: outline.names(),
         source,
-        &places,
-        conditions,
-        told,
-    )?;
+        places: &places,
+    };
+    put_all(&mut text, page, conditions, told)?;
     put_totals(&mut text, told)?;
     Ok(text)
 }

@@ -227,3 +227,49 @@ open: 0\n\
 safe: no\n\
 unblocked: no\n\
 ";
+
+pub(crate) const ALIKE: &str = "var x;\n\
+{x = 0}\n\
+cobegin\n\
+\x20 {true}\n\
+\x20 x := 1\n\
+\x20 {true}\n\
+\x20 x := 2\n\
+\x20 {true}\n\
+//\n\
+\x20 {x = 0 and (x = 0 or x = 5)}\n\
+\x20 skip\n\
+\x20 {x = 0 and (x = 0 or x = 5)}\n\
+coend\n\
+{true}\n\
+";
+
+pub(crate) const ALIKE_TOLD: &str = "10:3: condition 8 interfere with 5:3: false\n\
+\x20 A step of process 1 makes an assertion of process 2 false.\n\
+\x20 state: x = 0\n\
+\x20 true at 10:3: x = 0 and (x = 0 or x = 5)\n\
+\x20 true at 4:3: true\n\
+\x20 step at 5:3: x := 1\n\
+\x20 after: x = 1\n\
+\x20 false at 10:3: x = 0\n\
+\x20 false at 10:3: x = 0 or x = 5\n\
+12:3: condition 9 interfere with 5:3: false\n\
+\x20 as condition 8: x = 0 and (x = 0 or x = 5)\n\
+10:3: condition 10 interfere with 7:3: false\n\
+\x20 A step of process 1 makes an assertion of process 2 false.\n\
+\x20 state: x = 0\n\
+\x20 true at 10:3: x = 0 and (x = 0 or x = 5)\n\
+\x20 true at 6:3: true\n\
+\x20 step at 7:3: x := 2\n\
+\x20 after: x = 2\n\
+\x20 false at 10:3: x = 0\n\
+\x20 false at 10:3: x = 0 or x = 5\n\
+12:3: condition 11 interfere with 7:3: false\n\
+\x20 as condition 10: x = 0 and (x = 0 or x = 5)\n\
+conditions: 13\n\
+proved: 9\n\
+false: 4\n\
+open: 0\n\
+safe: no\n\
+unblocked: yes\n\
+";

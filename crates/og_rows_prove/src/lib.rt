@@ -6,4 +6,6 @@
 #[cfg(test)]
 mod examples;
 #[cfg(test)]
+mod json;
+#[cfg(test)]
 mod telling;

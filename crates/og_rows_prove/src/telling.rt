@@ -3,8 +3,8 @@
 ghost use Rattle.std.specs.Prelude.{◌≡◌, ◌<◌, ◌≤◌, ◌^◌, length, vec_len, IfOk};
 
 use crate::examples::{
-    COUNT_UP, COUNT_UP_TOLD, COUNTER, COUNTER_TOLD, ELSE, ELSE_TOLD, PETERSON, PETERSON_TOLD,
-    SMALL_LOCK, SMALL_LOCK_TOLD, WRONG, WRONG_TOLD,
+    ALIKE, ALIKE_TOLD, COUNT_UP, COUNT_UP_TOLD, COUNTER, COUNTER_TOLD, ELSE, ELSE_TOLD, PETERSON,
+    PETERSON_TOLD, SMALL_LOCK, SMALL_LOCK_TOLD, WRONG, WRONG_TOLD,
 };
 use og_cond::{Condition, conditions};
 use og_find::examine;
@@ -18,8 +18,8 @@ use std::test::Fail;
 
 const BUDGET: u64 = 100_000;
 
-// What is told of each condition.
-fn told_of<'a>(
+/// What is told of each condition.
+pub(crate) fn told_of<'a>(
     alloc: Global,
     outline: &'a Outline,
     conditions: &[Condition],
@@ -64,13 +64,14 @@ fn expect_told(rt: &impl Abort, alloc: Global, source: &str, expected: &str) -> 
     Ok(())
 }
 
-const TOLD: [(&str, &str); 6] = [
+const TOLD: [(&str, &str); 7] = [
     (WRONG, WRONG_TOLD),
     (ELSE, ELSE_TOLD),
     (COUNT_UP, COUNT_UP_TOLD),
     (PETERSON, PETERSON_TOLD),
     (COUNTER, COUNTER_TOLD),
     (SMALL_LOCK, SMALL_LOCK_TOLD),
+    (ALIKE, ALIKE_TOLD),
 ];
 
 #[test]

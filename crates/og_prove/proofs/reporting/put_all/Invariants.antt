@@ -1,7 +1,7 @@
-use Rattle.std.proofs.Common.{◌≡◌, ◌+◌, ◌++◌, drop, map}
+use Rattle.std.proofs.Common.{map}
 use Rattle.og_cond.specs.Seen.{seen}
-use Rattle.og_prove.specs.Report.{told_lines}
+use Rattle.og_prove.proofs.Effects.{IsSoFar}
 use Rattle.og_prove.proofs.reporting.put_all.Given as goal
 
 abbrev pub invariant-loop-index : goal.invariant-loop-index
-invariant-loop-index l = l.text.items ++ told_lines l.names l.source (l.index + 1) (map seen (drop l.index l.conditions)) (drop l.index l.told) ≡ l.initial.text.items ++ told_lines l.names l.source 1 (map seen l.conditions) l.told
+invariant-loop-index l = IsSoFar l.page.names.now l.page.source.now l.initial.text.items l.text.items l.firsts l.index (map seen l.conditions) l.told
