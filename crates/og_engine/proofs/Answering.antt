@@ -1,8 +1,9 @@
 -- From the parts of an answer to the whole.
-use Rattle.std.proofs.Common.{◌≡◌, ◌⊎◌, inl, inr, sym, subst, ℕ, ◌<◌, Bool, List, length, Result, Ok, Err, Option, IfOk, IfSome, arith}
+use Rattle.std.proofs.Common.{◌≡◌, ◌⊎◌, inl, inr, sym, subst, ℕ, ◌<◌, ◌≤◌, Bool, List, length, Result, Ok, Err, Option, IfOk, IfSome, arith}
 use Rattle.std.specs.Io.KnownBytes.{Appends}
 use Rattle.og_input.specs.Joined.{IsSplit}
 use Rattle.og_typed.specs.Syntax.{Program}
+use Rattle.og_cond.specs.Condition.{Condition}
 use Rattle.og_cond.specs.Conditions.{conditions}
 use Rattle.og_cond.specs.Limits.{condition_limit}
 use Rattle.og_cond.specs.declared.fault.TooMany.{TooMany}
@@ -21,6 +22,7 @@ use Rattle.og_judge.proofs.Answering.{refusal_status}
 use Rattle.og_pool.specs.declared.fault.PoolFault.{PoolFault}
 use Rattle.og_engine.specs.Answers.{report_in, status_of, IsOutput, IsChecked, Writes, WritesJoined}
 use Rattle.og_engine.specs.Commands.{HasTooMany}
+use Rattle.og_engine.specs.Making.{HasCertificates, IsFoundText, IsFoundOf}
 use Rattle.og_engine.specs.Inputs.{source_of, certs_of, joined_of}
 use Rattle.og_engine.proofs.Fronts.{of_fronts, of_front}
 
@@ -52,6 +54,13 @@ pub too_many : {E : Type 0} (P : Answer → Type 0) (source bytes : List ℕ) (o
 too_many P source bytes o p fault (Err e) same_bytes same h told = tt
 too_many P source bytes o p fault (Ok a) same_bytes same h told =
     inr (subst (λ (q : Program). condition_limit < length (conditions q)) same h, (fault, subst (λ (s : List ℕ). IsTold s (faults.Conditions fault) a) same_bytes told))
+
+-- the certificates of listed conditions are those of the outline's
+pub listed_found : {E : Type 0} (source : List ℕ) (o p : Program) (cs : List Condition) (r : Result Answer E) → p ≡ o → cs ≡ conditions p
+    → length (conditions p) ≤ condition_limit → IfOk r (HasCertificates cs) → IfOk r (IsFoundOf o source)
+listed_found source o p cs (Err e) same listed within h = tt
+listed_found source o p cs (Ok a) same listed within h =
+    inl (subst (λ (q : Program). IsFoundText q a) same (within, subst (λ (ds : List Condition). HasCertificates ds a) listed h))
 
 -- such an answer is that of the outline's source
 pub of_source : {E : Type 0} (P : Program → Answer → Type 0) (source : List ℕ) (o : Program) (r : Result Answer E) → IsSource source o

@@ -1,3 +1,4 @@
+pub mod AllTold
 pub mod Answering
 pub mod Fronts
 pub mod Promised

@@ -1,10 +1,9 @@
 -- What is printed of certificates that are made, and the status.
 use Rattle.std.specs.Prelude.{◌≡◌, ◌<◌, ◌≤◌, ◌⊎◌, ℕ, List, [], length, IsSome}
 use Rattle.og_typed.specs.Syntax.{Program}
+use Rattle.og_cond.specs.Condition.{Condition}
 use Rattle.og_cond.specs.Conditions.{conditions}
 use Rattle.og_cond.specs.Limits.{condition_limit}
-use Rattle.og_cond.specs.declared.fault.ConditionsError.{ConditionsError}
-use Rattle.og_cond.specs.declared.fault.ConditionsError.TheVariants as errors
 use Rattle.og_cert_text.specs.Files.{Entries, certificate_of}
 use Rattle.og_cert_text.specs.Listing.{file_text}
 use Rattle.og_cert_text.specs.declared.fault.CertTextFault.{CertTextFault}
@@ -25,15 +24,13 @@ HasAll count es = (n : ℕ) → 0 < n → n ≤ count → IsSome (certificate_of
 abbrev pub TellsWhetherAll : ℕ → Entries → ℕ → Type 0
 TellsWhetherAll count es status = ((status ≡ 0) × HasAll count es) ⊎ ((status ≡ 1) × (HasAll count es → ⊥))
 
--- the text of certificates, each of a condition of the outline, which are within the limit, and whether all have one
-abbrev pub IsFoundText : Program → Answer → Type 0
-IsFoundText o answer =
-    (length (conditions o) ≤ condition_limit) × (es : Entries) × AreOf (conditions o) es × (answer.text.items ≡ file_text es) × TellsWhetherAll (length (conditions o)) es answer.status
+-- the text of certificates, each of one of the conditions, and whether all have one
+abbrev pub HasCertificates : List Condition → Answer → Type 0
+HasCertificates cs answer = (es : Entries) × AreOf cs es × (answer.text.items ≡ file_text es) × TellsWhetherAll (length cs) es answer.status
 
--- why there are no certificates of an outline's conditions: there are too many conditions; or memory ran out, and there are not
-abbrev pub IsTooMany : Program → ConditionsError → Type 0
-IsTooMany o (errors.Fault fault) = condition_limit < length (conditions o)
-IsTooMany o errors.Memory = length (conditions o) ≤ condition_limit
+-- that text for the conditions of the outline, which are within the limit
+abbrev pub IsFoundText : Program → Answer → Type 0
+IsFoundText o answer = (length (conditions o) ≤ condition_limit) × HasCertificates (conditions o) answer
 
 -- that text, or the line that says that there are too many conditions
 abbrev pub IsFoundOf : Program → List ℕ → Answer → Type 0

@@ -7,6 +7,7 @@ mod engines;
 mod fault;
 mod inputs;
 mod making;
+mod proving;
 mod writing;
 
 pub use answer::checked;
@@ -16,4 +17,5 @@ pub use fault::{EngineFault, WriteFailed};
 pub use inputs::{read_certificates, read_joined, read_source};
 pub use making::{found, migrated};
 pub use og_answer::Answer;
+pub use proving::{Search, proved};
 pub use writing::{write_answer, write_text};

@@ -1,19 +1,25 @@
 //! The answers of the commands that make certificates.
 
-ghost use Rattle.std.specs.Prelude.{◌≡◌, IfOk, IfErr};
+ghost use Rattle.std.specs.Prelude.{◌≡◌, ◌<◌, ◌≤◌, length, map, IfOk, IfErr};
 ghost use Rattle.og_cert_text.specs.Shown.{shown};
 ghost use Rattle.og_cert_text.specs.Listing.{file_text};
-ghost use Rattle.og_engine.specs.Making.{TellsWhetherAll, IsFoundText, IsTooMany, IsFoundOf, IsFound, IsMigrated};
+ghost use Rattle.og_cond.specs.Limits.{condition_limit};
+ghost use Rattle.og_cond.specs.Seen.{seen};
+ghost use Rattle.og_pool.specs.declared.fault.PoolFault.TheVariants.{Spawn};
+ghost use Rattle.og_engine.specs.Making.{TellsWhetherAll, HasCertificates, IsFoundOf, IsFound, IsMigrated};
 
 use og_answer::{Answer, InputFault};
 use og_cert_text::{CertFile, CertTextError, write_certs};
-use og_cond::{ConditionsError, conditions};
-use og_find::{find_all, has_all};
+use og_cond::{Condition, ConditionsError, conditions};
+use og_find::has_all;
+use og_finder::find_all;
 use og_judge::migrate;
-use og_limits::Budget;
+use og_limits::{Budget, Workers};
+use og_pool::PoolFault;
 use og_source::Source;
-use og_typed::Outline;
 use std::alloc::{AllocError, Global};
+use std::sync::Wait;
+use std::thread::Threads;
 
 // The text of a file, and whether each of so many conditions has a certificate in it.
 fn of_file(alloc: Global, file: &CertFile, count: u32) -> Result<Answer, AllocError>
@@ -25,46 +31,70 @@ fn of_file(alloc: Global, file: &CertFile, count: u32) -> Result<Answer, AllocEr
     Ok(Answer { text, status })
 }
 
-// The certificates that are found for the conditions of an outline.
-fn of_search(alloc: Global, outline: &Outline, budget: Budget) -> Result<Answer, ConditionsError>
-    ensures found { IfOk result (IsFoundText outline.now) }
-    ensures refused { IfErr result (IsTooMany outline.now) }
+// The certificates that are found for conditions.
+fn of_search<H: Threads + Wait + Sync>(
+    rt: &H,
+    alloc: Global,
+    conditions: &[Condition],
+    budget: Budget,
+    workers: Workers,
+) -> Result<Answer, PoolFault>
+    requires { length conditions.now ≤ condition_limit }
+    ensures found { IfOk result (HasCertificates (map seen conditions.now)) }
+    ensures spawn { IfErr result (λ e. e ≡ Spawn → 1 < workers) }
 {
-    let conditions = conditions(alloc, outline)?;
-    let file = find_all(alloc, &conditions, budget.facts())?;
-    Ok(of_file(alloc, &file, conditions.len() as u32)?)
+    let file = find_all(rt, alloc, conditions, budget.facts(), workers.count())?;
+    let answer = of_file(alloc, &file, conditions.len() as u32)?;
+    Ok(answer)
 }
 
 // The answer for the outline of a source.
-fn found_of(alloc: Global, source: &Source, budget: Budget) -> Result<Answer, AllocError>
-    ensures { IfOk result (IsFoundOf source.now.outline source.now.bytes) }
+fn found_of<H: Threads + Wait + Sync>(
+    rt: &H,
+    alloc: Global,
+    source: &Source,
+    budget: Budget,
+    workers: Workers,
+) -> Result<Answer, PoolFault>
+    ensures found { IfOk result (IsFoundOf source.now.outline source.now.bytes) }
+    ensures spawn { IfErr result (λ e. e ≡ Spawn → 1 < workers) }
 {
-    match of_search(alloc, source.outline(), budget) {
-        Ok(answer) => Ok(answer),
+    match conditions(alloc, source.outline()) {
+        Ok(conditions) => of_search(rt, alloc, &conditions, budget, workers),
         Err(ConditionsError::Fault(fault)) => {
-            Answer::refused(alloc, &InputFault::Conditions(fault), source.bytes())
+            let why = InputFault::Conditions(fault);
+            Ok(Answer::refused(alloc, &why, source.bytes())?)
         }
-        Err(ConditionsError::Memory) => Err(AllocError),
+        Err(ConditionsError::Memory) => Err(PoolFault::Memory),
     }
 }
 
 /// The certificates that searches find for the conditions of the outline of a source, in version 1
 /// of their text, with status 0 where each condition has one and 1 where some has none; or the line
-/// of a refusal and status 2. Each search has the budget, as in `og_find::find`.
+/// of a refusal and status 2. Each search has the budget, as in `og_find::find`. The answer is the
+/// same for every number of workers.
 ///
 /// # Errors
 ///
-/// An allocation was refused.
-pub fn found(alloc: Global, source: &[u8], budget: Budget) -> Result<Answer, AllocError>
-    ensures { IfOk result (IsFound source.now) }
+/// `Spawn`, of two workers or more, where a thread could not be started. `Memory` where an allocation
+/// was refused.
+pub fn found<H: Threads + Wait + Sync>(
+    rt: &H,
+    alloc: Global,
+    source: &[u8],
+    budget: Budget,
+    workers: Workers,
+) -> Result<Answer, PoolFault>
+    ensures answer { IfOk result (IsFound source.now) }
+    ensures spawn { IfErr result (λ e. e ≡ Spawn → 1 < workers) }
 {
     match Source::read(alloc, source) {
         Ok(source) => {
-            let answer = found_of(alloc, &source, budget);
+            let answer = found_of(rt, alloc, &source, budget, workers);
             drop(source);
             answer
         }
-        Err(error) => Answer::unread(alloc, &error, source),
+        Err(error) => Ok(Answer::unread(alloc, &error, source)?),
     }
 }
 

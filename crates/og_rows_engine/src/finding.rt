@@ -42,10 +42,11 @@ fn expect_found<R: Threads + Wait + Sync + Abort>(
     status: u8,
 ) -> Result<(), Fail> {
     let budget = Budget::new(100_000).expect(rt, "within its limit");
-    let certs = found(alloc, source.as_bytes(), budget)?;
+    let workers = Workers::new(2).expect(rt, "from 1 to 64");
+    let certs = found(rt, alloc, source.as_bytes(), budget, workers)?;
     assert_eq!(rt; certs.status, status);
     let options = Options {
-        workers: Workers::new(2).expect(rt, "from 1 to 64"),
+        workers,
         json: false,
     };
     let answer = checked(
@@ -75,7 +76,8 @@ fn expect_proved<R: Threads + Wait + Sync + Abort>(
     report: &str,
 ) -> Result<(), Fail> {
     let budget = Budget::new(100_000).expect(rt, "within its limit");
-    let certs = found(alloc, source.as_bytes(), budget)?;
+    let workers = Workers::new(3).expect(rt, "from 1 to 64");
+    let certs = found(rt, alloc, source.as_bytes(), budget, workers)?;
     assert_eq!(rt; certs.status, 0);
     for workers in [1, 2, 64] {
         expect_report(rt, alloc, source, &certs.text, workers, report)?;

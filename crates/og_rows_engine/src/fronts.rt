@@ -86,7 +86,7 @@ fn expect_certs<R: Threads + Wait + Sync + Abort>(
 fn fronts(rt: HostRuntime) -> Result<(), Fail> {
     let alloc = rt.alloc();
     let budget = Budget::new(100_000).expect(&rt, "within its limit");
-    let answer = found(alloc, TWO_ADD.as_bytes(), budget)?;
+    let answer = found(&rt, alloc, TWO_ADD.as_bytes(), budget, Workers::ONE)?;
     let certs = str::from_utf8(&answer.text).expect(&rt, "ASCII");
     expect_sources(&rt, alloc, certs)?;
     expect_certs(&rt, alloc, certs)

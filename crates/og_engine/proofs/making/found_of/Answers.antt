@@ -1,15 +1,10 @@
-use Rattle.std.proofs.Common.{inl, subst}
-use Rattle.og_typed.specs.Syntax.{Program}
-use Rattle.og_engine.specs.Making.{IsFoundText, IsTooMany}
-use Rattle.og_engine.proofs.Answering.{too_many}
+use Rattle.std.proofs.Common.{map, ap, ◌∙◌}
+use Rattle.og_cond.specs.Seen.{seen}
+use Rattle.og_engine.proofs.Answering.{listed_found}
 use Rattle.og_engine.proofs.making.found_of.Goals as goal
 
-pub returns-in-Ok : goal.returns-in-Ok
-returns-in-Ok c =
-    inl (subst (λ (o : Program). IsFoundText o c.in-Ok.answer) c.outline.ensures.same c.in-Ok.ensures.found)
-
-pub returns-in-Err-Fault : goal.returns-in-Err-Fault
-returns-in-Err-Fault c =
+pub returns-in-Ok-clause-found : goal.returns-in-Ok-clause-found
+returns-in-Ok-clause-found g c =
     let s = c.args.source.now in
-    too_many (IsFoundText s.outline) s.bytes c.bytes.result.now s.outline c.outline.result.now
-    c.in-Err-Fault.fault c.refused.result c.bytes.ensures.same c.outline.ensures.same (subst (IsTooMany c.outline.result.now) c.in-Err-Fault.field-0-is c.in-Err-Fault.ensures.refused) c.refused.ensures
+    listed_found s.bytes s.outline c.outline.result.now (map seen c.deref.result.now) c.of_search.result c.outline.ensures.same
+    (ap (map seen) c.deref.ensures.value ∙ c.in-Ok.ensures.0) c.in-Ok.ensures.1 c.of_search.ensures.found

@@ -1,0 +1,10 @@
+use Rattle.std.proofs.Common.{◌≡◌, drop, length, map}
+use Rattle.og_cond.specs.Seen.{seen}
+use Rattle.og_prove.proofs.Answered.{MakesAll}
+use Rattle.og_engine.proofs.proving.tell_all.Given as goal
+
+abbrev pub invariant-loop-i : goal.invariant-loop-i
+invariant-loop-i l = record {
+  told : MakesAll l.outline (map seen l.conditions) (map seen (drop l.i l.conditions)) l.all.items;
+  each : length l.all.items ≡ l.i;
+}

@@ -1,0 +1,225 @@
+//! The answer of the command that searches, judges and says what is wrong.
+
+ghost use Rattle.std.specs.Prelude.{◌≡◌, ◌<◌, ◌≤◌, ◌^◌, length, map, true, false, IfOk, IfErr, IfSome};
+ghost use Rattle.og_cond.specs.Conditions.{conditions as conditions_of};
+ghost use Rattle.og_cond.specs.Limits.{condition_limit};
+ghost use Rattle.og_cond.specs.Seen.{seen};
+ghost use Rattle.og_find.specs.Found.{IsVerdict};
+ghost use Rattle.og_finder.specs.Findings.{AreVerdicts};
+ghost use Rattle.og_judge.specs.NeverStuck.{IsNeverStuckSource};
+ghost use Rattle.og_judge.specs.Proven.{IsProvenSource};
+ghost use Rattle.og_pool.specs.declared.fault.PoolFault.TheVariants.{Spawn};
+ghost use Rattle.og_prove.specs.Report.{is_unblocked};
+ghost use Rattle.og_prove.specs.Told.{IsTold, AreTold};
+ghost use Rattle.og_report.specs.Yes.{SaysUnblocked};
+ghost use Rattle.og_answer.specs.Told.{Says};
+ghost use Rattle.og_engine.specs.Promised.{Promises};
+ghost use Rattle.og_engine.specs.Proving.{told_in, told_status, IsToldText, IsToldOf, IsProving};
+
+use og_answer::{Answer, InputFault};
+use og_cond::{Condition, ConditionsError, conditions};
+use og_find::Verdict;
+use og_finder::{Findings, examine_all};
+use og_limits::{Budget, Workers};
+use og_places::Index;
+use og_pool::PoolFault;
+use og_prove::{Told, is_safe, is_unblocked, report, tell};
+use og_prove_json::json;
+use og_source::Source;
+use og_theorem::Proved;
+use og_typed::Outline;
+use std::alloc::{AllocError, Global};
+use std::sync::Wait;
+use std::thread::Threads;
+
+/// How the conditions of an outline are searched and told.
+#[derive(Clone, Copy, Debug, PartialEq, Eq)]
+pub struct Search {
+    /// The budget of each search, as in `og_find::examine`.
+    pub budget: Budget,
+    /// How many workers search.
+    pub workers: Workers,
+    /// Whether the report is JSON with an LF.
+    pub json: bool,
+}
+
+// What is told of a condition by the verdict on it; it is open where there is none.
+fn told_by<'a>(
+    alloc: Global,
+    outline: &'a Outline,
+    index: &Index<'a>,
+    condition: &Condition,
+    verdict: Option<&Verdict>,
+) -> Result<Told<'a>, AllocError>
+    requires index { index.now ≡ outline.now }
+    requires verdict { IfSome verdict (λ v. IsVerdict (seen condition.now) v.now) }
+    ensures { IfOk result (IsTold outline.now (seen condition.now)) }
+{
+    match verdict {
+        Some(verdict) => tell(alloc, outline, index, condition, verdict),
+        None => Ok(Told::Open),
+    }
+}
+
+// What is told of each condition.
+fn tell_all<'a>(
+    alloc: Global,
+    outline: &'a Outline,
+    conditions: &[Condition],
+    findings: &Findings,
+) -> Result<Vec<Told<'a>>, AllocError>
+    requires { AreVerdicts (map seen conditions.now) findings.now }
+    ensures told { IfOk result (λ all. AreTold outline.now (map seen conditions.now) all.items) }
+    ensures each { IfOk result (λ all. length all.items ≡ length conditions.now) }
+{
+    let index = Index::new(alloc, outline)?;
+    let mut all = Vec::with_capacity(alloc, conditions.len())?;
+    for i in 0..conditions.len() {
+        let verdict = findings.verdict(i);
+        let told = told_by(alloc, outline, &index, &conditions[i], verdict)?;
+        all.push(told)?;
+    }
+    Ok(all)
+}
+
+// The text of a report, of which only one that is unblocked says so.
+fn text_of(
+    alloc: Global,
+    outline: &Outline,
+    source: &[u8],
+    conditions: &[Condition],
+    told: &[Told],
+) -> Result<Vec<u8>, AllocError>
+    requires short { length source.now ≤ 2 ^ 20 }
+    requires each { length told.now ≡ length conditions.now }
+    requires few { length told.now < 2 ^ 32 }
+    ensures text { IfOk result (λ t. t.items ≡ told_in false outline.now.names source.now (map seen conditions.now) told.now) }
+    ensures unblocked { IfOk result (λ t. SaysUnblocked false t.items → is_unblocked told.now ≡ true) }
+{
+    let text = report(alloc, outline, source, conditions, told)?;
+    Ok(text)
+}
+
+// The report in JSON with an LF, or as text.
+fn told_text(
+    alloc: Global,
+    outline: &Outline,
+    source: &[u8],
+    conditions: &[Condition],
+    told: &[Told],
+    in_json: bool,
+) -> Result<Vec<u8>, AllocError>
+    requires short { length source.now ≤ 2 ^ 20 }
+    requires each { length told.now ≡ length conditions.now }
+    requires few { length told.now < 2 ^ 32 }
+    ensures text { IfOk result (λ t. t.items ≡ told_in in_json outline.now.names source.now (map seen conditions.now) told.now) }
+    ensures unblocked { IfOk result (λ t. SaysUnblocked in_json t.items → is_unblocked told.now ≡ true) }
+{
+    if !in_json {
+        return text_of(alloc, outline, source, conditions, told);
+    }
+    let mut line = json(alloc, outline, source, conditions, told)?;
+    line.push(b'\n')?;
+    Ok(line)
+}
+
+// The answer to what is told: status 0 where each condition but the last is proved, else 1.
+fn answer_of(
+    alloc: Global,
+    outline: &Outline,
+    source: &[u8],
+    conditions: &[Condition],
+    told: &[Told],
+    in_json: bool,
+) -> Result<Answer, AllocError>
+    requires short { length source.now ≤ 2 ^ 20 }
+    requires listed { map seen conditions.now ≡ conditions_of outline.now }
+    requires told { AreTold outline.now (map seen conditions.now) told.now }
+    requires each { length told.now ≡ length conditions.now }
+    requires few { length told.now < 2 ^ 32 }
+    ensures says { IfOk result (Says (told_in in_json outline.now.names source.now (map seen conditions.now) told.now) (told_status told.now)) }
+    ensures promises { IfOk result (Promises in_json outline.now) }
+{
+    let text = told_text(alloc, outline, source, conditions, told, in_json)?;
+    if !is_safe(told) {
+        return Ok(Answer { text, status: 1 });
+    }
+    // Asked for their clauses alone: what they say of the runs.
+    let proved = Proved::new(outline, is_unblocked(told));
+    proved.outline();
+    proved.unblocked();
+    Ok(Answer { text, status: 0 })
+}
+
+// What is told of the conditions of an outline, which are searched.
+fn searched<H: Threads + Wait + Sync>(
+    rt: &H,
+    alloc: Global,
+    source: &Source,
+    conditions: &[Condition],
+    search: Search,
+) -> Result<Answer, PoolFault>
+    requires listed { map seen conditions.now ≡ conditions_of source.now.outline }
+    requires few { length conditions.now ≤ condition_limit }
+    ensures told { IfOk result (IsToldText search.json source.now.outline source.now.bytes) }
+    ensures promises { IfOk result (Promises search.json source.now.outline) }
+    ensures spawn { IfErr result (λ e. e ≡ Spawn → 1 < search.workers) }
+{
+    let (outline, bytes) = (source.outline(), source.bytes());
+    let (budget, workers) = (search.budget.facts(), search.workers.count());
+    let findings = examine_all(rt, alloc, conditions, budget, workers)?;
+    let told = tell_all(alloc, outline, conditions, &findings)?;
+    Ok(answer_of(alloc, outline, bytes, conditions, &told, search.json)?)
+}
+
+// The answer for the outline of a source.
+fn proved_of<H: Threads + Wait + Sync>(
+    rt: &H,
+    alloc: Global,
+    source: &Source,
+    search: Search,
+) -> Result<Answer, PoolFault>
+    ensures told { IfOk result (IsToldOf search.json source.now.outline source.now.bytes) }
+    ensures promises { IfOk result (Promises search.json source.now.outline) }
+    ensures spawn { IfErr result (λ e. e ≡ Spawn → 1 < search.workers) }
+{
+    match conditions(alloc, source.outline()) {
+        Ok(list) => searched(rt, alloc, source, &list, search),
+        Err(ConditionsError::Fault(fault)) => {
+            let fault = InputFault::Conditions(fault);
+            Ok(Answer::refused(alloc, &fault, source.bytes())?)
+        }
+        Err(ConditionsError::Memory) => Err(PoolFault::Memory),
+    }
+}
+
+/// What searches tell of the conditions of the outline of a source: each one that is not proved with
+/// what is wrong, and the totals; or the line of a refusal. Status 0 where every condition but the
+/// last is proved, 1 where one is not, 2 at a refusal. Status 0 says that every run of the outline is
+/// as promised, with its auxiliaries and without them; and a report that says then that it is
+/// unblocked, that none gets stuck. The answer is the same for every number of workers.
+///
+/// # Errors
+///
+/// `Spawn`, of two workers or more, where a thread could not be started. `Memory` where an allocation
+/// was refused.
+pub fn proved<H: Threads + Wait + Sync>(
+    rt: &H,
+    alloc: Global,
+    source: &[u8],
+    search: Search,
+) -> Result<Answer, PoolFault>
+    ensures answer { IfOk result (IsProving search.json source.now) }
+    ensures sound { IfOk result (λ answer. answer.status ≡ 0 → IsProvenSource source.now) }
+    ensures unblocked { IfOk result (λ answer. answer.status ≡ 0 → SaysUnblocked search.json answer.text.items → IsNeverStuckSource source.now) }
+    ensures spawn { IfErr result (λ e. e ≡ Spawn → 1 < search.workers) }
+{
+    match Source::read(alloc, source) {
+        Ok(source) => {
+            let answer = proved_of(rt, alloc, &source, search);
+            drop(source);
+            answer
+        }
+        Err(error) => Ok(Answer::unread(alloc, &error, source)?),
+    }
+}
