@@ -1,11 +1,13 @@
 -- From the parts of an end to the whole.
-use Rattle.std.proofs.Common.{◌≡◌, ◌≢◌, refl, inl, inr, ℕ, Bool, false, List, Option, Result, Ok, Err, IfOk, IfErr, IfSome, Bor, subst, sym}
+use Rattle.std.proofs.Common.{◌≡◌, ◌≢◌, refl, inl, inr, ℕ, Bool, false, List, Option, None, Some, Result, Ok, Err, IfOk, IfErr, IfSome, Bor, subst, sym, arith, ◌∙◌}
 use Rattle.std.specs.Io.KnownBytes.{Appends, Keeps}
 use Rattle.std.proofs.lemmas.Option.{IfSome_then}
 use Rattle.og_answer.specs.declared.answer.Answer.{Answer}
 use Rattle.og_engine.specs.Answers.{Writes, WritesJoined}
 use Rattle.og_engine.specs.Inputs.{source_of, certs_of, joined_of}
 use Rattle.og_engine.specs.Unfinished.{AppendsFront}
+use Rattle.og_engine.specs.Wrote.{Wrote}
+use Rattle.og_engine.proofs.Promised.{written_text}
 use Rattle.og_engine.specs.declared.fault.EngineFault.{EngineFault}
 use Rattle.og_engine.specs.declared.fault.EngineFault.TheVariants as faults
 use Rattle.og_running.specs.declared.reply.Reply.{Reply}
@@ -90,6 +92,40 @@ pub told : (files : List ℕ → Option (List ℕ)) (input : Option (List ℕ)) 
 told files input job known out out_after err err_after ended P r is gives answer unwritten threadless ok wrong =
     subst (λ (j : Job). EndsJob files input j out out_after err err_after ended) (sym is)
     (answered files input known out out_after err err_after ended P r gives answer unwritten (absent (StartsThreads files input known) r threadless) ok wrong)
+
+-- the same, where a thread can be wanting
+pub told_by_threads : (files : List ℕ → Option (List ℕ)) (input : Option (List ℕ)) (job known : Job) (out out_after err err_after : Option (List ℕ)) (ended : Ended) (P : Answer → Type 0) (r : Result Answer EngineFault)
+    → job ≡ known → ((Q : List ℕ → ℕ → Type 0) → Gives P Q → Answers files input known Q) → IfOk r P → IfErr r (λ e. e ≢ faults.WriteFailed) → IfErr r (λ e. e ≡ faults.Spawn → StartsThreads files input known)
+    → IfOk r (λ a. TellsAnswer a out out_after err err_after ended) → IfErr r (λ fault. Fails fault out out_after err err_after ended)
+    → EndsJob files input job out out_after err err_after ended
+told_by_threads files input job known out out_after err err_after ended P r is gives answer unwritten wants ok wrong =
+    subst (λ (j : Job). EndsJob files input j out out_after err err_after ended) (sym is)
+    (answered files input known out out_after err err_after ended P r gives answer unwritten wants ok wrong)
+
+-- ---- what status 0 says
+
+fails_not_0 : (fault : EngineFault) (out out_after err err_after : Option (List ℕ)) (ended : Ended) → Fails fault out out_after err err_after ended → ended.status ≡ 0 → ⊥
+fails_not_0 fault out out_after err err_after ended fails zero = let four = fails.1.0 in omega (arith, four, zero)
+
+-- what status 0 of an answer says, that of the program says where it was printed
+pub sound_told : (S : Type 0) (out out_after err err_after : Option (List ℕ)) (ended : Ended) (r : Result Answer EngineFault) → IfOk r (λ a. a.status ≡ 0 → S)
+    → IfOk r (λ a. TellsAnswer a out out_after err err_after ended) → IfErr r (λ fault. Fails fault out out_after err err_after ended) → ended.status ≡ 0 → S
+sound_told S out out_after err err_after ended (Ok a) h (inl t) wrong zero = h (sym t.1 ∙ zero)
+sound_told S out out_after err err_after ended (Ok a) h (inr f) wrong zero = absurd (fails_not_0 faults.WriteFailed out out_after err err_after ended f.1 zero)
+sound_told S out out_after err err_after ended (Err e) h ok fails zero = absurd (fails_not_0 e out out_after err err_after ended fails zero)
+
+-- where both are said of what is known, the second follows from what was written
+written_of : (P : List ℕ → Type 0) (Q : List ℕ → Type 0) (source before after : Option (List ℕ)) (text : List ℕ) → Appends before after text
+    → (P text → IfSome source Q) → IfSome source (λ s. Wrote P before after → Q s)
+written_of P Q None before after text appended h = tt
+written_of P Q (Some s) before after text appended h = λ wrote. h (written_text P before after text appended wrote)
+
+pub unblocked_told : (P : List ℕ → Type 0) (Q : List ℕ → Type 0) (source out out_after err err_after : Option (List ℕ)) (ended : Ended) (r : Result Answer EngineFault)
+    → IfOk r (λ a. a.status ≡ 0 → P a.text.items → IfSome source Q) → IfOk r (λ a. TellsAnswer a out out_after err err_after ended)
+    → IfErr r (λ fault. Fails fault out out_after err err_after ended) → ended.status ≡ 0 → IfSome source (λ s. Wrote P out out_after → Q s)
+unblocked_told P Q source out out_after err err_after ended (Ok a) h (inl t) wrong zero = written_of P Q source out out_after a.text.items t.0 (h (sym t.1 ∙ zero))
+unblocked_told P Q source out out_after err err_after ended (Ok a) h (inr f) wrong zero = absurd (fails_not_0 faults.WriteFailed out out_after err err_after ended f.1 zero)
+unblocked_told P Q source out out_after err err_after ended (Err e) h ok fails zero = absurd (fails_not_0 e out out_after err err_after ended fails zero)
 
 -- a word that is refused, or a fault
 refused : (files : List ℕ → Option (List ℕ)) (input : Option (List ℕ)) (job : Job) (out out_after err err_after : Option (List ℕ)) (ended : Ended) (word : List ℕ)

@@ -9,6 +9,7 @@ use Rattle.og_engine.specs.Proven.{HasProvenSource}
 use Rattle.og_engine.specs.Commands.{IsListed, IsErased}
 use Rattle.og_engine.specs.Inputs.{source_of, certs_of, joined_of}
 use Rattle.og_engine.specs.Making.{IsFound, IsMigrated}
+use Rattle.og_engine.specs.Proving.{IsProving}
 use Rattle.og_engine.specs.Unfinished.{AppendsFront}
 use Rattle.og_engine.specs.Wrote.{Wrote}
 use Rattle.og_engine.specs.declared.fault.EngineFault.{EngineFault}
@@ -46,10 +47,11 @@ Gives P Q = (answer : Answer) × P answer × Q answer.text.items answer.status
 -- Q of the text and the status that a job answers, where the bytes of its files are known
 abbrev pub Answers : (List ℕ → Option (List ℕ)) → Option (List ℕ) → Job → (List ℕ → ℕ → Type 0) → Type 0
 Answers files input jobs.Joined Q = IfSome input (λ i. (source certs : List ℕ) × IsSplit (joined_of i) source certs × Checks false source certs Q)
+Answers files input (jobs.Prove source budget workers json) Q = Gives (λ answer. IfSome (source_in files input source.now) (λ s. IsProving json (source_of s) answer)) Q
 Answers files input (jobs.Check source certs workers json) Q =
     IfSome (source_in files input source.now) (λ s. IfSome (files certs.now) (λ c. Checks json (source_of s) (certs_of c) Q))
 Answers files input (jobs.Conditions source) Q = Gives (λ answer. IfSome (source_in files input source.now) (λ s. IsListed (source_of s) answer)) Q
-Answers files input (jobs.Find source budget) Q = Gives (λ answer. IfSome (source_in files input source.now) (λ s. IsFound (source_of s) answer)) Q
+Answers files input (jobs.Find source budget workers) Q = Gives (λ answer. IfSome (source_in files input source.now) (λ s. IsFound (source_of s) answer)) Q
 Answers files input (jobs.Erase source) Q = Gives (λ answer. IfSome (source_in files input source.now) (λ s. IsErased (source_of s) answer)) Q
 Answers files input (jobs.Run source limit erased certs values) Q =
     Gives (λ answer. RanAs files (source_in files input source.now) limit erased certs (map (λ w. w.now) values.items) (replies.Answer answer)) Q
@@ -66,9 +68,10 @@ Leaves files input job before after = Answers files input job (λ text told. App
 -- there is known to be no file of a name that the job begins with; a run opens its certificates later
 abbrev pub lacks : (List ℕ → Bool) → Job → Bool
 lacks missing jobs.Joined = false
+lacks missing (jobs.Prove source budget workers json) = lacks_source missing source.now
 lacks missing (jobs.Check source certs workers json) = lacks_source missing source.now || missing certs.now
 lacks missing (jobs.Conditions source) = lacks_source missing source.now
-lacks missing (jobs.Find source budget) = lacks_source missing source.now
+lacks missing (jobs.Find source budget workers) = lacks_source missing source.now
 lacks missing (jobs.Erase source) = lacks_source missing source.now
 lacks missing (jobs.Run source limit erased certs values) = lacks_source missing source.now
 lacks missing (jobs.Migrate certs) = missing certs.now
@@ -76,9 +79,10 @@ lacks missing (jobs.Migrate certs) = missing certs.now
 -- whether the job is told to read standard input, which else is left as it is
 abbrev pub reads_input : Job → Bool
 reads_input jobs.Joined = true
+reads_input (jobs.Prove source budget workers json) = not (is_file source.now)
 reads_input (jobs.Check source certs workers json) = not (is_file source.now)
 reads_input (jobs.Conditions source) = not (is_file source.now)
-reads_input (jobs.Find source budget) = not (is_file source.now)
+reads_input (jobs.Find source budget workers) = not (is_file source.now)
 reads_input (jobs.Erase source) = not (is_file source.now)
 reads_input (jobs.Run source limit erased certs values) = not (is_file source.now)
 reads_input (jobs.Migrate certs) = false
@@ -86,9 +90,10 @@ reads_input (jobs.Migrate certs) = false
 -- the text that says why a job cannot be done: a word of a run gives no value
 abbrev pub Refuses : (List ℕ → Option (List ℕ)) → Option (List ℕ) → Job → List ℕ → Type 0
 Refuses files input jobs.Joined text = ⊥
+Refuses files input (jobs.Prove source budget workers json) text = ⊥
 Refuses files input (jobs.Check source certs workers json) text = ⊥
 Refuses files input (jobs.Conditions source) text = ⊥
-Refuses files input (jobs.Find source budget) text = ⊥
+Refuses files input (jobs.Find source budget workers) text = ⊥
 Refuses files input (jobs.Erase source) text = ⊥
 Refuses files input (jobs.Run source limit erased certs values) text =
     (word : Bor (List ℕ)) × RanAs files (source_in files input source.now) limit erased certs (map (λ w. w.now) values.items) (replies.BadValue word) × (text ≡ bad_value_text word.now)
@@ -99,12 +104,13 @@ abbrev pub StartsAs : (List ℕ → Option (List ℕ)) → Option (List ℕ) →
 StartsAs files source erased None words = IfSome source (λ s. HasStart erased (source_of s) words)
 StartsAs files source erased (Some certs) words = IfSome source (λ s. IfSome (files certs.now) (λ c. HasProvedStart (source_of s) (certs_of c) words))
 
--- a thread can be wanting for a job: for a check by two workers or more, and for such a run
+-- a thread can be wanting for a job: for a search or a check by two workers or more, and for such a run
 abbrev pub StartsThreads : (List ℕ → Option (List ℕ)) → Option (List ℕ) → Job → Type 0
 StartsThreads files input jobs.Joined = ⊥
+StartsThreads files input (jobs.Prove source budget workers json) = 1 < workers
 StartsThreads files input (jobs.Check source certs workers json) = 1 < workers
 StartsThreads files input (jobs.Conditions source) = ⊥
-StartsThreads files input (jobs.Find source budget) = ⊥
+StartsThreads files input (jobs.Find source budget workers) = 1 < workers
 StartsThreads files input (jobs.Erase source) = ⊥
 StartsThreads files input (jobs.Run source limit erased certs values) = StartsAs files (source_in files input source.now) erased certs (map (λ w. w.now) values.items)
 StartsThreads files input (jobs.Migrate certs) = ⊥
@@ -130,12 +136,13 @@ abbrev pub Ends : (List ℕ → Option (List ℕ)) → Option (List ℕ) → Res
 Ends files input (Ok job) out out_after err err_after ended = EndsJob files input job out out_after err err_after ended
 Ends files input (Err usage) out out_after err err_after ended = EndsUsage usage out out_after err err_after ended
 
--- the source that a job checks is proven, where its bytes are known
+-- the source that a job proves or checks is proven, where its bytes are known
 abbrev pub IsProvenIn : (List ℕ → Option (List ℕ)) → Option (List ℕ) → Job → Type 0
 IsProvenIn files input jobs.Joined = IfSome input (λ i. HasProvenSource (joined_of i))
+IsProvenIn files input (jobs.Prove source budget workers json) = IfSome (source_in files input source.now) (λ s. IsProvenSource (source_of s))
 IsProvenIn files input (jobs.Check source certs workers json) = IfSome (source_in files input source.now) (λ s. IsProvenSource (source_of s))
 IsProvenIn files input (jobs.Conditions source) = ⊤
-IsProvenIn files input (jobs.Find source budget) = ⊤
+IsProvenIn files input (jobs.Find source budget workers) = ⊤
 IsProvenIn files input (jobs.Erase source) = ⊤
 IsProvenIn files input (jobs.Run source limit erased certs values) = ⊤
 IsProvenIn files input (jobs.Migrate certs) = ⊤
@@ -144,10 +151,12 @@ IsProvenIn files input (jobs.Migrate certs) = ⊤
 abbrev pub IsNeverStuckIn : (List ℕ → Option (List ℕ)) → Option (List ℕ) → Option (List ℕ) → Option (List ℕ) → Job → Type 0
 IsNeverStuckIn files input before after jobs.Joined =
     IfSome input (λ i. Wrote (SaysUnblocked false) before after → HasNeverStuckSource (joined_of i))
+IsNeverStuckIn files input before after (jobs.Prove source budget workers json) =
+    IfSome (source_in files input source.now) (λ s. Wrote (SaysUnblocked json) before after → IsNeverStuckSource (source_of s))
 IsNeverStuckIn files input before after (jobs.Check source certs workers json) =
     IfSome (source_in files input source.now) (λ s. Wrote (SaysUnblocked json) before after → IsNeverStuckSource (source_of s))
 IsNeverStuckIn files input before after (jobs.Conditions source) = ⊤
-IsNeverStuckIn files input before after (jobs.Find source budget) = ⊤
+IsNeverStuckIn files input before after (jobs.Find source budget workers) = ⊤
 IsNeverStuckIn files input before after (jobs.Erase source) = ⊤
 IsNeverStuckIn files input before after (jobs.Run source limit erased certs values) = ⊤
 IsNeverStuckIn files input before after (jobs.Migrate certs) = ⊤

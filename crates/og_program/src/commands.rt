@@ -3,14 +3,13 @@
 ghost use Rattle.std.specs.Prelude.{◌≡◌, ◌≢◌, true, Err, IfErr, IfOk, IfSome};
 ghost use Rattle.og_engine.specs.Commands.{IsListed, IsErased};
 ghost use Rattle.og_engine.specs.Inputs.{source_of, certs_of};
-ghost use Rattle.og_engine.specs.Making.{IsFound, IsMigrated};
+ghost use Rattle.og_engine.specs.Making.{IsMigrated};
 ghost use Rattle.og_program.specs.Named.{source_in, is_file, lacks_source};
 
 use crate::files::Files;
 use crate::reading::{certificate_bytes, source_bytes};
 use og_answer::Answer;
-use og_engine::{EngineFault, erased, found, listed, migrated};
-use og_limits::Budget;
+use og_engine::{EngineFault, erased, listed, migrated};
 use std::alloc::Global;
 use std::io::Read;
 
@@ -46,24 +45,6 @@ pub(crate) fn erase<F: Files, I: Read>(
 {
     let source = source_bytes(alloc, files, name, input)?;
     Ok(erased(alloc, &source)?)
-}
-
-/// The certificates that are found for a source.
-pub(crate) fn find<F: Files, I: Read>(
-    alloc: Global,
-    files: &F,
-    name: &str,
-    budget: Budget,
-    input: &mut I,
-) -> Result<Answer, EngineFault>
-    ensures answer { IfOk result (λ answer. IfSome (source_in (F.contents files.now) (I.remaining input.old) name.now) (λ s. IsFound (source_of s) answer)) }
-    ensures fault { IfErr result (λ e. e ≢ EngineFault.WriteFailed) }
-    ensures spawn { IfErr result (λ e. e ≢ EngineFault.Spawn) }
-    ensures missing { lacks_source (F.is_missing files.now) name.now ≡ true → result ≡ Err EngineFault.ReadFailed }
-    ensures kept { is_file name.now ≡ true → I.remaining input.new ≡ I.remaining input.old }
-{
-    let source = source_bytes(alloc, files, name, input)?;
-    Ok(found(alloc, &source, budget)?)
 }
 
 /// Certificates in version 2.

@@ -6,6 +6,7 @@ mod ended;
 mod files;
 mod program;
 mod reading;
+mod searching;
 mod serving;
 mod telling;
 

@@ -4,13 +4,13 @@ ghost use Rattle.std.specs.Prelude.{◌≡◌, true, false, map, string_bytes, I
 ghost use Rattle.og_program.specs.Served.{lacks, reads_input, Ends, EndsJob, EndsUsage, EndsWords, IsProvenIn, IsNeverStuckIn};
 ghost use Rattle.og_program.specs.Told.{Fails};
 
-use crate::commands::{conditions, erase, find, migrate};
+use crate::commands::{conditions, erase, migrate};
 use crate::ended::Ended;
 use crate::files::Files;
 use crate::program::Program;
 use crate::telling::{fail, finish, refuse, reply, tell};
 use og_answer::Answer;
-use og_engine::{EngineFault, Options};
+use og_engine::{EngineFault, Options, Search};
 use og_words::{Job, Usage, read_words};
 use std::alloc::Global;
 use std::io::{Read, Write};
@@ -35,6 +35,20 @@ impl<'r, F: Files, H: Threads + Wait + Sync> Program<'r, F, H> {
         let (alloc, files) = (self.alloc, self.files);
         match job {
             Job::Joined => finish(self.joined(input, out), err),
+            Job::Prove {
+                source,
+                budget,
+                workers,
+                json,
+            } => {
+                let (budget, workers, json) = (*budget, *workers, *json);
+                let search = Search {
+                    budget,
+                    workers,
+                    json,
+                };
+                tell(self.prove(source, search, input), out, err)
+            }
             Job::Check {
                 source,
                 certs,
@@ -48,9 +62,11 @@ impl<'r, F: Files, H: Threads + Wait + Sync> Program<'r, F, H> {
                 finish(self.check(source, certs, options, input, out), err)
             }
             Job::Conditions { source } => tell(conditions(alloc, files, source, input), out, err),
-            Job::Find { source, budget } => {
-                tell(find(alloc, files, source, *budget, input), out, err)
-            }
+            Job::Find {
+                source,
+                budget,
+                workers,
+            } => tell(self.find(source, *budget, *workers, input), out, err),
             Job::Erase { source } => tell(erase(alloc, files, source, input), out, err),
             Job::Migrate { certs } => tell(migrate(alloc, files, certs), out, err),
             Job::Run {
