@@ -50,13 +50,21 @@ const JOINED: [Way; 2] = [Way::Plain, Way::ByteByByte];
 
 const WORKERS: [Way; 3] = [Way::Workers("1"), Way::Workers("2"), Way::Workers("64")];
 
-/// The ways in which a case is run that has these words, each with its line end, and this status. A
-/// check is run by 1, 2 and 64 workers, where its words are no fault and do not say by how many; a
-/// case without words also byte by byte.
+// The commands that take a number of workers, which changes nothing that they print.
+const SHARED: [&str; 3] = ["check\n", "find\n", "prove\n"];
+
+// Whether the words name such a command, and no number of workers.
+fn is_shared(words: &str) -> bool {
+    SHARED.iter().any(|verb| words.starts_with(*verb)) && !words.contains("\n--workers")
+}
+
+/// The ways in which a case is run that has these words, each with its line end, and this status.
+/// What workers share is run by 1, 2 and 64 of them, where its words are no fault and do not say by
+/// how many; a case without words also byte by byte.
 pub(crate) fn ways(words: &str, status: u8) -> &'static [Way] {
     if words.is_empty() {
         &JOINED
-    } else if words.starts_with("check\n") && !words.contains("\n--workers") && status < WRONG {
+    } else if is_shared(words) && status < WRONG {
         &WORKERS
     } else {
         &PLAIN
