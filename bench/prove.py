@@ -85,8 +85,9 @@ def main():
     with tempfile.TemporaryDirectory() as room:
         folder = given.folder or room
         paths = [(name, os.path.join(examples, name)) for name in ("counter.og", "semaphore.og", "wrong.og")]
-        made = [("8 processes of 40 statements", outline(8, 40)), ("lock, 12 processes", lock(12)),
-                ("lock, 16 processes", lock(16)), ("semaphore, 12 processes", semaphore(12, 3))]
+        made = [("8 processes of 40 statements", outline(8, 40)), ("lock, 16 processes", lock(16)),
+                ("semaphore, 12 processes", semaphore(12, 3)), ("lock, 32 processes", lock(32)),
+                ("semaphore, 20 processes", semaphore(20, 3))]
         for number, (name, text) in enumerate(made):
             paths.append((name, write(folder, "made%d.og" % number, text)))
         print("| Outline | `find` and `check` | `prove` | Ratio |\n|-|-|-|-|")
@@ -94,7 +95,7 @@ def main():
             apart, together = by_one_worker(given.program, folder, path, given.rounds)
             print("| %s | %.3f s | %.3f s | %.2f |" % (name, apart, together, together / apart), flush=True)
         print("\n| Outline | Command | One worker | Four | Times as fast |\n|-|-|-|-|-|")
-        for name, path in paths[3:]:
+        for name, path in paths[-2:]:
             for command in ("find", "prove"):
                 one, four = by_workers(given.program, command, path, given.rounds)
                 print("| %s | `%s` | %.3f s | %.3f s | %.2f |" % (name, command, one, four, one / four), flush=True)
