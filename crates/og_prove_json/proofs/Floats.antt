@@ -1,6 +1,6 @@
 -- No float stands in the JSON.
 use Rattle.std.proofs.Common.{◌≡◌, ℕ, ◌+◌, ℤ, pos, negsuc, List, [], ◌∷◌, ◌++◌, Bool, true, false, ◌&&◌, cond, refl, ap, ◌∙◌, Option, Some, None, map, option_map, codes, Bor}
-use Rattle.serde_json.specs.Data.{Data, number, Members, no_members, member, put}
+use Rattle.serde_json.specs.Data.{Data, number, Members, no_members, put}
 use Rattle.serde_json.specs.Find.{of_integer}
 use Rattle.serde_json.specs.View.{items_of}
 use Rattle.serde_json.specs.Written.{has_float, items_have_float, members_have_float}
