@@ -37,6 +37,21 @@ def lock(processes):
     return "\n".join(lines + ["coend", "{lock = 0}", ""])
 
 
+def fork_and_join(children):
+    """A parent waits until all children have added 1; auxiliaries tell which of them have."""
+    added, done = ["a%d" % k for k in range(children)], ["d%d" % k for k in range(children)]
+    pairs = list(zip(added, done))
+    known = "x = %s and %s" % (" + ".join(added), " and ".join("0 <= %s and %s <= 1 and %s = %s" % (a, a, d, a) for a, d in pairs))
+    lines = ["var x, %s; aux %s;" % (", ".join(done), ", ".join("%s = 0" % a for a in added)),
+             "{x = 0 and %s}" % " and ".join("%s = 0" % d for d in done), "cobegin", "{%s}" % known,
+             "await %s = %d then skip" % (" + ".join(done), children),
+             "{x = %d and %s}" % (children, " and ".join("%s = 1 and %s = 1" % pair for pair in pairs))]
+    for a, d in pairs:
+        lines += ["//", "{%s and %s = 0}" % (known, a), "await true then begin x := x + 1; %s := 1; %s := 1 end" % (a, d),
+                  "{%s and %s = 1}" % (known, a)]
+    return "\n".join(lines + ["coend", "{x = %d}" % children, ""])
+
+
 def timed(words, stdin=None):
     """The wall seconds of a run, and what it printed."""
     begin = time.monotonic()
@@ -87,7 +102,7 @@ def main():
         paths = [(name, os.path.join(examples, name)) for name in ("counter.og", "semaphore.og", "wrong.og")]
         made = [("8 processes of 40 statements", outline(8, 40)), ("lock, 16 processes", lock(16)),
                 ("semaphore, 12 processes", semaphore(12, 3)), ("lock, 32 processes", lock(32)),
-                ("semaphore, 20 processes", semaphore(20, 3))]
+                ("semaphore, 20 processes", semaphore(20, 3)), ("fork and join, 24 children", fork_and_join(24))]
         for number, (name, text) in enumerate(made):
             paths.append((name, write(folder, "made%d.og" % number, text)))
         print("| Outline | `find` and `check` | `prove` | Ratio |\n|-|-|-|-|")
@@ -95,7 +110,7 @@ def main():
             apart, together = by_one_worker(given.program, folder, path, given.rounds)
             print("| %s | %.3f s | %.3f s | %.2f |" % (name, apart, together, together / apart), flush=True)
         print("\n| Outline | Command | One worker | Four | Times as fast |\n|-|-|-|-|-|")
-        for name, path in paths[-2:]:
+        for name, path in paths[-3:]:
             for command in ("find", "prove"):
                 one, four = by_workers(given.program, command, path, given.rounds)
                 print("| %s | `%s` | %.3f s | %.3f s | %.2f |" % (name, command, one, four, one / four), flush=True)
