@@ -55,7 +55,7 @@ impl<'r, F: Files, H: Threads + Wait + Sync> Program<'r, F, H> {
         ensures missing { lacks_source (F.is_missing self.now.files.now) source.now ≡ true → result ≡ Err EngineFault.ReadFailed }
         ensures kept { is_file source.now ≡ true → I.remaining input.new ≡ I.remaining input.old }
     {
-        let source = source_bytes(self.alloc, self.files, source, input)?;
-        Ok(found(self.rt, self.alloc, &source, budget, workers)?)
+        let bytes = source_bytes(self.alloc, self.files, source, input)?;
+        Ok(found(self.rt, self.alloc, &bytes, budget, workers)?)
     }
 }

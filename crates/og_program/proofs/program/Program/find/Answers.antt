@@ -7,5 +7,5 @@ use Rattle.og_program.proofs.program.Program.find.Goals as goal
 pub returns-clause-answer : goal.returns-clause-answer
 returns-clause-answer g c =
     let answer = c.in_ok-found.field-0 in
-    known (λ s. IsFound s answer) source_of _ c.in_ok-source.source.items c.in_ok-source.ensures.text
+    known (λ s. IsFound s answer) source_of _ c.in_ok-bytes.bytes.items c.in_ok-bytes.ensures.text
     (subst (λ (s : List ℕ). IsFound s answer) c.deref.ensures.value c.in_ok-found.ensures.answer)
