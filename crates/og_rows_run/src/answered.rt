@@ -1,11 +1,10 @@
 //! What is printed of runs of sources.
 
 use crate::gates::Holds;
-use crate::sources::TWO_ADD_CERTS;
 use og_limits::RunLimit;
 use og_run::{Gate, OpenGate};
 use og_running::{Reply, ran, ran_proved};
-use og_samples::{TOLD_ADD, TWO_ADD};
+use og_samples::{TOLD_ADD, TWO_ADD, TWO_ADD_CERTS};
 use std::alloc::Global;
 use std::process::Abort;
 use std::sync::Wait;

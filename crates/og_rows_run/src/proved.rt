@@ -1,12 +1,12 @@
 //! Boards and runs of outlines that certificates prove safe.
 
 use crate::gates::Holds;
-use crate::sources::{NO_START, NO_START_CERTS, TWO_ADD_CERTS};
+use crate::sources::{NO_START, NO_START_CERTS};
 use crate::states::state_of;
 use crate::texts::text_of;
 use og_judge::{Judgement, Proved, judge};
 use og_run::{Gate, OpenGate, ProvedBoard, RunTurn, run_proved};
-use og_samples::TWO_ADD;
+use og_samples::{TWO_ADD, TWO_ADD_CERTS};
 use std::alloc::Global;
 use std::process::Abort;
 use std::sync::Wait;
