@@ -1,0 +1,22 @@
+use Rattle.std.proofs.Common.{map, ap, ◌∙◌, subst}
+use Rattle.og_typed.specs.Syntax.{items, part_items}
+use Rattle.og_flow.specs.Table.{IsGrown}
+use Rattle.og_flow.proofs.Tables.{grown_both, grown_rest, grown_rests, linked_all}
+use Rattle.og_flow.proofs.points.begin.Goals as goal
+
+pub invariant_of-points : goal.invariant_of-points
+invariant_of-points c =
+    linked_all c.add_part-2.new.points.items
+    (subst (λ l. IsGrown l c.add_part-2.new.points.items) c.new-points.ensures.items
+    (grown_both _ _ _ c.in_ok-prologue.ensures.grown (grown_both _ _ _ c.in_ok-rests.ensures.grown c.in_ok-epilogue.ensures.grown)))
+
+pub returns-clause-prologue : goal.returns-clause-prologue
+returns-clause-prologue c =
+    grown_rest c.add_part.new.points.items c.add_part-2.new.points.items c.in_ok-prologue.prologue
+    (grown_both _ _ _ c.in_ok-rests.ensures.grown c.in_ok-epilogue.ensures.grown) c.in_ok-prologue.ensures.place
+    ∙ c.in_ok-prologue.ensures.rest ∙ ap part_items c.prologue.ensures
+
+pub returns-clause-rests : goal.returns-clause-rests
+returns-clause-rests c =
+    grown_rests c.add_parts.new.points.items c.add_part-2.new.points.items c.in_ok-rests.rests.items c.in_ok-epilogue.ensures.grown c.in_ok-rests.ensures.places
+    ∙ c.in_ok-rests.ensures.rests ∙ ap (map items) c.processes.ensures
