@@ -10,21 +10,20 @@ ghost use Rattle.og_cert_text.specs.Shown.{shown};
 
 use crate::cert::{Cert, CertStep, Finish, Source, Term};
 use crate::file::CertFile;
+use itoa::Buffer;
 use og_linear::Form;
 use std::alloc::{AllocError, Global};
 
 fn put_number(text: &mut Vec<u8>, number: u64) -> Result<(), AllocError>
     ensures { OnOk result (text.new.items ≡ text.old.items ++ decimal number) }
 {
-    let digits = number.to_string(*text.allocator())?;
-    text.extend_from_slice(digits.as_bytes())
+    text.extend_from_slice(Buffer::new().format(number).as_bytes())
 }
 
 fn put_whole(text: &mut Vec<u8>, number: i128) -> Result<(), AllocError>
     ensures { OnOk result (text.new.items ≡ text.old.items ++ signed_decimal number) }
 {
-    let digits = number.to_string(*text.allocator())?;
-    text.extend_from_slice(digits.as_bytes())
+    text.extend_from_slice(Buffer::new().format(number).as_bytes())
 }
 
 fn put_source(text: &mut Vec<u8>, source: Source) -> Result<(), AllocError>
