@@ -95,6 +95,17 @@ fn settle(from: &State, to: &mut State, body: &[Basic])
     }
 }
 
+// Each variable gets its value.
+fn put_all(state: &mut State, values: &[i64])
+    requires short { length state.old ≤ 256 }
+    requires long { length values.now ≡ length state.old }
+    ensures { state.new ≡ values.now }
+{
+    for (x, value) in values.iter().enumerate() {
+        state.set(x as u32, *value);
+    }
+}
+
 impl Values {
     /// The state that begins with the first values and ends with the second.
     pub(crate) fn new(alloc: Global, first: &[i64], second: &[i64]) -> Result<Values, AllocError>
@@ -110,6 +121,16 @@ impl Values {
         ensures { result.now ≡ self.now }
     {
         &self.state
+    }
+
+    /// Copies a state of the same variables. Takes no memory.
+    pub(crate) fn copy(&mut self, from: &[i64])
+        requires short { length self.old ≤ 256 }
+        requires long { length from.now ≡ length self.old }
+        ensures { self.new ≡ from.now }
+    {
+        put_all(&mut self.state, from);
+        put_all(&mut self.spare, from);
     }
 
     /// The assignment, where its value fits.
