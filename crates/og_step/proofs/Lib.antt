@@ -5,3 +5,4 @@ pub mod Rests
 pub mod Moments
 pub mod Stuck
 pub mod Keys
+pub mod Active
