@@ -1,7 +1,6 @@
 -- From the parts of an answer to the whole.
-use Rattle.std.proofs.Common.{◌≡◌, ◌⊎◌, inl, inr, sym, subst, ℕ, ◌<◌, ◌≤◌, Bool, List, length, Result, Ok, Err, Option, IfOk, IfSome, arith}
+use Rattle.std.proofs.Common.{◌≡◌, ◌⊎◌, inl, inr, sym, subst, ◌∙◌, ℕ, ◌<◌, ◌≤◌, Bool, List, length, Result, Ok, Err, Option, IfOk, arith}
 use Rattle.std.specs.Io.KnownBytes.{Appends}
-use Rattle.og_input.specs.Joined.{IsSplit}
 use Rattle.og_typed.specs.Syntax.{Program}
 use Rattle.og_cond.specs.Condition.{Condition}
 use Rattle.og_cond.specs.Conditions.{conditions}
@@ -19,12 +18,14 @@ use Rattle.og_judge.specs.Report.{IsReport, IsRefused}
 use Rattle.og_judge.specs.declared.refusal.Refusal.{Refusal}
 use Rattle.og_judge.specs.declared.refusal.Refusal.TheVariants as refusal
 use Rattle.og_judge.proofs.Answering.{refusal_status}
+use Rattle.og_judge.specs.Proven.{IsProvenSource}
+use Rattle.og_judge.specs.NeverStuck.{IsNeverStuckSource}
+use Rattle.og_report.specs.Yes.{SaysUnblocked}
 use Rattle.og_pool.specs.declared.fault.PoolFault.{PoolFault}
-use Rattle.og_engine.specs.Answers.{report_in, status_of, IsOutput, IsChecked, Writes, WritesJoined}
+use Rattle.og_engine.specs.Answers.{report_in, status_of, IsOutput, IsChecked, Writes}
 use Rattle.og_engine.specs.Commands.{HasTooMany}
 use Rattle.og_engine.specs.Making.{HasCertificates, IsFoundText, IsFoundOf}
-use Rattle.og_engine.specs.Inputs.{source_of, certs_of, joined_of}
-use Rattle.og_engine.proofs.Fronts.{of_fronts, of_front}
+use Rattle.og_engine.specs.Warrants.{Warrants}
 
 pub judged : (json : Bool) (source certs : List ℕ) (o : Program) (entries : List Entry) (a : Answer) → IsReport source certs o entries
     → Says (report_in json source entries) (status_of entries) a → IsChecked json source certs a
@@ -68,24 +69,13 @@ pub of_source : {E : Type 0} (P : Program → Answer → Type 0) (source : List 
 of_source P source o (Err e) s told = tt
 of_source P source o (Ok a) s told = inr (o, s, told)
 
-pub written : (json : Bool) (source certs : List ℕ) (a : Answer) (status : ℕ) (before after : Option (List ℕ)) → IsChecked json source certs a → status ≡ a.status
+-- what is written of an answer
+pub warranted : (json : Bool) (source text : List ℕ) (a status : ℕ) → (a ≡ 0 → IsProvenSource source) → (a ≡ 0 → SaysUnblocked json text → IsNeverStuckSource source)
+    → status ≡ a → Warrants json source text status
+warranted json source text a status sound unblocked same = ((λ zero. sound (sym same ∙ zero)), (λ zero says. unblocked (sym same ∙ zero) says))
+
+pub written : (json : Bool) (source certs : List ℕ) (a : Answer) (status : ℕ) (before after : Option (List ℕ)) → IsChecked json source certs a
+    → (a.status ≡ 0 → IsProvenSource source) → (a.status ≡ 0 → SaysUnblocked json a.text.items → IsNeverStuckSource source) → status ≡ a.status
     → Appends before after a.text.items → Writes json source certs before after status
-written json source certs a status before after h same appended =
-    (a.text.items, subst (λ (n : ℕ). IsOutput json source certs a.text.items n) (sym same) h, appended)
-
-pub joined_written : (json : Bool) (input source certs : List ℕ) (a : Answer) (status : ℕ) (before after : Option (List ℕ)) → IsSplit input source certs
-    → IsChecked json source certs a → status ≡ a.status → Appends before after a.text.items → WritesJoined json input before after status
-joined_written json input source certs a status before after cut h same appended =
-    (source, certs, cut, written json source certs a status before after h same appended)
-
-pub engine_written : (json : Bool) (a b before after : Option (List ℕ)) (s c : List ℕ) (answer : Answer) (status : ℕ)
-    → IfSome a (λ input. s ≡ source_of input) → IfSome b (λ input. c ≡ certs_of input) → IsChecked json s c answer → status ≡ answer.status
-    → Appends before after answer.text.items → IfSome a (λ input. IfSome b (λ certs. Writes json (source_of input) (certs_of certs) before after status))
-engine_written json a b before after s c answer status p q h same appended =
-    of_fronts (λ x y. Writes json x y before after status) a b s c p q (written json s c answer status before after h same appended)
-
-pub joined_engine_written : (json : Bool) (a before after : Option (List ℕ)) (i s c : List ℕ) (answer : Answer) (status : ℕ)
-    → IfSome a (λ input. i ≡ joined_of input) → IsSplit i s c → IsChecked json s c answer → status ≡ answer.status
-    → Appends before after answer.text.items → IfSome a (λ input. WritesJoined json (joined_of input) before after status)
-joined_engine_written json a before after i s c answer status p cut h same appended =
-    of_front (λ x. WritesJoined json x before after status) a i p (joined_written json i s c answer status before after cut h same appended)
+written json source certs a status before after h sound unblocked same appended =
+    (a.text.items, subst (λ (n : ℕ). IsOutput json source certs a.text.items n) (sym same) h, warranted json source a.text.items a.status status sound unblocked same, appended)

@@ -1,14 +1,8 @@
 -- What an engine leaves: on its readers, and on a writer that failed.
 use Rattle.std.proofs.Common.{◌≡◌, ℕ, List, [], ◌++◌, take, Bool, Option, None, Some, IfSome, Result, Ok, Err, IfErr, sym, ◌∙◌, ap, subst, append-nil}
 use Rattle.std.specs.Io.KnownBytes.{Appends, Keeps, Consumes}
-use Rattle.og_input.specs.Joined.{IsSplit}
-use Rattle.og_answer.specs.declared.answer.Answer.{Answer}
 use Rattle.og_engine.specs.declared.fault.EngineFault.{EngineFault}
 use Rattle.og_engine.specs.declared.fault.EngineFault.TheVariants as faults
-use Rattle.og_engine.specs.Answers.{IsChecked}
-use Rattle.og_engine.specs.Inputs.{source_of, certs_of, joined_of}
-use Rattle.og_engine.specs.Unfinished.{AppendsFront, WritesFront, WritesJoinedFront}
-use Rattle.og_engine.proofs.Fronts.{of_fronts, of_front}
 
 -- ---- single writes
 
@@ -28,18 +22,6 @@ pub consumed : (front : List ℕ → List ℕ) (a b : Option (List ℕ)) (t : Li
     → IfSome a (λ input. Consumes (Some input) b (front input))
 consumed front None b t p c = tt
 consumed front (Some x) b t p c = subst (Consumes (Some x) b) p c
-
-pub engine_unfinished : (json : Bool) (a b before after : Option (List ℕ)) (s c : List ℕ) (answer : Answer)
-    → IfSome a (λ input. s ≡ source_of input) → IfSome b (λ input. c ≡ certs_of input) → IsChecked json s c answer
-    → AppendsFront before after answer.text.items → IfSome a (λ input. IfSome b (λ certs. WritesFront json (source_of input) (certs_of certs) before after))
-engine_unfinished json a b before after s c answer p q h front =
-    of_fronts (λ x y. WritesFront json x y before after) a b s c p q (answer.text.items, answer.status, h, front)
-
-pub joined_unfinished : (json : Bool) (a before after : Option (List ℕ)) (i s c : List ℕ) (answer : Answer)
-    → IfSome a (λ input. i ≡ joined_of input) → IsSplit i s c → IsChecked json s c answer
-    → AppendsFront before after answer.text.items → IfSome a (λ input. WritesJoinedFront json (joined_of input) before after)
-joined_unfinished json a before after i s c answer p cut h front =
-    of_front (λ x. WritesJoinedFront json x before after) a i p (s, c, cut, (answer.text.items, answer.status, h, front))
 
 -- ---- errors
 

@@ -11,6 +11,7 @@ use Rattle.og_report.specs.Json.{json_text}
 use Rattle.og_answer.specs.Line.{refused_line}
 use Rattle.og_answer.specs.declared.answer.Answer.{Answer}
 use Rattle.og_answer.specs.declared.fault.InputFault.{InputFault}
+use Rattle.og_engine.specs.Warrants.{Warrants}
 
 -- JSON with an LF, or text
 abbrev pub report_in : Bool → List ℕ → List Entry → List ℕ
@@ -42,9 +43,10 @@ IsOutput json source certs text status = IsJudged json source certs text status 
 abbrev pub IsChecked : Bool → List ℕ → List ℕ → Answer → Type 0
 IsChecked json source certs answer = IsOutput json source certs answer.text.items answer.status
 
--- the answer goes to the end of what the writer holds
+-- the answer goes to the end of what the writer holds, and says this of the source
 abbrev pub Writes : Bool → List ℕ → List ℕ → Option (List ℕ) → Option (List ℕ) → ℕ → Type 0
-Writes json source certs before after status = (text : List ℕ) × IsOutput json source certs text status × Appends before after text
+Writes json source certs before after status =
+    (text : List ℕ) × IsOutput json source certs text status × Warrants json source text status × Appends before after text
 
 -- the answer for the one split of the input
 abbrev pub WritesJoined : Bool → List ℕ → Option (List ℕ) → Option (List ℕ) → ℕ → Type 0

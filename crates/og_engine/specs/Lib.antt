@@ -9,3 +9,4 @@ pub mod Promised
 pub mod Proving
 pub mod Wrote
 pub mod Unfinished
+pub mod Warrants

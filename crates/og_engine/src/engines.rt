@@ -2,7 +2,7 @@
 
 ghost use Rattle.std.specs.Prelude.{◌≡◌, ◌≢◌, ◌<◌, IfOk, IfErr, IfSome, Some};
 ghost use Rattle.std.specs.Io.KnownBytes.{Consumes, Keeps};
-ghost use Rattle.og_engine.specs.Inputs.{source_of, certs_of, joined_of};
+ghost use Rattle.og_engine.specs.Inputs.{source_of, certs_of, joined_of, Reads};
 ghost use Rattle.og_engine.specs.Answers.{Writes, WritesJoined};
 ghost use Rattle.og_engine.specs.NeverStuck.{HasNeverStuckSource};
 ghost use Rattle.og_engine.specs.Proven.{HasProvenSource};
@@ -53,17 +53,17 @@ pub fn engine<R: Read, S: Read, W: Write, G: Gate, H: Threads + Wait + Sync>(
     options: Options,
     gate: &G,
 ) -> Result<u8, EngineFault>
-    ensures answer { IfOk result (λ status. IfSome (R.remaining source.old) (λ s. IfSome (S.remaining certs.old) (λ c.
-        Writes options.json (source_of s) (certs_of c) (W.contents out.old) (W.contents out.new) status))) }
-    ensures sound { IfOk result (λ status. IfSome (R.remaining source.old) (λ s. status ≡ 0 → IsProvenSource (source_of s))) }
-    ensures unblocked { IfOk result (λ status. IfSome (R.remaining source.old) (λ s. status ≡ 0
-        → Wrote (SaysUnblocked options.json) (W.contents out.old) (W.contents out.new) → IsNeverStuckSource (source_of s))) }
+    ensures answer { IfOk result (λ status. Reads source_of (R.remaining source.old) (λ s. Reads certs_of (S.remaining certs.old) (λ c.
+        Writes options.json s c (W.contents out.old) (W.contents out.new) status))) }
+    ensures sound { IfOk result (λ status. status ≡ 0 → Reads source_of (R.remaining source.old) IsProvenSource) }
+    ensures unblocked { IfOk result (λ status. status ≡ 0 → Wrote (SaysUnblocked options.json) (W.contents out.old) (W.contents out.new)
+        → Reads source_of (R.remaining source.old) IsNeverStuckSource) }
     ensures source { IfOk result (λ _. IfSome (R.remaining source.old) (λ s. Consumes (Some s) (R.remaining source.new) (source_of s))) }
     ensures certs { IfOk result (λ _. IfSome (S.remaining certs.old) (λ c. Consumes (Some c) (S.remaining certs.new) (certs_of c))) }
     ensures spawn { IfErr result (λ e. e ≡ EngineFault.Spawn → 1 < options.workers) }
     ensures unwritten { IfErr result (λ e. e ≢ EngineFault.WriteFailed → Keeps (W.contents out.old) (W.contents out.new)) }
-    ensures unfinished { IfErr result (λ e. e ≡ EngineFault.WriteFailed → IfSome (R.remaining source.old) (λ s. IfSome (S.remaining certs.old) (λ c.
-        WritesFront options.json (source_of s) (certs_of c) (W.contents out.old) (W.contents out.new)))) }
+    ensures unfinished { IfErr result (λ e. e ≡ EngineFault.WriteFailed → Reads source_of (R.remaining source.old) (λ s. Reads certs_of (S.remaining certs.old) (λ c.
+        WritesFront options.json s c (W.contents out.old) (W.contents out.new)))) }
 {
     let source = read_source(alloc, source)?;
     let certs = read_certificates(alloc, certs)?;
@@ -87,16 +87,16 @@ pub fn engine_joined<R: Read, W: Write, G: Gate, H: Threads + Wait + Sync>(
     options: Options,
     gate: &G,
 ) -> Result<u8, EngineFault>
-    ensures answer { IfOk result (λ status. IfSome (R.remaining input.old) (λ i.
-        WritesJoined options.json (joined_of i) (W.contents out.old) (W.contents out.new) status)) }
-    ensures sound { IfOk result (λ status. IfSome (R.remaining input.old) (λ i. status ≡ 0 → HasProvenSource (joined_of i))) }
-    ensures unblocked { IfOk result (λ status. IfSome (R.remaining input.old) (λ i. status ≡ 0
-        → Wrote (SaysUnblocked options.json) (W.contents out.old) (W.contents out.new) → HasNeverStuckSource (joined_of i))) }
+    ensures answer { IfOk result (λ status. Reads joined_of (R.remaining input.old) (λ i.
+        WritesJoined options.json i (W.contents out.old) (W.contents out.new) status)) }
+    ensures sound { IfOk result (λ status. status ≡ 0 → Reads joined_of (R.remaining input.old) HasProvenSource) }
+    ensures unblocked { IfOk result (λ status. status ≡ 0 → Wrote (SaysUnblocked options.json) (W.contents out.old) (W.contents out.new)
+        → Reads joined_of (R.remaining input.old) HasNeverStuckSource) }
     ensures input { IfOk result (λ _. IfSome (R.remaining input.old) (λ i. Consumes (Some i) (R.remaining input.new) (joined_of i))) }
     ensures spawn { IfErr result (λ e. e ≡ EngineFault.Spawn → 1 < options.workers) }
     ensures unwritten { IfErr result (λ e. e ≢ EngineFault.WriteFailed → Keeps (W.contents out.old) (W.contents out.new)) }
-    ensures unfinished { IfErr result (λ e. e ≡ EngineFault.WriteFailed → IfSome (R.remaining input.old) (λ i.
-        WritesJoinedFront options.json (joined_of i) (W.contents out.old) (W.contents out.new))) }
+    ensures unfinished { IfErr result (λ e. e ≡ EngineFault.WriteFailed → Reads joined_of (R.remaining input.old) (λ i.
+        WritesJoinedFront options.json i (W.contents out.old) (W.contents out.new))) }
 {
     let input = read_joined(alloc, input)?;
     let (source, certs) = split(&input);

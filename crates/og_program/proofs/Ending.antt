@@ -1,13 +1,10 @@
 -- From the parts of an end to the whole.
-use Rattle.std.proofs.Common.{◌≡◌, ◌≢◌, refl, inl, inr, ℕ, Bool, false, List, Option, None, Some, Result, Ok, Err, IfOk, IfErr, IfSome, Bor, subst, sym, arith, ◌∙◌}
+use Rattle.std.proofs.Common.{◌≡◌, ◌≢◌, refl, inl, inr, ℕ, Bool, false, List, Option, None, Some, Result, Ok, Err, IfOk, IfErr, Bor, subst, sym}
 use Rattle.std.specs.Io.KnownBytes.{Appends, Keeps}
-use Rattle.std.proofs.lemmas.Option.{IfSome_then}
 use Rattle.og_answer.specs.declared.answer.Answer.{Answer}
 use Rattle.og_engine.specs.Answers.{Writes, WritesJoined}
-use Rattle.og_engine.specs.Inputs.{source_of, certs_of, joined_of}
+use Rattle.og_engine.specs.Inputs.{source_of, certs_of, joined_of, Reads}
 use Rattle.og_engine.specs.Unfinished.{AppendsFront}
-use Rattle.og_engine.specs.Wrote.{Wrote}
-use Rattle.og_engine.proofs.Promised.{written_text}
 use Rattle.og_engine.specs.declared.fault.EngineFault.{EngineFault}
 use Rattle.og_engine.specs.declared.fault.EngineFault.TheVariants as faults
 use Rattle.og_running.specs.declared.reply.Reply.{Reply}
@@ -27,18 +24,18 @@ of_job P asked job is h = subst (λ (r : Result Job Usage). IfOk r P) (sym is) h
 -- a check that wrote its answer
 checked : (json : Bool) (source certs : List ℕ) (out out_after : Option (List ℕ)) (status : ℕ) → Writes json source certs out out_after status
     → Checks json source certs (λ text told. Appends out out_after text × (status ≡ told))
-checked json source certs out out_after status w = (w.0, status, w.1, (w.2, refl))
+checked json source certs out out_after status w = (w.0, status, w.1, w.2, (w.3, refl))
 
 pub joined_does : (files : List ℕ → Option (List ℕ)) (input out out_after : Option (List ℕ)) (status : ℕ)
-    → IfSome input (λ i. WritesJoined false (joined_of i) out out_after status) → Does files input jobs.Joined out out_after status
+    → Reads joined_of input (λ i. WritesJoined false i out out_after status) → Does files input jobs.Joined out out_after status
 joined_does files input out out_after status h =
-    IfSome_then input h (λ i w. (w.0, w.1, w.2, checked false w.0 w.1 out out_after status w.3))
+    let w = h.2 in (h.0, h.1, (w.0, w.1, w.2, checked false w.0 w.1 out out_after status w.3))
 
 pub check_does : (files : List ℕ → Option (List ℕ)) (input : Option (List ℕ)) (source certs : Bor (List ℕ)) (workers : ℕ) (json : Bool) (out out_after : Option (List ℕ)) (status : ℕ)
-    → IfSome (source_in files input source.now) (λ s. IfSome (files certs.now) (λ c. Writes json (source_of s) (certs_of c) out out_after status))
+    → Reads source_of (source_in files input source.now) (λ s. Reads certs_of (files certs.now) (λ c. Writes json s c out out_after status))
     → Does files input (jobs.Check source certs workers json) out out_after status
 check_does files input source certs workers json out out_after status h =
-    IfSome_then (source_in files input source.now) h (λ s given. IfSome_then (files certs.now) given (λ c w. checked json (source_of s) (certs_of c) out out_after status w))
+    let w = h.2 in (h.0, h.1, (w.0, w.1, checked json h.0 w.0 out out_after status w.2))
 
 -- a status, or a fault
 ended_by : (files : List ℕ → Option (List ℕ)) (input : Option (List ℕ)) (job : Job) (out out_after err err_after : Option (List ℕ)) (ended : Ended) (r : Result ℕ EngineFault)
@@ -101,31 +98,6 @@ pub told_by_threads : (files : List ℕ → Option (List ℕ)) (input : Option (
 told_by_threads files input job known out out_after err err_after ended P r is gives answer unwritten wants ok wrong =
     subst (λ (j : Job). EndsJob files input j out out_after err err_after ended) (sym is)
     (answered files input known out out_after err err_after ended P r gives answer unwritten wants ok wrong)
-
--- ---- what status 0 says
-
-fails_not_0 : (fault : EngineFault) (out out_after err err_after : Option (List ℕ)) (ended : Ended) → Fails fault out out_after err err_after ended → ended.status ≡ 0 → ⊥
-fails_not_0 fault out out_after err err_after ended fails zero = let four = fails.1.0 in omega (arith, four, zero)
-
--- what status 0 of an answer says, that of the program says where it was printed
-pub sound_told : (S : Type 0) (out out_after err err_after : Option (List ℕ)) (ended : Ended) (r : Result Answer EngineFault) → IfOk r (λ a. a.status ≡ 0 → S)
-    → IfOk r (λ a. TellsAnswer a out out_after err err_after ended) → IfErr r (λ fault. Fails fault out out_after err err_after ended) → ended.status ≡ 0 → S
-sound_told S out out_after err err_after ended (Ok a) h (inl t) wrong zero = h (sym t.1 ∙ zero)
-sound_told S out out_after err err_after ended (Ok a) h (inr f) wrong zero = absurd (fails_not_0 faults.WriteFailed out out_after err err_after ended f.1 zero)
-sound_told S out out_after err err_after ended (Err e) h ok fails zero = absurd (fails_not_0 e out out_after err err_after ended fails zero)
-
--- where both are said of what is known, the second follows from what was written
-written_of : (P : List ℕ → Type 0) (Q : List ℕ → Type 0) (source before after : Option (List ℕ)) (text : List ℕ) → Appends before after text
-    → (P text → IfSome source Q) → IfSome source (λ s. Wrote P before after → Q s)
-written_of P Q None before after text appended h = tt
-written_of P Q (Some s) before after text appended h = λ wrote. h (written_text P before after text appended wrote)
-
-pub unblocked_told : (P : List ℕ → Type 0) (Q : List ℕ → Type 0) (source out out_after err err_after : Option (List ℕ)) (ended : Ended) (r : Result Answer EngineFault)
-    → IfOk r (λ a. a.status ≡ 0 → P a.text.items → IfSome source Q) → IfOk r (λ a. TellsAnswer a out out_after err err_after ended)
-    → IfErr r (λ fault. Fails fault out out_after err err_after ended) → ended.status ≡ 0 → IfSome source (λ s. Wrote P out out_after → Q s)
-unblocked_told P Q source out out_after err err_after ended (Ok a) h (inl t) wrong zero = written_of P Q source out out_after a.text.items t.0 (h (sym t.1 ∙ zero))
-unblocked_told P Q source out out_after err err_after ended (Ok a) h (inr f) wrong zero = absurd (fails_not_0 faults.WriteFailed out out_after err err_after ended f.1 zero)
-unblocked_told P Q source out out_after err err_after ended (Err e) h ok fails zero = absurd (fails_not_0 e out out_after err err_after ended fails zero)
 
 -- a word that is refused, or a fault
 refused : (files : List ℕ → Option (List ℕ)) (input : Option (List ℕ)) (job : Job) (out out_after err err_after : Option (List ℕ)) (ended : Ended) (word : List ℕ)

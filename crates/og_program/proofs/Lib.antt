@@ -1,2 +1,3 @@
-pub mod Known
+pub mod Faults
 pub mod Ending
+pub mod Status

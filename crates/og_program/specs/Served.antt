@@ -1,5 +1,5 @@
 -- What the program does for a job, by its files and its input.
-use Rattle.std.specs.Prelude.{◌≡◌, ◌⊎◌, ◌<◌, ℕ, Bool, true, false, not, ◌||◌, List, Option, None, Some, Result, Ok, Err, IfOk, IfErr, IfSome, map, string_bytes, ⊤}
+use Rattle.std.specs.Prelude.{◌≡◌, ◌⊎◌, ◌<◌, ℕ, Bool, true, false, not, ◌||◌, List, Option, None, Some, Result, Ok, Err, IfOk, IfErr, map, string_bytes, ⊤}
 use Rattle.std.specs.Borrow.{Bor}
 use Rattle.std.specs.Io.KnownBytes.{Appends, Keeps}
 use Rattle.og_answer.specs.declared.answer.Answer.{Answer}
@@ -7,10 +7,11 @@ use Rattle.og_engine.specs.Answers.{IsOutput}
 use Rattle.og_engine.specs.NeverStuck.{HasNeverStuckSource}
 use Rattle.og_engine.specs.Proven.{HasProvenSource}
 use Rattle.og_engine.specs.Commands.{IsListed, IsErased}
-use Rattle.og_engine.specs.Inputs.{source_of, certs_of, joined_of}
+use Rattle.og_engine.specs.Inputs.{source_of, certs_of, joined_of, Reads}
 use Rattle.og_engine.specs.Making.{IsFound, IsMigrated}
 use Rattle.og_engine.specs.Proving.{IsProving}
 use Rattle.og_engine.specs.Unfinished.{AppendsFront}
+use Rattle.og_engine.specs.Warrants.{Warrants}
 use Rattle.og_engine.specs.Wrote.{Wrote}
 use Rattle.og_engine.specs.declared.fault.EngineFault.{EngineFault}
 use Rattle.og_engine.specs.declared.fault.EngineFault.TheVariants as faults
@@ -32,30 +33,33 @@ use Rattle.og_program.specs.declared.ended.Ended.{Ended}
 
 -- the reply to a run, which certificates have to prove safe where they are given
 abbrev pub RanAs : (List ℕ → Option (List ℕ)) → Option (List ℕ) → ℕ → Bool → Option (Bor (List ℕ)) → List (List ℕ) → Reply → Type 0
-RanAs files source limit erased None words reply = IfSome source (λ s. IsRan erased limit (source_of s) words reply)
-RanAs files source limit erased (Some certs) words reply =
-    IfSome source (λ s. IfSome (files certs.now) (λ c. IsRanProved limit (source_of s) (certs_of c) words reply))
+RanAs files source limit erased None words reply = Reads source_of source (λ s. IsRan erased limit s words reply)
+RanAs files source limit erased (Some certs) words reply = Reads source_of source (λ s. Reads certs_of (files certs.now) (λ c. IsRanProved limit s c words reply))
 
--- Q of the text and the status of a check
+-- Q of the text and the status of a check, and what they say of the source
 abbrev pub Checks : Bool → List ℕ → List ℕ → (List ℕ → ℕ → Type 0) → Type 0
-Checks json source certs Q = (text : List ℕ) × (status : ℕ) × IsOutput json source certs text status × Q text status
+Checks json source certs Q = (text : List ℕ) × (status : ℕ) × IsOutput json source certs text status × Warrants json source text status × Q text status
 
 -- Q of the text and the status of an answer such as P says
 abbrev pub Gives : (Answer → Type 0) → (List ℕ → ℕ → Type 0) → Type 0
 Gives P Q = (answer : Answer) × P answer × Q answer.text.items answer.status
 
--- Q of the text and the status that a job answers, where the bytes of its files are known
+-- what searches tell of the conditions of a source, and what that says of it
+abbrev pub IsProvedAnswer : Bool → List ℕ → Answer → Type 0
+IsProvedAnswer json source answer = IsProving json source answer × Warrants json source answer.text.items answer.status
+
+-- Q of the text and the status that a job answers, by the bytes that were read of its files
 abbrev pub Answers : (List ℕ → Option (List ℕ)) → Option (List ℕ) → Job → (List ℕ → ℕ → Type 0) → Type 0
-Answers files input jobs.Joined Q = IfSome input (λ i. (source certs : List ℕ) × IsSplit (joined_of i) source certs × Checks false source certs Q)
-Answers files input (jobs.Prove source budget workers json) Q = Gives (λ answer. IfSome (source_in files input source.now) (λ s. IsProving json (source_of s) answer)) Q
+Answers files input jobs.Joined Q = Reads joined_of input (λ i. (source certs : List ℕ) × IsSplit i source certs × Checks false source certs Q)
+Answers files input (jobs.Prove source budget workers json) Q = Gives (λ answer. Reads source_of (source_in files input source.now) (λ s. IsProvedAnswer json s answer)) Q
 Answers files input (jobs.Check source certs workers json) Q =
-    IfSome (source_in files input source.now) (λ s. IfSome (files certs.now) (λ c. Checks json (source_of s) (certs_of c) Q))
-Answers files input (jobs.Conditions source) Q = Gives (λ answer. IfSome (source_in files input source.now) (λ s. IsListed (source_of s) answer)) Q
-Answers files input (jobs.Find source budget workers) Q = Gives (λ answer. IfSome (source_in files input source.now) (λ s. IsFound (source_of s) answer)) Q
-Answers files input (jobs.Erase source) Q = Gives (λ answer. IfSome (source_in files input source.now) (λ s. IsErased (source_of s) answer)) Q
+    Reads source_of (source_in files input source.now) (λ s. Reads certs_of (files certs.now) (λ c. Checks json s c Q))
+Answers files input (jobs.Conditions source) Q = Gives (λ answer. Reads source_of (source_in files input source.now) (λ s. IsListed s answer)) Q
+Answers files input (jobs.Find source budget workers) Q = Gives (λ answer. Reads source_of (source_in files input source.now) (λ s. IsFound s answer)) Q
+Answers files input (jobs.Erase source) Q = Gives (λ answer. Reads source_of (source_in files input source.now) (λ s. IsErased s answer)) Q
 Answers files input (jobs.Run source limit erased certs values) Q =
     Gives (λ answer. RanAs files (source_in files input source.now) limit erased certs (map (λ w. w.now) values.items) (replies.Answer answer)) Q
-Answers files input (jobs.Migrate certs) Q = Gives (λ answer. IfSome (files certs.now) (λ c. IsMigrated (certs_of c) answer)) Q
+Answers files input (jobs.Migrate certs) Q = Gives (λ answer. Reads certs_of (files certs.now) (λ c. IsMigrated c answer)) Q
 
 -- a job's answer goes to the end of what standard output holds, and its status is the program's
 abbrev pub Does : (List ℕ → Option (List ℕ)) → Option (List ℕ) → Job → Option (List ℕ) → Option (List ℕ) → ℕ → Type 0
@@ -65,7 +69,12 @@ Does files input job before after status = Answers files input job (λ text told
 abbrev pub Leaves : (List ℕ → Option (List ℕ)) → Option (List ℕ) → Job → Option (List ℕ) → Option (List ℕ) → Type 0
 Leaves files input job before after = Answers files input job (λ text told. AppendsFront before after text)
 
--- there is known to be no file of a name that the job begins with; a run opens its certificates later
+-- there is known to be no file of the certificates of a run, where they are given
+abbrev pub lacks_certs : (List ℕ → Bool) → Option (Bor (List ℕ)) → Bool
+lacks_certs missing None = false
+lacks_certs missing (Some certs) = missing certs.now
+
+-- there is known to be no file of a name that the job opens
 abbrev pub lacks : (List ℕ → Bool) → Job → Bool
 lacks missing jobs.Joined = false
 lacks missing (jobs.Prove source budget workers json) = lacks_source missing source.now
@@ -73,7 +82,7 @@ lacks missing (jobs.Check source certs workers json) = lacks_source missing sour
 lacks missing (jobs.Conditions source) = lacks_source missing source.now
 lacks missing (jobs.Find source budget workers) = lacks_source missing source.now
 lacks missing (jobs.Erase source) = lacks_source missing source.now
-lacks missing (jobs.Run source limit erased certs values) = lacks_source missing source.now
+lacks missing (jobs.Run source limit erased certs values) = lacks_source missing source.now || lacks_certs missing certs
 lacks missing (jobs.Migrate certs) = missing certs.now
 
 -- whether the job is told to read standard input, which else is left as it is
@@ -101,8 +110,8 @@ Refuses files input (jobs.Migrate certs) text = ⊥
 
 -- a thread can be wanting for a run: its values are a start, of what its certificates prove safe where they are given
 abbrev pub StartsAs : (List ℕ → Option (List ℕ)) → Option (List ℕ) → Bool → Option (Bor (List ℕ)) → List (List ℕ) → Type 0
-StartsAs files source erased None words = IfSome source (λ s. HasStart erased (source_of s) words)
-StartsAs files source erased (Some certs) words = IfSome source (λ s. IfSome (files certs.now) (λ c. HasProvedStart (source_of s) (certs_of c) words))
+StartsAs files source erased None words = Reads source_of source (λ s. HasStart erased s words)
+StartsAs files source erased (Some certs) words = Reads source_of source (λ s. Reads certs_of (files certs.now) (λ c. HasProvedStart s c words))
 
 -- a thread can be wanting for a job: for a search or a check by two workers or more, and for such a run
 abbrev pub StartsThreads : (List ℕ → Option (List ℕ)) → Option (List ℕ) → Job → Type 0
@@ -136,25 +145,29 @@ abbrev pub Ends : (List ℕ → Option (List ℕ)) → Option (List ℕ) → Res
 Ends files input (Ok job) out out_after err err_after ended = EndsJob files input job out out_after err err_after ended
 Ends files input (Err usage) out out_after err err_after ended = EndsUsage usage out out_after err err_after ended
 
--- the source that a job proves or checks is proven, where its bytes are known
+-- the source of a run that certificates have to prove is proven
+abbrev pub IsProvenRun : Option (List ℕ) → Option (Bor (List ℕ)) → Type 0
+IsProvenRun source None = ⊤
+IsProvenRun source (Some certs) = Reads source_of source IsProvenSource
+
+-- the source that a job proves or checks, or runs where certificates prove it, is proven
 abbrev pub IsProvenIn : (List ℕ → Option (List ℕ)) → Option (List ℕ) → Job → Type 0
-IsProvenIn files input jobs.Joined = IfSome input (λ i. HasProvenSource (joined_of i))
-IsProvenIn files input (jobs.Prove source budget workers json) = IfSome (source_in files input source.now) (λ s. IsProvenSource (source_of s))
-IsProvenIn files input (jobs.Check source certs workers json) = IfSome (source_in files input source.now) (λ s. IsProvenSource (source_of s))
+IsProvenIn files input jobs.Joined = Reads joined_of input HasProvenSource
+IsProvenIn files input (jobs.Prove source budget workers json) = Reads source_of (source_in files input source.now) IsProvenSource
+IsProvenIn files input (jobs.Check source certs workers json) = Reads source_of (source_in files input source.now) IsProvenSource
 IsProvenIn files input (jobs.Conditions source) = ⊤
 IsProvenIn files input (jobs.Find source budget workers) = ⊤
 IsProvenIn files input (jobs.Erase source) = ⊤
-IsProvenIn files input (jobs.Run source limit erased certs values) = ⊤
+IsProvenIn files input (jobs.Run source limit erased certs values) = IsProvenRun (source_in files input source.now) certs
 IsProvenIn files input (jobs.Migrate certs) = ⊤
 
 -- it never gets stuck, where what was written says that it is unblocked
 abbrev pub IsNeverStuckIn : (List ℕ → Option (List ℕ)) → Option (List ℕ) → Option (List ℕ) → Option (List ℕ) → Job → Type 0
-IsNeverStuckIn files input before after jobs.Joined =
-    IfSome input (λ i. Wrote (SaysUnblocked false) before after → HasNeverStuckSource (joined_of i))
+IsNeverStuckIn files input before after jobs.Joined = Wrote (SaysUnblocked false) before after → Reads joined_of input HasNeverStuckSource
 IsNeverStuckIn files input before after (jobs.Prove source budget workers json) =
-    IfSome (source_in files input source.now) (λ s. Wrote (SaysUnblocked json) before after → IsNeverStuckSource (source_of s))
+    Wrote (SaysUnblocked json) before after → Reads source_of (source_in files input source.now) IsNeverStuckSource
 IsNeverStuckIn files input before after (jobs.Check source certs workers json) =
-    IfSome (source_in files input source.now) (λ s. Wrote (SaysUnblocked json) before after → IsNeverStuckSource (source_of s))
+    Wrote (SaysUnblocked json) before after → Reads source_of (source_in files input source.now) IsNeverStuckSource
 IsNeverStuckIn files input before after (jobs.Conditions source) = ⊤
 IsNeverStuckIn files input before after (jobs.Find source budget workers) = ⊤
 IsNeverStuckIn files input before after (jobs.Erase source) = ⊤

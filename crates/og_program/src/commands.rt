@@ -1,8 +1,8 @@
 //! The answers of the commands that print what they make of one file.
 
-ghost use Rattle.std.specs.Prelude.{◌≡◌, ◌≢◌, true, Err, IfErr, IfOk, IfSome};
+ghost use Rattle.std.specs.Prelude.{◌≡◌, ◌≢◌, true, Err, IfErr, IfOk};
 ghost use Rattle.og_engine.specs.Commands.{IsListed, IsErased};
-ghost use Rattle.og_engine.specs.Inputs.{source_of, certs_of};
+ghost use Rattle.og_engine.specs.Inputs.{source_of, certs_of, Reads};
 ghost use Rattle.og_engine.specs.Making.{IsMigrated};
 ghost use Rattle.og_program.specs.Named.{source_in, is_file, lacks_source};
 
@@ -20,7 +20,7 @@ pub(crate) fn conditions<F: Files, I: Read>(
     name: &str,
     input: &mut I,
 ) -> Result<Answer, EngineFault>
-    ensures answer { IfOk result (λ answer. IfSome (source_in (F.contents files.now) (I.remaining input.old) name.now) (λ s. IsListed (source_of s) answer)) }
+    ensures answer { IfOk result (λ answer. Reads source_of (source_in (F.contents files.now) (I.remaining input.old) name.now) (λ s. IsListed s answer)) }
     ensures fault { IfErr result (λ e. e ≢ EngineFault.WriteFailed) }
     ensures spawn { IfErr result (λ e. e ≢ EngineFault.Spawn) }
     ensures missing { lacks_source (F.is_missing files.now) name.now ≡ true → result ≡ Err EngineFault.ReadFailed }
@@ -37,7 +37,7 @@ pub(crate) fn erase<F: Files, I: Read>(
     name: &str,
     input: &mut I,
 ) -> Result<Answer, EngineFault>
-    ensures answer { IfOk result (λ answer. IfSome (source_in (F.contents files.now) (I.remaining input.old) name.now) (λ s. IsErased (source_of s) answer)) }
+    ensures answer { IfOk result (λ answer. Reads source_of (source_in (F.contents files.now) (I.remaining input.old) name.now) (λ s. IsErased s answer)) }
     ensures fault { IfErr result (λ e. e ≢ EngineFault.WriteFailed) }
     ensures spawn { IfErr result (λ e. e ≢ EngineFault.Spawn) }
     ensures missing { lacks_source (F.is_missing files.now) name.now ≡ true → result ≡ Err EngineFault.ReadFailed }
@@ -49,7 +49,7 @@ pub(crate) fn erase<F: Files, I: Read>(
 
 /// Certificates in version 2.
 pub(crate) fn migrate<F: Files>(alloc: Global, files: &F, name: &str) -> Result<Answer, EngineFault>
-    ensures answer { IfOk result (λ answer. IfSome (F.contents files.now name.now) (λ c. IsMigrated (certs_of c) answer)) }
+    ensures answer { IfOk result (λ answer. Reads certs_of (F.contents files.now name.now) (λ c. IsMigrated c answer)) }
     ensures fault { IfErr result (λ e. e ≢ EngineFault.WriteFailed) }
     ensures spawn { IfErr result (λ e. e ≢ EngineFault.Spawn) }
     ensures missing { F.is_missing files.now name.now ≡ true → result ≡ Err EngineFault.ReadFailed }

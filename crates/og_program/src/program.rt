@@ -1,23 +1,17 @@
 //! Checks and runs, by threads, memory and files.
 
-ghost use Rattle.std.specs.Prelude.{◌≡◌, ◌≢◌, ◌<◌, ◌||◌, true, false, map, Err, IfOk, IfErr, IfSome};
+ghost use Rattle.std.specs.Prelude.{◌≡◌, ◌≢◌, ◌<◌, ◌||◌, true, false, map, Err, IfOk, IfErr};
 ghost use Rattle.std.specs.Io.KnownBytes.{Keeps};
 ghost use Rattle.og_engine.specs.Answers.{Writes, WritesJoined};
-ghost use Rattle.og_engine.specs.NeverStuck.{HasNeverStuckSource};
-ghost use Rattle.og_engine.specs.Proven.{HasProvenSource};
-ghost use Rattle.og_engine.specs.Inputs.{source_of, certs_of, joined_of};
+ghost use Rattle.og_engine.specs.Inputs.{source_of, certs_of, joined_of, Reads};
 ghost use Rattle.og_engine.specs.Unfinished.{WritesFront, WritesJoinedFront};
-ghost use Rattle.og_engine.specs.Wrote.{Wrote};
-ghost use Rattle.og_judge.specs.Proven.{IsProvenSource};
-ghost use Rattle.og_judge.specs.NeverStuck.{IsNeverStuckSource};
-ghost use Rattle.og_report.specs.Yes.{SaysUnblocked};
-ghost use Rattle.og_running.specs.Running.{IsRan, IsRanProved};
+ghost use Rattle.og_running.specs.Running.{IsRan, IsRanProved, HasStart, HasProvedStart};
 ghost use Rattle.og_program.specs.Named.{source_in, is_file, lacks_source};
-ghost use Rattle.og_program.specs.Served.{RanAs, StartsAs};
+ghost use Rattle.og_program.specs.Served.{RanAs, StartsAs, lacks_certs};
 
 use crate::files::Files;
-use crate::reading::{certificate_bytes, open, source_bytes};
-use og_engine::{EngineFault, Options, engine, engine_joined};
+use crate::reading::{open, source_bytes};
+use og_engine::{EngineFault, Options, engine, engine_joined, read_certificates};
 use og_limits::{RunLimit, Workers};
 use og_pool::OpenGate;
 use og_running::{Reply, ran, ran_proved};
@@ -41,14 +35,11 @@ impl<'r, F: Files, H: Threads + Wait + Sync> Program<'r, F, H> {
         input: &mut I,
         out: &mut O,
     ) -> Result<u8, EngineFault>
-        ensures answer { IfOk result (λ status. IfSome (I.remaining input.old) (λ i.
-            WritesJoined false (joined_of i) (O.contents out.old) (O.contents out.new) status)) }
-        ensures sound { IfOk result (λ status. IfSome (I.remaining input.old) (λ i. status ≡ 0 → HasProvenSource (joined_of i))) }
-        ensures unblocked { IfOk result (λ status. IfSome (I.remaining input.old) (λ i. status ≡ 0
-            → Wrote (SaysUnblocked false) (O.contents out.old) (O.contents out.new) → HasNeverStuckSource (joined_of i))) }
+        ensures answer { IfOk result (λ status. Reads joined_of (I.remaining input.old) (λ i.
+            WritesJoined false i (O.contents out.old) (O.contents out.new) status)) }
         ensures spawn { IfErr result (λ e. e ≢ EngineFault.Spawn) }
         ensures unwritten { IfErr result (λ e. e ≢ EngineFault.WriteFailed → Keeps (O.contents out.old) (O.contents out.new)) }
-        ensures unfinished { IfErr result (λ e. e ≡ EngineFault.WriteFailed → IfSome (I.remaining input.old) (λ i. WritesJoinedFront false (joined_of i) (O.contents out.old) (O.contents out.new))) }
+        ensures unfinished { IfErr result (λ e. e ≡ EngineFault.WriteFailed → Reads joined_of (I.remaining input.old) (λ i. WritesJoinedFront false i (O.contents out.old) (O.contents out.new))) }
     {
         let options = Options {
             workers: Workers::ONE,
@@ -65,14 +56,11 @@ impl<'r, F: Files, H: Threads + Wait + Sync> Program<'r, F, H> {
         options: Options,
         out: &mut O,
     ) -> Result<u8, EngineFault>
-        ensures answer { IfOk result (λ status. IfSome (R.remaining source.old) (λ s. IfSome (F.contents self.now.files.now certs.now) (λ c.
-            Writes options.json (source_of s) (certs_of c) (O.contents out.old) (O.contents out.new) status))) }
-        ensures sound { IfOk result (λ status. IfSome (R.remaining source.old) (λ s. status ≡ 0 → IsProvenSource (source_of s))) }
-        ensures unblocked { IfOk result (λ status. IfSome (R.remaining source.old) (λ s. status ≡ 0
-            → Wrote (SaysUnblocked options.json) (O.contents out.old) (O.contents out.new) → IsNeverStuckSource (source_of s))) }
+        ensures answer { IfOk result (λ status. Reads source_of (R.remaining source.old) (λ s. Reads certs_of (F.contents self.now.files.now certs.now) (λ c.
+            Writes options.json s c (O.contents out.old) (O.contents out.new) status))) }
         ensures unwritten { IfErr result (λ e. e ≢ EngineFault.WriteFailed → Keeps (O.contents out.old) (O.contents out.new)) }
-        ensures unfinished { IfErr result (λ e. e ≡ EngineFault.WriteFailed → IfSome (R.remaining source.old) (λ s. IfSome (F.contents self.now.files.now certs.now) (λ c.
-            WritesFront options.json (source_of s) (certs_of c) (O.contents out.old) (O.contents out.new)))) }
+        ensures unfinished { IfErr result (λ e. e ≡ EngineFault.WriteFailed → Reads source_of (R.remaining source.old) (λ s. Reads certs_of (F.contents self.now.files.now certs.now) (λ c.
+            WritesFront options.json s c (O.contents out.old) (O.contents out.new)))) }
         ensures missing { F.is_missing self.now.files.now certs.now ≡ true → result ≡ Err EngineFault.ReadFailed }
         ensures spawn { IfErr result (λ e. e ≡ EngineFault.Spawn → 1 < options.workers) }
     {
@@ -91,14 +79,11 @@ impl<'r, F: Files, H: Threads + Wait + Sync> Program<'r, F, H> {
         input: &mut I,
         out: &mut O,
     ) -> Result<u8, EngineFault>
-        ensures answer { IfOk result (λ status. IfSome (source_in (F.contents self.now.files.now) (I.remaining input.old) source.now) (λ s. IfSome (F.contents self.now.files.now certs.now) (λ c.
-            Writes options.json (source_of s) (certs_of c) (O.contents out.old) (O.contents out.new) status))) }
-        ensures sound { IfOk result (λ status. IfSome (source_in (F.contents self.now.files.now) (I.remaining input.old) source.now) (λ s. status ≡ 0 → IsProvenSource (source_of s))) }
-        ensures unblocked { IfOk result (λ status. IfSome (source_in (F.contents self.now.files.now) (I.remaining input.old) source.now) (λ s. status ≡ 0
-            → Wrote (SaysUnblocked options.json) (O.contents out.old) (O.contents out.new) → IsNeverStuckSource (source_of s))) }
+        ensures answer { IfOk result (λ status. Reads source_of (source_in (F.contents self.now.files.now) (I.remaining input.old) source.now) (λ s. Reads certs_of (F.contents self.now.files.now certs.now) (λ c.
+            Writes options.json s c (O.contents out.old) (O.contents out.new) status))) }
         ensures unwritten { IfErr result (λ e. e ≢ EngineFault.WriteFailed → Keeps (O.contents out.old) (O.contents out.new)) }
-        ensures unfinished { IfErr result (λ e. e ≡ EngineFault.WriteFailed → IfSome (source_in (F.contents self.now.files.now) (I.remaining input.old) source.now) (λ s. IfSome (F.contents self.now.files.now certs.now) (λ c.
-            WritesFront options.json (source_of s) (certs_of c) (O.contents out.old) (O.contents out.new)))) }
+        ensures unfinished { IfErr result (λ e. e ≡ EngineFault.WriteFailed → Reads source_of (source_in (F.contents self.now.files.now) (I.remaining input.old) source.now) (λ s. Reads certs_of (F.contents self.now.files.now certs.now) (λ c.
+            WritesFront options.json s c (O.contents out.old) (O.contents out.new)))) }
         ensures missing { (lacks_source (F.is_missing self.now.files.now) source.now || F.is_missing self.now.files.now certs.now) ≡ true → result ≡ Err EngineFault.ReadFailed }
         ensures spawn { IfErr result (λ e. e ≡ EngineFault.Spawn → 1 < options.workers) }
         ensures kept { is_file source.now ≡ true → I.remaining input.new ≡ I.remaining input.old }
@@ -108,6 +93,52 @@ impl<'r, F: Files, H: Threads + Wait + Sync> Program<'r, F, H> {
         }
         let mut source = open(self.files, source)?;
         self.check_from(&mut source, certs, options, out)
+    }
+
+    // Runs the program of a source.
+    fn run_source<'a, I: Read>(
+        &self,
+        source: &str,
+        words: &[&'a str],
+        limit: RunLimit,
+        erased: bool,
+        input: &mut I,
+    ) -> Result<Reply<'a>, EngineFault>
+        ensures reply { IfOk result (λ reply. Reads source_of (source_in (F.contents self.now.files.now) (I.remaining input.old) source.now) (λ s.
+            IsRan erased limit s (map (λ w. w.now) words.now) reply)) }
+        ensures fault { IfErr result (λ e. e ≢ EngineFault.WriteFailed) }
+        ensures missing { lacks_source (F.is_missing self.now.files.now) source.now ≡ true → result ≡ Err EngineFault.ReadFailed }
+        ensures spawn { IfErr result (λ e. e ≡ EngineFault.Spawn → Reads source_of (source_in (F.contents self.now.files.now) (I.remaining input.old) source.now) (λ s.
+            HasStart erased s (map (λ w. w.now) words.now))) }
+        ensures kept { is_file source.now ≡ true → I.remaining input.new ≡ I.remaining input.old }
+    {
+        let (rt, alloc) = (self.rt, self.alloc);
+        let source = source_bytes(alloc, self.files, source, input)?;
+        Ok(ran(rt, alloc, &source, words, limit, erased, &OpenGate)?)
+    }
+
+    // Runs the program of a source that certificates prove safe.
+    fn run_proved<'a, I: Read>(
+        &self,
+        source: &str,
+        certs: &str,
+        words: &[&'a str],
+        limit: RunLimit,
+        input: &mut I,
+    ) -> Result<Reply<'a>, EngineFault>
+        ensures reply { IfOk result (λ reply. Reads source_of (source_in (F.contents self.now.files.now) (I.remaining input.old) source.now) (λ s.
+            Reads certs_of (F.contents self.now.files.now certs.now) (λ c. IsRanProved limit s c (map (λ w. w.now) words.now) reply))) }
+        ensures fault { IfErr result (λ e. e ≢ EngineFault.WriteFailed) }
+        ensures missing { (lacks_source (F.is_missing self.now.files.now) source.now || F.is_missing self.now.files.now certs.now) ≡ true → result ≡ Err EngineFault.ReadFailed }
+        ensures spawn { IfErr result (λ e. e ≡ EngineFault.Spawn → Reads source_of (source_in (F.contents self.now.files.now) (I.remaining input.old) source.now) (λ s.
+            Reads certs_of (F.contents self.now.files.now certs.now) (λ c. HasProvedStart s c (map (λ w. w.now) words.now)))) }
+        ensures kept { is_file source.now ≡ true → I.remaining input.new ≡ I.remaining input.old }
+    {
+        let (rt, alloc) = (self.rt, self.alloc);
+        let mut file = open(self.files, certs)?;
+        let source = source_bytes(alloc, self.files, source, input)?;
+        let certs = read_certificates(alloc, &mut file)?;
+        Ok(ran_proved(rt, alloc, &source, &certs, words, limit, &OpenGate)?)
     }
 
     /// Runs the program of a source, where certificates are given only if they prove it safe.
@@ -122,19 +153,14 @@ impl<'r, F: Files, H: Threads + Wait + Sync> Program<'r, F, H> {
     ) -> Result<Reply<'a>, EngineFault>
         ensures reply { IfOk result (RanAs (F.contents self.now.files.now) (source_in (F.contents self.now.files.now) (I.remaining input.old) source.now) limit erased certs.entry (map (λ w. w.now) words.now)) }
         ensures fault { IfErr result (λ e. e ≢ EngineFault.WriteFailed) }
-        ensures missing { lacks_source (F.is_missing self.now.files.now) source.now ≡ true → result ≡ Err EngineFault.ReadFailed }
+        ensures missing { (lacks_source (F.is_missing self.now.files.now) source.now || lacks_certs (F.is_missing self.now.files.now) certs.entry) ≡ true → result ≡ Err EngineFault.ReadFailed }
         ensures spawn { IfErr result (λ e. e ≡ EngineFault.Spawn
             → StartsAs (F.contents self.now.files.now) (source_in (F.contents self.now.files.now) (I.remaining input.old) source.now) erased certs.entry (map (λ w. w.now) words.now)) }
         ensures kept { is_file source.now ≡ true → I.remaining input.new ≡ I.remaining input.old }
     {
-        let (rt, alloc) = (self.rt, self.alloc);
-        let source = source_bytes(alloc, self.files, source, input)?;
         match certs {
-            None => Ok(ran(rt, alloc, &source, words, limit, erased, &OpenGate)?),
-            Some(certs) => {
-                let certs = certificate_bytes(alloc, self.files, certs)?;
-                Ok(ran_proved(rt, alloc, &source, &certs, words, limit, &OpenGate)?)
-            }
+            None => self.run_source(source, words, limit, erased, input),
+            Some(certs) => self.run_proved(source, certs, words, limit, input),
         }
     }
 }

@@ -1,13 +1,10 @@
 //! The answers of the commands that search, by threads.
 
-ghost use Rattle.std.specs.Prelude.{◌≡◌, ◌≢◌, ◌<◌, true, Err, IfErr, IfOk, IfSome};
-ghost use Rattle.og_engine.specs.Inputs.{source_of};
+ghost use Rattle.std.specs.Prelude.{◌≡◌, ◌≢◌, ◌<◌, true, Err, IfErr, IfOk};
+ghost use Rattle.og_engine.specs.Inputs.{source_of, Reads};
 ghost use Rattle.og_engine.specs.Making.{IsFound};
-ghost use Rattle.og_engine.specs.Proving.{IsProving};
-ghost use Rattle.og_judge.specs.NeverStuck.{IsNeverStuckSource};
-ghost use Rattle.og_judge.specs.Proven.{IsProvenSource};
-ghost use Rattle.og_report.specs.Yes.{SaysUnblocked};
 ghost use Rattle.og_program.specs.Named.{source_in, is_file, lacks_source};
+ghost use Rattle.og_program.specs.Served.{IsProvedAnswer};
 
 use crate::files::Files;
 use crate::program::Program;
@@ -27,11 +24,7 @@ impl<'r, F: Files, H: Threads + Wait + Sync> Program<'r, F, H> {
         search: Search,
         input: &mut I,
     ) -> Result<Answer, EngineFault>
-        ensures answer { IfOk result (λ answer. IfSome (source_in (F.contents self.now.files.now) (I.remaining input.old) source.now) (λ s. IsProving search.json (source_of s) answer)) }
-        ensures sound { IfOk result (λ answer. answer.status ≡ 0
-            → IfSome (source_in (F.contents self.now.files.now) (I.remaining input.old) source.now) (λ s. IsProvenSource (source_of s))) }
-        ensures unblocked { IfOk result (λ answer. answer.status ≡ 0 → SaysUnblocked search.json answer.text.items
-            → IfSome (source_in (F.contents self.now.files.now) (I.remaining input.old) source.now) (λ s. IsNeverStuckSource (source_of s))) }
+        ensures answer { IfOk result (λ answer. Reads source_of (source_in (F.contents self.now.files.now) (I.remaining input.old) source.now) (λ s. IsProvedAnswer search.json s answer)) }
         ensures fault { IfErr result (λ e. e ≢ EngineFault.WriteFailed) }
         ensures spawn { IfErr result (λ e. e ≡ EngineFault.Spawn → 1 < search.workers) }
         ensures missing { lacks_source (F.is_missing self.now.files.now) source.now ≡ true → result ≡ Err EngineFault.ReadFailed }
@@ -49,7 +42,7 @@ impl<'r, F: Files, H: Threads + Wait + Sync> Program<'r, F, H> {
         workers: Workers,
         input: &mut I,
     ) -> Result<Answer, EngineFault>
-        ensures answer { IfOk result (λ answer. IfSome (source_in (F.contents self.now.files.now) (I.remaining input.old) source.now) (λ s. IsFound (source_of s) answer)) }
+        ensures answer { IfOk result (λ answer. Reads source_of (source_in (F.contents self.now.files.now) (I.remaining input.old) source.now) (λ s. IsFound s answer)) }
         ensures fault { IfErr result (λ e. e ≢ EngineFault.WriteFailed) }
         ensures spawn { IfErr result (λ e. e ≡ EngineFault.Spawn → 1 < workers) }
         ensures missing { lacks_source (F.is_missing self.now.files.now) source.now ≡ true → result ≡ Err EngineFault.ReadFailed }

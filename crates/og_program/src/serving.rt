@@ -27,9 +27,7 @@ impl<'r, F: Files, H: Threads + Wait + Sync> Program<'r, F, H> {
         err: &mut E,
     ) -> Ended
         ensures ended { EndsJob (F.contents self.now.files.now) (I.remaining input.old) job.now (O.contents out.old) (O.contents out.new) (E.contents err.old) (E.contents err.new) result }
-        ensures sound { result.status ≡ 0 → IsProvenIn (F.contents self.now.files.now) (I.remaining input.old) job.now }
         ensures lacking { lacks (F.is_missing self.now.files.now) job.now ≡ true → Fails EngineFault.ReadFailed (O.contents out.old) (O.contents out.new) (E.contents err.old) (E.contents err.new) result }
-        ensures unblocked { result.status ≡ 0 → IsNeverStuckIn (F.contents self.now.files.now) (I.remaining input.old) (O.contents out.old) (O.contents out.new) job.now }
         ensures kept { reads_input job.now ≡ false → I.remaining input.new ≡ I.remaining input.old }
     {
         let (alloc, files) = (self.alloc, self.files);

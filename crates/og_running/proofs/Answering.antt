@@ -1,11 +1,12 @@
 -- From the parts of an answer to the whole.
-use Rattle.std.proofs.Common.{◌≡◌, ◌⊎◌, inl, inr, subst, ap, ℕ, ℤ, Bool, true, false, None, List, Result, Ok, Err, IfOk, IfErr, refl, codes}
+use Rattle.std.proofs.Common.{◌≡◌, ◌⊎◌, inl, inr, subst, ap, ℕ, ℤ, Bool, true, false, None, List, Result, Ok, Err, IfOk, IfErr, refl, codes, arith}
 use Rattle.std.specs.Prelude.{⊤}
 use Rattle.og_typed.specs.Syntax.{Program}
 use Rattle.og_judge.specs.declared.entry.Entry.{Entry}
 use Rattle.og_judge.specs.Answered.{IsAnswered}
 use Rattle.og_judge.specs.Entries.{AreEntries, is_safe, is_unblocked}
 use Rattle.og_judge.specs.NotJudged.{AreNotFound}
+use Rattle.og_judge.specs.Proven.{IsProvenSource}
 use Rattle.og_judge.specs.declared.refusal.Refusal.{Refusal}
 use Rattle.og_judge.specs.declared.refusal.Refusal.TheVariants as refusal
 use Rattle.og_step.specs.Starts.{start_fault}
@@ -24,7 +25,8 @@ use Rattle.og_answer.specs.Told.{Says}
 use Rattle.og_answer.specs.declared.answer.Answer.{Answer}
 use Rattle.og_running.specs.Words.{Give}
 use Rattle.og_running.specs.Texts.{outcome_text, finish_status}
-use Rattle.og_running.specs.Running.{given, IsFaultTold, StartsNot, EndsAs, Tells, TellsProved, TellsJudged, IsRefusedOrJudged, Goes}
+use Rattle.og_running.specs.Running.{given, IsFaultTold, IsProven, StartsNot, EndsAs, Tells, TellsProved, TellsJudged, IsRefusedOrJudged, IsRanProved, IsOfRun, Goes}
+use Rattle.og_running.specs.declared.reply.Reply.{Reply}
 use Rattle.og_running.specs.declared.reply.Reply.TheVariants as replies
 
 -- ---- what came of a run
@@ -60,9 +62,10 @@ proved_told g unblocked ended r runs proved told refused = ended_as (IsProvedOut
 
 -- it is safe
 pub safe_told : (entries : List Entry) (o : Program) (values : List ℤ) (limit : ℕ) (p : Program × Bool) (r : Result Answer PoolFault) → is_safe entries ≡ true
-    → p ≡ (o, is_unblocked entries) → IfOk r (TellsProved (given p.0 values limit) p.1) → IfOk r (TellsJudged entries (given o values limit))
-safe_told entries o values limit p (Err e) safe is told = tt
-safe_told entries o values limit p (Ok a) safe is told = inr (safe, subst (λ (q : Program × Bool). TellsProved (given q.0 values limit) q.1 a) is told)
+    → p ≡ (o, is_unblocked entries) → IsProven p.0 → IfOk r (TellsProved (given p.0 values limit) p.1) → IfOk r (TellsJudged entries (given o values limit))
+safe_told entries o values limit p (Err e) safe is proven told = tt
+safe_told entries o values limit p (Ok a) safe is proven told =
+    inr (safe, subst (λ (q : Program × Bool). IsProven q.0) is proven, subst (λ (q : Program × Bool). TellsProved (given q.0 values limit) q.1 a) is told)
 
 -- it is not
 pub not_safe_told : (entries : List Entry) (g : Given) (a : Answer) → is_safe entries ≡ false → Says (codes "not safe\n") 1 a → TellsJudged entries g a
@@ -88,6 +91,31 @@ refused_told source certs o values limit refusal.Memory (Err e) refused told = t
 pub goes : (P : Program → List ℤ → Answer → Type 0) (source : List ℕ) (words : List (List ℕ)) (o : Program) (values : List ℤ) (a : Answer) → IsSource source o → Give o words values
     → P o values a → Goes P source words (replies.Answer a)
 goes P source words o values a read gives told = record { outline = o; values = values; answer = a; read = read; given = gives; is = refl; told = told }
+
+-- ---- what an answer of a run says of the source
+
+not_refused : (a : Answer) → IsOfRun (replies.Answer a) → a.status ≡ 2 → ⊥
+not_refused a (inl zero) two = omega (arith, zero, two)
+not_refused a (inr one) two = let status = one.0 in omega (arith, status, two)
+
+not_unsafe : (a : Answer) → IsOfRun (replies.Answer a) → Says (codes "not safe\n") 1 a → ⊥
+not_unsafe a (inl zero) says = let one = says.1 in omega (arith, zero, one)
+not_unsafe a (inr one) says = one.1 says.0
+
+-- where the certificates were asked
+proven_of : (source certs : List ℕ) (o : Program) (values : List ℤ) (limit : ℕ) (a : Answer) → IsRefusedOrJudged source certs o values limit a
+    → IsOfRun (replies.Answer a) → IsProven o
+proven_of source certs o values limit a (inl refused) run = let told = refused.2 in absurd (not_refused a run told.1)
+proven_of source certs o values limit a (inr (entries, found, inl unsafe)) run = absurd (not_unsafe a run unsafe.1)
+proven_of source certs o values limit a (inr (entries, found, inr safe)) run = safe.1
+
+pub run_proven : (limit : ℕ) (source certs : List ℕ) (words : List (List ℕ)) (r : Reply) → IsRanProved limit source certs words r → IsOfRun r → IsProvenSource source
+run_proven limit source certs words (replies.BadValue word) h run = absurd run
+run_proven limit source certs words (replies.Answer a) (inl unread) run = let told = unread.2 in absurd (not_refused a run told.1)
+run_proven limit source certs words (replies.Answer a) (inr goes) run =
+    let same : a ≡ goes.answer = cc in
+    let proven = proven_of source certs goes.outline goes.values limit goes.answer goes.told (subst (λ (b : Answer). IsOfRun (replies.Answer b)) same run) in
+    (goes.outline, goes.read, proven.0, proven.1)
 
 -- ---- where a thread is wanting
 

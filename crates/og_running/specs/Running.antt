@@ -1,7 +1,8 @@
 -- What `run` answers, and in which order its faults come.
-use Rattle.std.specs.Prelude.{◌≡◌, ◌⊎◌, ℕ, ℤ, Bool, true, false, if◌then◌else◌, List, codes, None, Some, ⊤}
+use Rattle.std.specs.Prelude.{◌≡◌, ◌≢◌, ◌⊎◌, ℕ, ℤ, Bool, true, false, if◌then◌else◌, List, codes, None, Some, ⊤}
 use Rattle.og_typed.specs.Syntax.{Program}
 use Rattle.og_typed.specs.Erase.{erased}
+use Rattle.og_theorem.specs.Sound.{IsSound, IsSoundErased}
 use Rattle.og_step.specs.Starts.{start_fault}
 use Rattle.og_step.specs.declared.fault.StartFault.{StartFault}
 use Rattle.og_board.specs.Runs.{Given}
@@ -60,11 +61,15 @@ Tells g a = StartsNot g a ⊎ EndsAs (λ _. ⊤) g a
 abbrev pub TellsProved : Given → Bool → Answer → Type 0
 TellsProved g unblocked a = StartsNot g a ⊎ EndsAs (IsProvedOutcome g unblocked) g a
 
--- where the texts are read, but not safe, that is said; else the values are no start, or the outcome of a run is told
+-- every run of the outline is as promised, with its auxiliaries and without them
+abbrev pub IsProven : Program → Type 0
+IsProven o = IsSound o × IsSoundErased o
+
+-- where the texts are read, but not safe, that is said; else every run is as promised, and the values are no start, or the outcome of a run is told
 abbrev pub TellsJudged : List Entry → Given → Answer → Type 0
 TellsJudged entries g a =
     ((is_safe entries ≡ false) × Says (codes "not safe\n") 1 a)
-    ⊎ ((is_safe entries ≡ true) × TellsProved g (is_unblocked entries) a)
+    ⊎ ((is_safe entries ≡ true) × IsProven g.outline × TellsProved g (is_unblocked entries) a)
 
 -- ---- the order of the faults
 
@@ -99,6 +104,11 @@ IsRefusedOrJudged source certs o values limit a =
 abbrev pub IsRanProved : ℕ → List ℕ → List ℕ → List (List ℕ) → Reply → Type 0
 IsRanProved limit source certs words r =
     IsEarly source words r ⊎ Goes (λ o values a. IsRefusedOrJudged source certs o values limit a) source words r
+
+-- the answer is that of a run: its status is 0, or 1 with another text than `not safe`
+abbrev pub IsOfRun : Reply → Type 0
+IsOfRun (replies.Answer a) = (a.status ≡ 0) ⊎ ((a.status ≡ 1) × (a.text.items ≢ codes "not safe\n"))
+IsOfRun (replies.BadValue word) = ⊥
 
 -- ---- where a thread can be wanting
 

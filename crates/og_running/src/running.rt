@@ -7,10 +7,11 @@ ghost use Rattle.og_pool.specs.declared.fault.PoolFault.TheVariants.{Spawn};
 ghost use Rattle.og_run.specs.declared.fault.RunFault.TheVariants as faults;
 ghost use Rattle.og_run.specs.declared.fault.RunError.TheVariants as errors;
 ghost use Rattle.og_judge.specs.Entries.{is_safe};
+ghost use Rattle.og_judge.specs.Proven.{IsProvenSource};
 ghost use Rattle.og_judge.specs.Shown.{looked_at, found_of};
 ghost use Rattle.og_step.specs.Starts.{start_fault};
 ghost use Rattle.og_running.specs.Texts.{outcome_text, finish_status};
-ghost use Rattle.og_running.specs.Running.{given, fault_line, IsFaultTold, Tells, TellsProved, TellsJudged, IsRefusedOrJudged, IsRan, IsRanProved, IsSafeBy, HasStart, HasProvedStart};
+ghost use Rattle.og_running.specs.Running.{given, fault_line, IsFaultTold, IsProven, Tells, TellsProved, TellsJudged, IsRefusedOrJudged, IsRan, IsRanProved, IsOfRun, IsSafeBy, HasStart, HasProvedStart};
 
 use crate::outcome::{finish_status, outcome_text};
 use crate::reply::Reply;
@@ -103,6 +104,7 @@ impl<'r, G: Gate, H: Threads + Wait + Sync> Runner<'r, G, H> {
     #[tactic(auto, using(crate::proofs::Answering::proved_told))]
     fn run_proved(&self, proved: &Proved<'_>, values: State) -> Result<Answer, PoolFault>
         ensures told { IfOk result (TellsProved (given proved.now.0 values self.now.limit) proved.now.1) }
+        ensures proven { IsProven proved.now.0 }
         ensures spawn { IfErr result (λ e. e ≡ Spawn → start_fault proved.now.0 values ≡ None) }
     {
         let limit = self.limit.steps();
@@ -237,8 +239,8 @@ pub fn ran<'a, G: Gate, H: Threads + Wait + Sync>(
 }
 
 /// Runs the program of a source as `ran`, where the certificates prove it safe: then all that is
-/// promised of a proved outline holds of the run. Where they do not, the answer is `not safe` and
-/// status 1. A refusal of the certificates comes after a bad value, and `not safe` before a
+/// promised of a proved outline holds of the run, and every run of the source's outline is as
+/// promised. Where they do not, the answer is `not safe` and status 1. A refusal of the certificates comes after a bad value, and `not safe` before a
 /// precondition that is false.
 ///
 /// # Errors
@@ -254,6 +256,7 @@ pub fn ran_proved<'a, G: Gate, H: Threads + Wait + Sync>(
     gate: &G,
 ) -> Result<Reply<'a>, PoolFault>
     ensures told { IfOk result (IsRanProved limit source.now certs.now (map (λ w. w.now) words.now)) }
+    ensures proven { IfOk result (λ reply. IsOfRun reply → IsProvenSource source.now) }
     ensures spawn { IfErr result (λ e. e ≡ Spawn → HasProvedStart source.now certs.now (map (λ w. w.now) words.now)) }
 {
     let runner = Runner {

@@ -4,7 +4,7 @@ ghost use Rattle.std.specs.Prelude.{◌≡◌};
 ghost use Rattle.og_words.specs.Jobs.{SaysWrong};
 ghost use Rattle.og_words.specs.declared.job.Usage.TheVariants.{Memory};
 
-use og_limits::{Budget, RunLimit, Workers};
+use og_limits::{Budget, MomentLimit, RunLimit, Workers};
 use std::alloc::{AllocError, AllocFailed, Global};
 
 /// The words that name commands.
@@ -16,6 +16,7 @@ pub(crate) enum Verb {
     Find,
     Erase,
     Run,
+    Explore,
     Migrate,
 }
 
@@ -59,7 +60,7 @@ pub enum Job<'a> {
     Erase {
         source: &'a str,
     },
-    /// Run the processes in threads.
+    /// Run the processes in threads, or by a schedule.
     Run {
         source: &'a str,
         /// How many steps the history may have.
@@ -68,8 +69,22 @@ pub enum Job<'a> {
         erased: bool,
         /// The certificates that are to prove the outline safe first.
         certs: Option<&'a str>,
+        /// The word that names the processes that are to step, in order.
+        schedule: Option<&'a str>,
         /// Words that give variables their values at the start.
         values: Vec<&'a str>,
+    },
+    /// Look through the moments of all runs.
+    Explore {
+        source: &'a str,
+        /// How many moments may be looked at.
+        limit: MomentLimit,
+        /// Whether the program without auxiliary variables is to be explored.
+        erased: bool,
+        /// Whether the report is to be JSON.
+        json: bool,
+        /// Words that give variables their values, or ranges of them, at the start.
+        ranges: Vec<&'a str>,
     },
     /// Print the certificates in version 2 of their format.
     Migrate {

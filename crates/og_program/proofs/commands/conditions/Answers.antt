@@ -1,11 +1,7 @@
 use Rattle.std.proofs.Common.{ℕ, List, subst}
 use Rattle.og_engine.specs.Commands.{IsListed}
-use Rattle.og_engine.specs.Inputs.{source_of}
-use Rattle.og_program.proofs.Known.{known}
 use Rattle.og_program.proofs.commands.conditions.Goals as goal
 
 pub returns-clause-answer : goal.returns-clause-answer
 returns-clause-answer g c =
-    let answer = c.in_ok-listed.field-0 in
-    known (λ s. IsListed s answer) source_of _ c.in_ok-source.source.items c.in_ok-source.ensures.text
-    (subst (λ (s : List ℕ). IsListed s answer) c.deref.ensures.value c.in_ok-listed.ensures)
+    (c.in_ok-source.source.items, c.in_ok-source.ensures.text, subst (λ (s : List ℕ). IsListed s c.in_ok-listed.field-0) c.deref.ensures.value c.in_ok-listed.ensures)

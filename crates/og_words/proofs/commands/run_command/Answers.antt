@@ -12,4 +12,5 @@ returns c =
     let two = with_arg c.in_ok-arg.field-0 c.in_ok-arg-2.field-0 c.limit_arg.result line.limit _ one c.limit_arg.ensures c.in_ok-arg-2.ensures in
     let three = with_arg c.in_ok-arg-2.field-0 c.in_ok-arg-3.field-0 c.erased_arg.result (line.flag (codes "erased")) _ two c.erased_arg.ensures c.in_ok-arg-3.ensures in
     let four = with_arg c.in_ok-arg-3.field-0 c.in_ok-arg-4.field-0 c.in_ok-certs.certs line.certs_option _ three c.in_ok-certs.ensures c.in_ok-arg-4.ensures in
-    IfOk-weaker c.arg-5.result _ _ (λ r h. with_arg c.in_ok-arg-4.field-0 r c.values_arg.result line.values _ four c.values_arg.ensures h) c.arg-5.ensures
+    let five = with_arg c.in_ok-arg-4.field-0 c.in_ok-arg-5.field-0 c.in_ok-schedule.schedule line.schedule_option _ four c.in_ok-schedule.ensures c.in_ok-arg-5.ensures in
+    IfOk-weaker c.arg-6.result _ _ (λ r h. with_arg c.in_ok-arg-5.field-0 r c.values_arg.result line.values _ five c.values_arg.ensures h) c.arg-6.ensures

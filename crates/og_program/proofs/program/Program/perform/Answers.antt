@@ -3,12 +3,8 @@ use Rattle.std.proofs.lemmas.Result.{IfOk-weaker}
 use Rattle.og_running.specs.declared.reply.Reply.{Reply}
 use Rattle.og_program.specs.Named.{source_in}
 use Rattle.og_engine.specs.declared.fault.EngineFault.TheVariants as faults
-use Rattle.og_engine.specs.Inputs.{source_of}
-use Rattle.og_judge.specs.NeverStuck.{IsNeverStuckSource}
-use Rattle.og_report.specs.Yes.{SaysUnblocked}
-use Rattle.og_words.specs.declared.job.Job.TheVariants as jobs
-use Rattle.og_program.specs.Served.{RanAs, StartsAs, IsProvenIn, IsNeverStuckIn}
-use Rattle.og_program.proofs.Ending.{joined_does, check_does, absent, finished, told, told_by_threads, sound_told, unblocked_told, replied}
+use Rattle.og_program.specs.Served.{RanAs, StartsAs}
+use Rattle.og_program.proofs.Ending.{joined_does, check_does, absent, finished, told, told_by_threads, replied}
 use Rattle.og_program.proofs.program.Program.perform.Goals as goal
 
 pub returns-in-Joined-clause-ended : goal.returns-in-Joined-clause-ended
@@ -19,22 +15,6 @@ returns-in-Joined-clause-ended g c =
 pub returns-in-Prove-clause-ended : goal.returns-in-Prove-clause-ended
 returns-in-Prove-clause-ended g c =
     told_by_threads _ _ _ _ _ _ _ _ c.tell.result _ c.prove.result c.in-Prove.is (λ Q gives. gives) c.prove.ensures.answer c.prove.ensures.fault c.prove.ensures.spawn c.tell.ensures.ok c.tell.ensures.err
-
-pub returns-in-Prove-clause-sound : goal.returns-in-Prove-clause-sound
-returns-in-Prove-clause-sound g c =
-    let files = g.F.Files.contents c.args.self.now.files.now in
-    let input = g.I.Read.remaining c.args.input.now in
-    λ zero. subst (IsProvenIn files input) (sym c.in-Prove.is)
-    (sound_told (IsProvenIn files input (jobs.Prove c.in-Prove.source c.in-Prove.budget c.in-Prove.workers c.in-Prove.json)) _ _ _ _ c.tell.result c.prove.result c.prove.ensures.sound c.tell.ensures.ok c.tell.ensures.err zero)
-
-pub returns-in-Prove-clause-unblocked : goal.returns-in-Prove-clause-unblocked
-returns-in-Prove-clause-unblocked g c =
-    let files = g.F.Files.contents c.args.self.now.files.now in
-    let input = g.I.Read.remaining c.args.input.now in
-    let out = g.O.Write.contents c.args.out.now in
-    let out_after = g.O.Write.contents c.tell.new.out in
-    λ zero. subst (IsNeverStuckIn files input out out_after) (sym c.in-Prove.is)
-    (unblocked_told (SaysUnblocked c.in-Prove.json) (λ s. IsNeverStuckSource (source_of s)) (source_in files input c.in-Prove.source.now) out out_after _ _ c.tell.result c.prove.result c.prove.ensures.unblocked c.tell.ensures.ok c.tell.ensures.err zero)
 
 pub returns-in-Check-clause-ended : goal.returns-in-Check-clause-ended
 returns-in-Check-clause-ended g c =

@@ -1,0 +1,3 @@
+pub mod Violations
+pub mod Along
+pub mod Replays

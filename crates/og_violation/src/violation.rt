@@ -1,0 +1,29 @@
+//! What is wrong, and the run that leads there.
+
+use og_linear::State;
+
+/// What is wrong at a moment. Processes have their numbers from 0, in the order of the text; the
+/// main process has the number after the last.
+#[derive(Clone, Copy, Debug, Drop, PartialEq, Eq)]
+pub enum Wrong {
+    /// The current assertion of this process, which is active, is false.
+    Assertion(u32),
+    /// A value of the next action of this process, which is active, is outside the range of `i64`.
+    Overflow(u32),
+    /// All have ended, and the postcondition is false.
+    Post,
+    /// Not all have ended, and no process can step.
+    Stuck,
+}
+
+/// A run, and what is wrong at its end. The values are those of the variables that are no
+/// auxiliaries, at the start.
+#[derive(Debug, Drop)]
+pub struct Violation {
+    /// The values at the start.
+    pub values: State,
+    /// The numbers of the processes that moved, in order.
+    pub history: Vec<u32>,
+    /// What is wrong at the end.
+    pub wrong: Wrong,
+}
