@@ -4,10 +4,10 @@ use Rattle.std.specs.List.{AllByRecursion}
 use Rattle.std.proofs.Math.Seq.{set-append_seam}
 use Rattle.std.proofs.lemmas.Bool.{cases_lt}
 use Rattle.std.proofs.lemmas.Option.{slice_get_within, same_Some}
-use Rattle.og_typed.specs.Syntax.{Formula, Statement, If, While, Sequence, Otherwise, Rest, items, else_items}
+use Rattle.og_typed.specs.Syntax.{Formula, Statement, If, While, Sequence, Last, Then, Otherwise, Rest, items, else_items}
 use Rattle.og_typed.specs.Plain.{item_pair}
 use Rattle.og_flow.specs.declared.points.Point.{Point}
-use Rattle.og_flow.specs.Points.{rest_at, past, passed}
+use Rattle.og_flow.specs.Points.{rest_at, past, passed, statement_rests, sequence_rests, else_rests, parts_rests}
 use Rattle.og_flow.specs.Table.{rests_from, rests_of, IsLinked, AreLinked, IsGrown}
 
 -- what is left at a point more
@@ -309,3 +309,26 @@ grown_places a b (at ∷ places) g h =
     let here : at ≤ length a = h.0 in
     let long = grown_long a b g in
     (omega (arith, here, long), grown_places a b places g h.1)
+
+-- ---- what is left at the points of statements
+
+-- of statements one after another, the last one first
+abbrev pub list_rests : Rest → Rest → List Rest
+list_rests [] after = []
+list_rests (head ∷ rest) after = list_rests rest after ++ statement_rests head.0 head.1 (rest ++ after)
+
+pub sequence_list : (q : Sequence) (after : Rest) → sequence_rests q after ≡ list_rests (items q) after
+sequence_list (Last note) after = refl
+sequence_list (Then before stmt at rest) after = ap (λ l. l ++ statement_rests before.assertion stmt (items rest ++ after)) (sequence_list rest after)
+
+pub parts_more : (parts : List Sequence) (part : Sequence) → parts_rests (parts ++ part ∷ []) ≡ parts_rests parts ++ sequence_rests part []
+parts_more [] part = append-nil (sequence_rests part [])
+parts_more (q ∷ parts) part =
+    ap (λ l. sequence_rests q [] ++ l) (parts_more parts part) ∙ sym (append_assoc (sequence_rests q []) (parts_rests parts) (sequence_rests part []))
+
+pub push_table : (ps : List Point) (p : Point) → rests_of (ps ++ p ∷ []) ≡ rests_of ps ++ rest_of_point (rests_of ps) p ∷ []
+push_table ps p = from_push ([] ∷ []) ps p
+
+-- more after more
+pub then_more : (a b c d e : List Rest) → b ≡ a ++ d → c ≡ b ++ e → c ≡ a ++ (d ++ e)
+then_more a b c d e g h = h ∙ ap (λ l. l ++ e) g ∙ append_assoc a d e

@@ -2,10 +2,10 @@
 
 ghost use Rattle.std.specs.Prelude.{◌≡◌, ◌++◌, ◌∷◌, ◌≤◌, [], IfOk, IfSome, IfNone, length, map, option_map, slice_get};
 ghost use Rattle.std.specs.List.{AllByRecursion};
-ghost use Rattle.og_typed.specs.Plain.{item_pair, sequence};
+ghost use Rattle.og_typed.specs.Plain.{formula, item_pair, sequence, statement};
 ghost use Rattle.og_typed.specs.Machine.{is_empty};
 ghost use Rattle.og_typed.specs.Syntax.{items, part_items};
-ghost use Rattle.og_flow.specs.Points.{rest_at, passed};
+ghost use Rattle.og_flow.specs.Points.{rest_at, passed, statement_rests, sequence_rests, part_rests, parts_rests, point_rests};
 ghost use Rattle.og_flow.specs.Table.{rests_of, IsLinked, IsGrown};
 
 use og_typed::{Item, Outline, Seq, Stmt};
@@ -91,6 +91,8 @@ fn add_item<'a>(points: &mut Vec<Point<'a>>, item: &'a Item, after: u32) -> Resu
     ensures grown { IfOk result (λ at. IsGrown points.old.items points.new.items) }
     ensures place { IfOk result (λ at. at ≤ length points.new.items) }
     ensures rest { IfOk result (λ at. rest_at (rests_of points.new.items) at ≡ item_pair item.now ∷ rest_at (rests_of points.old.items) after) }
+    ensures table { IfOk result (λ at. rests_of points.new.items ≡ rests_of points.old.items
+        ++ statement_rests (formula item.now.before.assertion) (statement item.now.stmt) (rest_at (rests_of points.old.items) after)) }
 {
     match &item.stmt {
         Stmt::Skip | Stmt::Assign(..) | Stmt::Await(..) => {
@@ -128,6 +130,8 @@ fn add_seq<'a>(points: &mut Vec<Point<'a>>, seq: &'a Seq, after: u32) -> Result<
     ensures grown { IfOk result (λ at. IsGrown points.old.items points.new.items) }
     ensures place { IfOk result (λ at. at ≤ length points.new.items) }
     ensures rest { IfOk result (λ at. rest_at (rests_of points.new.items) at ≡ items (sequence seq.now) ++ rest_at (rests_of points.old.items) after) }
+    ensures table { IfOk result (λ at. rests_of points.new.items ≡ rests_of points.old.items
+        ++ sequence_rests (sequence seq.now) (rest_at (rests_of points.old.items) after)) }
 {
     let mut at = after;
     let mut left = seq.items.len();
@@ -143,6 +147,7 @@ fn add_part<'a>(points: &mut Vec<Point<'a>>, part: Option<&'a Seq>) -> Result<u3
     ensures grown { IfOk result (λ at. IsGrown points.old.items points.new.items) }
     ensures place { IfOk result (λ at. at ≤ length points.new.items) }
     ensures rest { IfOk result (λ at. rest_at (rests_of points.new.items) at ≡ part_items (option_map (λ q. sequence q.now) part.entry)) }
+    ensures table { IfOk result (λ at. rests_of points.new.items ≡ rests_of points.old.items ++ part_rests (option_map (λ q. sequence q.now) part.entry)) }
 {
     match part {
         Some(seq) => {
@@ -162,6 +167,7 @@ fn add_parts<'a>(
     ensures grown { IfOk result (λ v. IsGrown points.old.items points.new.items) }
     ensures places { IfOk result (λ v. AllByRecursion (λ at. at ≤ length points.new.items) v.items) }
     ensures rests { IfOk result (λ v. map (rest_at (rests_of points.new.items)) v.items ≡ map items (map sequence parts.now)) }
+    ensures table { IfOk result (λ v. rests_of points.new.items ≡ rests_of points.old.items ++ parts_rests (map sequence parts.now)) }
 {
     let mut all = Vec::new(alloc);
     for seq in parts {
@@ -177,6 +183,7 @@ fn add_parts<'a>(
 ///
 /// An allocation was refused, or there are more than 4294967295 points.
 pub fn begin<'a>(alloc: Global, outline: &'a Outline) -> Result<Beginning<'a>, AllocError>
+    ensures points { IfOk result (λ b. b.points ≡ point_rests outline.now) }
     ensures prologue { IfOk result (λ b. rest_at b.points b.prologue ≡ part_items outline.now.prologue) }
     ensures rests { IfOk result (λ b. map (rest_at b.points) b.rests.items ≡ map items outline.now.processes) }
     ensures epilogue { IfOk result (λ b. rest_at b.points b.epilogue ≡ part_items outline.now.epilogue) }

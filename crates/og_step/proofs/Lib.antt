@@ -1,8 +1,8 @@
 pub mod Readable
 pub mod Actions
-pub mod Nesting
-pub mod Stack
 pub mod Usable
 pub mod Rests
 pub mod Moments
 pub mod Stuck
+pub mod Keys
+pub mod Active

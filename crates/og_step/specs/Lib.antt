@@ -1,6 +1,6 @@
 pub mod Readable
 pub mod Actions
-pub mod Stack
+pub mod Keys
 pub mod Faults
 pub mod Turns
 pub mod Progress

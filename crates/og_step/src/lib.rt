@@ -1,10 +1,9 @@
 //! The steps of an outline: truth at a state, and moments that step.
 #![tactic(auto)]
 
-mod depth;
 mod fault;
+mod key;
 mod moment;
-mod todo;
 mod truth;
 mod turn;
 mod values;

@@ -1,11 +1,12 @@
-//! One step of what is left.
+//! One step of what is left at a point.
 
 ghost use Rattle.std.specs.Prelude.{◌≡◌, ◌≤◌, length};
+ghost use Rattle.og_flow.specs.Points.{rest_at};
 ghost use Rattle.og_step.specs.Turns.{AreUsable, rest_turn, IsStep};
 
-use crate::todo::Todo;
 use crate::truth::evaluate;
 use crate::values::Values;
+use og_flow::Points;
 use og_typed::Stmt;
 
 /// What came of a step.
@@ -23,42 +24,26 @@ pub enum Turn {
     Early,
 }
 
-// One step of what is left. Takes no memory.
-pub(crate) fn step_rest<'a>(todo: &mut Todo<'a>, values: &mut Values) -> Turn
+// One step of what is left at a point, and the point after it. Takes no memory.
+pub(crate) fn step_rest(points: &Points, at: &mut u32, values: &mut Values) -> Turn
     requires short { length values.old ≤ 256 }
-    requires usable { AreUsable (length values.old) todo.old }
-    ensures turn { result ≡ rest_turn values.old todo.old }
-    ensures step { IsStep result (values.old, todo.old) (values.new, todo.new) }
+    requires usable { AreUsable (length values.old) (rest_at points.now at.old) }
+    ensures turn { result ≡ rest_turn values.old (rest_at points.now at.old) }
+    ensures step { IsStep result (values.old, rest_at points.now at.old) (values.new, rest_at points.now at.new) }
 {
-    let Some(item) = todo.head() else {
+    let Some(item) = points.item(*at) else {
         return Turn::Done;
     };
     match &item.stmt {
-        Stmt::Skip => todo.leave(),
+        Stmt::Skip => *at = points.next(*at, true),
         Stmt::Assign(var, form) => {
             if !values.assign(*var, form) {
                 return Turn::Overflow;
             }
-            todo.leave();
+            *at = points.next(*at, true);
         }
-        Stmt::If(test, branch, other) => {
-            if evaluate(test, values.state()) {
-                todo.branch(branch);
-            } else {
-                match other {
-                    Some(seq) => todo.branch(seq),
-                    None => todo.leave(),
-                }
-            }
-        }
-        Stmt::While(test, body) => {
-            if evaluate(test, values.state()) {
-                todo.repeat(body);
-            } else {
-                // The loop has ended.
-                todo.leave();
-            }
-        }
+        Stmt::If(test, ..) => *at = points.next(*at, evaluate(test, values.state())),
+        Stmt::While(test, _) => *at = points.next(*at, evaluate(test, values.state())),
         Stmt::Await(guard, body) => {
             if !evaluate(guard, values.state()) {
                 return Turn::Waits;
@@ -66,7 +51,7 @@ pub(crate) fn step_rest<'a>(todo: &mut Todo<'a>, values: &mut Values) -> Turn
             if !values.attempt(body) {
                 return Turn::Overflow;
             }
-            todo.leave();
+            *at = points.next(*at, true);
         }
     }
     Turn::Moved

@@ -1,6 +1,6 @@
 //! The values of the variables, with room to make the values of an await.
 
-ghost use Rattle.std.specs.Prelude.{◌≡◌, ◌++◌, ℕ, ◌<◌, ◌≤◌, true, false, length, map, IfOk, if◌then◌else◌};
+ghost use Rattle.std.specs.Prelude.{◌≡◌, ◌++◌, ◌+◌, ℕ, ◌<◌, ◌≤◌, true, false, length, map, IfOk, if◌then◌else◌};
 ghost use Rattle.std.specs.List.{AllByRecursion};
 ghost use Rattle.og_linear.specs.Linear.{put, val, value_at, fits_i64};
 ghost use Rattle.og_typed.specs.Machine.{act, all_fit};
@@ -95,6 +95,29 @@ fn settle(from: &State, to: &mut State, body: &[Basic])
     }
 }
 
+// The variables from this number on get these values.
+fn put_from(state: &mut State, from: usize, values: &[i64])
+    requires short { length state.old ≤ 256 }
+    requires inside { from + length values.now ≤ length state.old }
+    ensures long { length state.new ≡ length state.old }
+    ensures put { (x : ℕ) → x < length values.now → value_at state.new (from + x) ≡ value_at values.now x }
+    ensures before { (x : ℕ) → x < from → value_at state.new x ≡ value_at state.old x }
+{
+    for (x, value) in values.iter().enumerate() {
+        state.set((from + x) as u32, *value);
+    }
+}
+
+// The variables get the first values, and then the second.
+fn put_both(state: &mut State, first: &[i64], second: &[i64])
+    requires short { length state.old ≤ 256 }
+    requires long { length first.now + length second.now ≡ length state.old }
+    ensures { state.new ≡ first.now ++ second.now }
+{
+    put_from(state, 0, first);
+    put_from(state, first.len(), second);
+}
+
 impl Values {
     /// The state that begins with the first values and ends with the second.
     pub(crate) fn new(alloc: Global, first: &[i64], second: &[i64]) -> Result<Values, AllocError>
@@ -110,6 +133,17 @@ impl Values {
         ensures { result.now ≡ self.now }
     {
         &self.state
+    }
+
+    /// The state that begins with the first values and ends with the second, as many as there
+    /// were. Takes no memory.
+    pub(crate) fn restart(&mut self, first: &[i64], second: &[i64])
+        requires short { length self.old ≤ 256 }
+        requires long { length first.now + length second.now ≡ length self.old }
+        ensures { self.new ≡ first.now ++ second.now }
+    {
+        put_both(&mut self.state, first, second);
+        put_both(&mut self.spare, first, second);
     }
 
     /// The assignment, where its value fits.

@@ -3,6 +3,7 @@ use Rattle.og_typed.specs.Plain.{item_pair}
 use Rattle.og_typed.specs.declared.statement.Seq.{out-Seq}
 use Rattle.og_flow.specs.Points.{rest_at}
 use Rattle.og_flow.specs.Table.{rests_of, IsGrown}
+use Rattle.og_flow.proofs.Tables.{list_rests}
 use Rattle.og_flow.proofs.points.+points.Given as goal
 
 abbrev pub decreases-add_item : goal.decreases-add_item
@@ -17,6 +18,7 @@ invariant-add_seq-loop-left l = record {
   grown : IsGrown l.fn.points.items l.points.items;
   known : l.at ≤ length l.points.items;
   rest : rest_at (rests_of l.points.items) l.at ≡ map item_pair (drop l.left ((out-Seq l.seq).items.items)) ++ rest_at (rests_of l.fn.points.items) l.fn.after;
+  table : rests_of l.points.items ≡ rests_of l.fn.points.items ++ list_rests (map item_pair (drop l.left ((out-Seq l.seq).items.items))) (rest_at (rests_of l.fn.points.items) l.fn.after);
 }
 
 abbrev pub decreases-add_seq-loop-left : goal.decreases-add_seq-loop-left

@@ -4,9 +4,9 @@ use Rattle.std.proofs.lemmas.List.{map_push, take_more}
 use Rattle.og_typed.specs.Plain.{sequence}
 use Rattle.og_typed.specs.Syntax.{items}
 use Rattle.og_typed.proofs.Each.{each_append}
-use Rattle.og_flow.specs.Points.{rest_at}
+use Rattle.og_flow.specs.Points.{rest_at, sequence_rests, parts_rests}
 use Rattle.og_flow.specs.Table.{rests_of}
-use Rattle.og_flow.proofs.Tables.{of_end, grown_none, grown_both, grown_rests, grown_places}
+use Rattle.og_flow.proofs.Tables.{of_end, grown_none, grown_both, grown_rests, grown_places, parts_more, then_more}
 use Rattle.og_flow.proofs.points.add_parts.Goals as goal
 
 pub loop-seq-init : goal.loop-seq-init
@@ -14,6 +14,7 @@ loop-seq-init c = record {
   grown = grown_none c.args.points.now.items;
   places = subst (AllByRecursion (λ at. at ≤ length c.args.points.now.items)) (sym c.new-all.ensures.items) tt;
   rests = ap (map (rest_at (rests_of c.args.points.now.items))) c.new-all.ensures.items;
+  table = sym (append-nil (rests_of c.args.points.now.items));
 }
 
 pub loop-seq-preserved : goal.loop-seq-preserved
@@ -38,4 +39,10 @@ loop-seq-preserved c =
           ∙ sym (ap (λ l. map items (map sequence l)) taken
           ∙ ap (map items) (map_push sequence (take i parts) seq)
           ∙ map_push items (map sequence (take i parts)) (sequence seq));
+      table = then_more (rests_of c.args.points.now.items) (rests_of old) (rests_of new) _ _ c.loop-seq.invariant.table
+          (c.in_ok-at.ensures.table ∙ ap (λ r. rests_of old ++ sequence_rests (sequence seq) r) (of_end old))
+          ∙ ap (λ l. rests_of c.args.points.now.items ++ l)
+          (sym (ap (λ l. parts_rests (map sequence l)) taken
+          ∙ ap parts_rests (map_push sequence (take i parts) seq)
+          ∙ parts_more (map sequence (take i parts)) (sequence seq)));
     }

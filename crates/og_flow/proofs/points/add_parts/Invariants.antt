@@ -1,8 +1,8 @@
-use Rattle.std.proofs.Common.{◌≡◌, ◌≤◌, length, map, take}
+use Rattle.std.proofs.Common.{◌≡◌, ◌≤◌, ◌++◌, length, map, take}
 use Rattle.std.specs.List.{AllByRecursion}
 use Rattle.og_typed.specs.Plain.{sequence}
 use Rattle.og_typed.specs.Syntax.{items}
-use Rattle.og_flow.specs.Points.{rest_at}
+use Rattle.og_flow.specs.Points.{rest_at, parts_rests}
 use Rattle.og_flow.specs.Table.{rests_of, IsGrown}
 use Rattle.og_flow.proofs.points.add_parts.Given as goal
 
@@ -11,4 +11,5 @@ invariant-loop-seq l = record {
   grown : IsGrown l.fn.points.items l.points.items;
   places : AllByRecursion (λ at. at ≤ length l.points.items) l.all.items;
   rests : map (rest_at (rests_of l.points.items)) l.all.items ≡ map items (map sequence (take l.seq-index l.parts));
+  table : rests_of l.points.items ≡ rests_of l.fn.points.items ++ parts_rests (map sequence (take l.seq-index l.parts));
 }
