@@ -152,8 +152,13 @@ fn false_ones<'a>(
     Ok(found)
 }
 
-// The conjuncts of the assertion that are false, of which there are some.
-fn false_in<'a>(
+/// The conjuncts of the assertion that are false, of which there are some.
+///
+/// # Errors
+///
+/// `Open` where a value leaves 128 bits, or no conjunct is false. `Memory` where an allocation was
+/// refused.
+pub fn false_in<'a>(
     alloc: Global,
     note: &'a Note,
     after: &Values,

@@ -14,6 +14,6 @@ mod stands;
 mod unexplained;
 
 pub use actor::Actors;
-pub use explaining::explain;
+pub use explaining::{explain, false_in};
 pub use explanation::{Explanation, Fault, Stand, Test};
 pub use unexplained::Unexplained;

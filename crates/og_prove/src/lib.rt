@@ -12,5 +12,7 @@ mod sentences;
 mod telling;
 
 pub use block::{Block, put_block};
+pub use lines::{put_false, put_quoted, put_too_large};
 pub use reporting::{is_safe, is_unblocked, report};
+pub use sentences::put_part;
 pub use telling::{Told, tell};

@@ -39,8 +39,12 @@ fn put_place(text: &mut Vec<u8>, word: &[u8], places: &Places, at: u32) -> Resul
     text.extend_from_slice(b": ")
 }
 
-// A word, a place, and the source there.
-fn put_quoted(
+/// Adds a word, a place, and the source there, in a line after two blanks.
+///
+/// # Errors
+///
+/// An allocation was refused; the text has what it had, and perhaps a part of this.
+pub fn put_quoted(
     text: &mut Vec<u8>,
     word: &[u8],
     source: &[u8],
@@ -191,8 +195,12 @@ fn put_false_line(
     text.extend_from_slice(b"\n")
 }
 
-// The false conjuncts.
-fn put_false(
+/// Adds a line for each false conjunct of the assertion at the byte offset `at`, after two blanks.
+///
+/// # Errors
+///
+/// An allocation was refused; the text has what it had, and perhaps a part of this.
+pub fn put_false(
     text: &mut Vec<u8>,
     names: &[Name],
     places: &Places,
@@ -207,8 +215,12 @@ fn put_false(
     Ok(())
 }
 
-// The value that is too large.
-fn put_too_large(
+/// Adds the value that is too large, in a line after two blanks.
+///
+/// # Errors
+///
+/// An allocation was refused; the text has what it had, and perhaps a part of this.
+pub fn put_too_large(
     text: &mut Vec<u8>,
     names: &[Name],
     var: u32,

@@ -9,8 +9,12 @@ use og_listing::put_number;
 use og_places::Part;
 use std::alloc::AllocError;
 
-// Adds who makes a step, at the head of a sentence or within it.
-pub(crate) fn put_part(text: &mut Vec<u8>, head: bool, part: Part) -> Result<(), AllocError>
+/// Adds who makes a step, at the head of a sentence or within it.
+///
+/// # Errors
+///
+/// An allocation was refused; the text has what it had, and perhaps a part of this.
+pub fn put_part(text: &mut Vec<u8>, head: bool, part: Part) -> Result<(), AllocError>
     ensures { OnOk result (text.new.items ≡ text.old.items ++ part_text head part) }
 {
     match (head, part) {

@@ -1,0 +1,19 @@
+//! What is told of an exploration: each finding with the run that leads there, and the totals.
+//!
+//! specs/Findings.antt says what is promised of a finding; specs/Table.antt, Texts.antt and
+//! Totals.antt define the texts.
+#![tactic(auto)]
+
+mod blaming;
+mod faults;
+mod finding;
+mod rows;
+mod table;
+mod telling;
+mod texts;
+mod totals;
+
+pub use finding::{Blame, Did, Fault, Finding, Row};
+pub use telling::tell;
+pub use texts::report;
+pub use totals::{Found, Totals};
