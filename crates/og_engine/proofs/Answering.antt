@@ -22,7 +22,8 @@ use Rattle.og_judge.specs.Proven.{IsProvenSource}
 use Rattle.og_judge.specs.NeverStuck.{IsNeverStuckSource}
 use Rattle.og_report.specs.Yes.{SaysUnblocked}
 use Rattle.og_pool.specs.declared.fault.PoolFault.{PoolFault}
-use Rattle.og_engine.specs.Answers.{report_in, status_of, IsOutput, IsChecked, Writes}
+use Rattle.og_engine.specs.Answers.{report_in, status_of, IsOutput, IsChecked}
+use Rattle.og_engine.specs.Written.{Writes}
 use Rattle.og_engine.specs.Commands.{HasTooMany}
 use Rattle.og_engine.specs.Making.{HasCertificates, IsFoundText, IsFoundOf}
 use Rattle.og_engine.specs.Warrants.{Warrants}

@@ -1,7 +1,5 @@
 -- What is printed for a source and certificates, and the status.
-use Rattle.std.specs.Prelude.{◌≡◌, ◌⊎◌, ℕ, Bool, true, false, if◌then◌else◌, List, [], ◌∷◌, ◌++◌, Option}
-use Rattle.std.specs.Io.KnownBytes.{Appends}
-use Rattle.og_input.specs.Joined.{IsSplit}
+use Rattle.std.specs.Prelude.{◌≡◌, ◌⊎◌, ℕ, Bool, true, false, if◌then◌else◌, List, [], ◌∷◌, ◌++◌}
 use Rattle.og_typed.specs.Syntax.{Program}
 use Rattle.og_judge.specs.declared.entry.Entry.{Entry}
 use Rattle.og_judge.specs.Entries.{is_safe}
@@ -11,7 +9,6 @@ use Rattle.og_report.specs.Json.{json_text}
 use Rattle.og_answer.specs.Line.{refused_line}
 use Rattle.og_answer.specs.declared.answer.Answer.{Answer}
 use Rattle.og_answer.specs.declared.fault.InputFault.{InputFault}
-use Rattle.og_engine.specs.Warrants.{Warrants}
 
 -- JSON with an LF, or text
 abbrev pub report_in : Bool → List ℕ → List Entry → List ℕ
@@ -42,12 +39,3 @@ IsOutput json source certs text status = IsJudged json source certs text status 
 
 abbrev pub IsChecked : Bool → List ℕ → List ℕ → Answer → Type 0
 IsChecked json source certs answer = IsOutput json source certs answer.text.items answer.status
-
--- the answer goes to the end of what the writer holds, and says this of the source
-abbrev pub Writes : Bool → List ℕ → List ℕ → Option (List ℕ) → Option (List ℕ) → ℕ → Type 0
-Writes json source certs before after status =
-    (text : List ℕ) × IsOutput json source certs text status × Warrants json source text status × Appends before after text
-
--- the answer for the one split of the input
-abbrev pub WritesJoined : Bool → List ℕ → Option (List ℕ) → Option (List ℕ) → ℕ → Type 0
-WritesJoined json input before after status = (source certs : List ℕ) × IsSplit input source certs × Writes json source certs before after status

@@ -10,3 +10,4 @@ pub mod Proving
 pub mod Wrote
 pub mod Unfinished
 pub mod Warrants
+pub mod Written

@@ -3,7 +3,7 @@
 ghost use Rattle.std.specs.Prelude.{◌≡◌, ◌≢◌, ◌<◌, IfOk, IfErr, IfSome, Some};
 ghost use Rattle.std.specs.Io.KnownBytes.{Consumes, Keeps};
 ghost use Rattle.og_engine.specs.Inputs.{source_of, certs_of, joined_of, Reads};
-ghost use Rattle.og_engine.specs.Answers.{Writes, WritesJoined};
+ghost use Rattle.og_engine.specs.Written.{Writes, WritesJoined};
 ghost use Rattle.og_engine.specs.NeverStuck.{HasNeverStuckSource};
 ghost use Rattle.og_engine.specs.Proven.{HasProvenSource};
 ghost use Rattle.og_engine.specs.Wrote.{Wrote};

@@ -2,7 +2,7 @@
 use Rattle.std.proofs.Common.{◌≡◌, ◌≢◌, refl, inl, inr, ℕ, Bool, false, List, Option, None, Some, Result, Ok, Err, IfOk, IfErr, Bor, subst, sym}
 use Rattle.std.specs.Io.KnownBytes.{Appends, Keeps}
 use Rattle.og_answer.specs.declared.answer.Answer.{Answer}
-use Rattle.og_engine.specs.Answers.{Writes, WritesJoined}
+use Rattle.og_engine.specs.Written.{Writes, WritesJoined}
 use Rattle.og_engine.specs.Inputs.{source_of, certs_of, joined_of, Reads}
 use Rattle.og_engine.specs.Unfinished.{AppendsFront}
 use Rattle.og_engine.specs.declared.fault.EngineFault.{EngineFault}

@@ -2,7 +2,7 @@
 
 ghost use Rattle.std.specs.Prelude.{◌≡◌, ◌≢◌, ◌<◌, ◌||◌, true, false, map, Err, IfOk, IfErr};
 ghost use Rattle.std.specs.Io.KnownBytes.{Keeps};
-ghost use Rattle.og_engine.specs.Answers.{Writes, WritesJoined};
+ghost use Rattle.og_engine.specs.Written.{Writes, WritesJoined};
 ghost use Rattle.og_engine.specs.Inputs.{source_of, certs_of, joined_of, Reads};
 ghost use Rattle.og_engine.specs.Unfinished.{WritesFront, WritesJoinedFront};
 ghost use Rattle.og_running.specs.Running.{IsRan, IsRanProved, HasStart, HasProvedStart};
