@@ -1,0 +1,3 @@
+pub mod Told
+pub mod Explored
+pub mod Words

@@ -1,0 +1,129 @@
+//! The answer of an exploration of an outline.
+
+ghost use Rattle.std.specs.Prelude.{◌≡◌, ◌≤◌, ◌^◌, length, map, true, None, IfOk, IfSome};
+ghost use Rattle.std.specs.List.{AllByRecursion};
+ghost use Rattle.og_cond.specs.Seen.{seen};
+ghost use Rattle.og_exploring.specs.Totals.{safe_of, unblocked_of};
+ghost use Rattle.og_explorer.specs.Told.{IsOneFinding, AreViolations};
+ghost use Rattle.og_explorer.specs.Explored.{is_yes, status_of, IsExplored};
+ghost use Rattle.og_exploring.specs.declared.totals.Found.TheVariants as yes_or_no;
+
+use crate::told::{Told, add};
+use og_answer::Answer;
+use og_cond::Condition;
+use og_explore::{Exploration, Range, explore};
+use og_exploring::{Finding, Found, Totals, report};
+use og_places::Index;
+use og_typed::Outline;
+use std::alloc::{AllocError, Global};
+
+// The ends of the ranges.
+fn ends(alloc: Global, ranges: &[Range]) -> Result<Vec<(i64, i64)>, AllocError>
+    ensures { IfOk result (λ v. v.items ≡ ranges.now) }
+{
+    let mut ends = Vec::new(alloc);
+    for range in ranges {
+        ends.push((range.low(), range.high()))?;
+    }
+    Ok(ends)
+}
+
+// What is told of all that was found.
+fn told_of<'a>(
+    alloc: Global,
+    outline: &'a Outline,
+    index: &Index<'a>,
+    conditions: &[Condition],
+    found: &Exploration,
+) -> Result<Told<'a>, AllocError>
+    requires found { AreViolations outline.now found.now }
+    ensures each { IfOk result (λ told. AllByRecursion (IsOneFinding outline.now (map seen conditions.now)) told.findings.items) }
+    ensures safe { IfOk result (λ told. safe_of told.complete told.findings.items ≡ yes_or_no.Yes
+        → (found.now.complete ≡ true) × (found.now.assertion ≡ None) × (found.now.overflow ≡ None) × (found.now.post ≡ None)) }
+    ensures unblocked { IfOk result (λ told. unblocked_of told.complete told.findings.items ≡ yes_or_no.Yes
+        → (found.now.complete ≡ true) × (found.now.stuck ≡ None)) }
+{
+    let mut told = Told {
+        findings: Vec::new(alloc),
+        complete: found.complete,
+    };
+    add(
+        &mut told,
+        alloc,
+        outline,
+        index,
+        conditions,
+        &found.assertion,
+    )?;
+    add(
+        &mut told,
+        alloc,
+        outline,
+        index,
+        conditions,
+        &found.overflow,
+    )?;
+    add(&mut told, alloc, outline, index, conditions, &found.post)?;
+    add(&mut told, alloc, outline, index, conditions, &found.stuck)?;
+    Ok(told)
+}
+
+// Whether the answer is yes.
+fn is_yes(found: Found) -> bool
+    ensures { result ≡ is_yes found }
+{
+    match found {
+        Found::Yes => true,
+        Found::No => false,
+        Found::Open => false,
+    }
+}
+
+// 0 where both answers are yes.
+fn status_of(totals: &Totals, findings: &[Finding]) -> u8
+    ensures { result ≡ status_of totals.now findings.now }
+{
+    if is_yes(totals.safe(findings)) && is_yes(totals.unblocked(findings)) {
+        0
+    } else {
+        1
+    }
+}
+
+/// What is printed of an exploration of the outline from all starts within the ranges, at most
+/// `limit` moments, and the status: 0 where all was explored and nothing found, else 1; none where
+/// no start was found, of which nothing is promised. `conditions` are the outline's, or none.
+///
+/// # Errors
+///
+/// An allocation was refused.
+pub fn answer(
+    alloc: Global,
+    outline: &Outline,
+    source: &[u8],
+    conditions: &[Condition],
+    ranges: &[Range],
+    limit: u32,
+) -> Result<Option<Answer>, AllocError>
+    requires short { length source.now ≤ 2 ^ 20 }
+    requires ranges { length ranges.now ≡ outline.now.vars }
+    ensures { IfOk result (λ found. IfSome found (IsExplored outline.now source.now (map seen conditions.now) ranges.now)) }
+{
+    outline.follows_rule();
+    let found = explore(alloc, outline, ranges, limit)?;
+    if found.starts == 0 {
+        return Ok(None);
+    }
+    let index = Index::new(alloc, outline)?;
+    let told = told_of(alloc, outline, &index, conditions, &found)?;
+    let totals = Totals {
+        starts: u64::from(found.starts),
+        given: ends(alloc, ranges)?,
+        moments: u64::from(found.moments),
+        complete: told.complete,
+    };
+    Ok(Some(Answer {
+        text: report(alloc, outline, source, &totals, &told.findings)?,
+        status: status_of(&totals, &told.findings),
+    }))
+}

@@ -1,0 +1,42 @@
+//! The violations that were found, as they are told.
+
+ghost use Rattle.std.specs.Prelude.{◌≡◌, map, IfSome, OnOk};
+ghost use Rattle.og_cond.specs.Seen.{seen};
+ghost use Rattle.og_violation.specs.Violations.{IsViolation};
+ghost use Rattle.og_explorer.specs.Told.{IsAdded};
+
+use og_cond::Condition;
+use og_exploring::{Finding, tell};
+use og_places::Index;
+use og_typed::Outline;
+use og_violation::Violation;
+use std::alloc::{AllocError, Global};
+
+/// What is told, and whether nothing else was found.
+#[derive(Debug, Drop)]
+pub(crate) struct Told<'a> {
+    pub(crate) findings: Vec<Finding<'a>>,
+    pub(crate) complete: bool,
+}
+
+/// Adds what was found, where something was. What can't be told makes the answer incomplete.
+pub(crate) fn add<'a>(
+    told: &mut Told<'a>,
+    alloc: Global,
+    outline: &'a Outline,
+    index: &Index<'a>,
+    conditions: &[Condition],
+    found: &Option<Violation>,
+) -> Result<(), AllocError>
+    requires { IfSome found.now (IsViolation outline.now) }
+    ensures { OnOk result (IsAdded outline.now (map seen conditions.now) found.now told.old told.new) }
+{
+    let Some(violation) = found else {
+        return Ok(());
+    };
+    match tell(alloc, outline, index, conditions, violation)? {
+        Some(finding) => told.findings.push(finding)?,
+        None => told.complete = false,
+    }
+    Ok(())
+}
