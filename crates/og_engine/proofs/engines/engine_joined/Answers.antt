@@ -10,10 +10,17 @@ pub returns-clause-answer : goal.returns-clause-answer
 returns-clause-answer g c =
     let source = c.split.result.0.now in
     let certs = c.split.result.1.now in
-    let cut = subst (λ (i : List ℕ). IsSplit i source certs) c.deref.ensures.value c.split.ensures in
-    (c.in_ok-input.input.items, c.in_ok-input.ensures.text, (source, certs, cut,
-    written c.args.options.json source certs c.in_ok-answer.answer c.in_ok-status.status _ _ c.in_ok-answer.ensures.answer c.in_ok-answer.ensures.sound
-    c.in_ok-answer.ensures.unblocked c.in_ok-status.ensures.status c.in_ok-status.ensures.written))
+    let cut = subst (λ (i : List ℕ). IsSplit i source certs) c.deref.ensures.value c.split.ensures in (
+      c.in_ok-input.input.items,
+      c.in_ok-input.ensures.text,
+      (
+        source,
+        certs,
+        cut,
+        written c.args.options.json source certs c.in_ok-answer.answer c.in_ok-status.status _ _ c.in_ok-answer.ensures.answer c.in_ok-answer.ensures.sound
+            c.in_ok-answer.ensures.unblocked c.in_ok-status.ensures.status c.in_ok-status.ensures.written,
+      ),
+    )
 
 pub returns-clause-sound : goal.returns-clause-sound
 returns-clause-sound g c = λ zero.
@@ -28,11 +35,18 @@ returns-clause-unblocked g c = λ zero wrote.
     let source = c.split.result.0.now in
     let certs = c.split.result.1.now in
     let answer = c.in_ok-answer.answer in
-    let cut = subst (λ (i : List ℕ). IsSplit i source certs) c.deref.ensures.value c.split.ensures in
-    (c.in_ok-input.input.items, c.in_ok-input.ensures.text, (source, certs, cut,
-    wrote_unblocked json source answer.text.items _ _ c.in_ok-status.status
-    (warranted json source answer.text.items answer.status c.in_ok-status.status c.in_ok-answer.ensures.sound c.in_ok-answer.ensures.unblocked c.in_ok-status.ensures.status)
-    c.in_ok-status.ensures.written zero wrote))
+    let cut = subst (λ (i : List ℕ). IsSplit i source certs) c.deref.ensures.value c.split.ensures in (
+      c.in_ok-input.input.items,
+      c.in_ok-input.ensures.text,
+      (
+        source,
+        certs,
+        cut,
+        wrote_unblocked json source answer.text.items _ _ c.in_ok-status.status
+            (warranted json source answer.text.items answer.status c.in_ok-status.status c.in_ok-answer.ensures.sound c.in_ok-answer.ensures.unblocked c.in_ok-status.ensures.status)
+            c.in_ok-status.ensures.written zero wrote,
+      ),
+    )
 
 pub returns-clause-input : goal.returns-clause-input
 returns-clause-input g c = consumed joined_of _ _ c.in_ok-input.input.items c.in_ok-input.ensures.text c.in_ok-input.ensures.consumed
@@ -43,5 +57,13 @@ returns-in_err-status-clause-unfinished g c =
     let certs = c.split.result.1.now in
     let answer = c.in_ok-answer.answer in
     let cut = subst (λ (i : List ℕ). IsSplit i source certs) c.deref.ensures.value c.split.ensures in
-    of_failed_write _ _ (c.in_ok-input.input.items, c.in_ok-input.ensures.text, (source, certs, cut,
-    (answer.text.items, answer.status, c.in_ok-answer.ensures.answer, (c.in_ok-answer.ensures.sound, c.in_ok-answer.ensures.unblocked), c.in_err-status.ensures.unfinished)))
+    of_failed_write _ _ (
+      c.in_ok-input.input.items,
+      c.in_ok-input.ensures.text,
+      (
+        source,
+        certs,
+        cut,
+        (answer.text.items, answer.status, c.in_ok-answer.ensures.answer, (c.in_ok-answer.ensures.sound, c.in_ok-answer.ensures.unblocked), c.in_err-status.ensures.unfinished),
+      ),
+    )
