@@ -19,7 +19,8 @@ use Rattle.og_input.specs.Joined.{IsSplit}
 use Rattle.og_judge.specs.Proven.{IsProvenSource}
 use Rattle.og_judge.specs.NeverStuck.{IsNeverStuckSource}
 use Rattle.og_report.specs.Yes.{SaysUnblocked}
-use Rattle.og_running.specs.Running.{IsRan, IsRanProved, HasStart, HasProvedStart}
+use Rattle.og_running.specs.Running.{note_of, IsRan, IsRanProved, IsScheduled, HasStart, HasProvedStart}
+use Rattle.og_running.specs.declared.reply.Ran.{Ran}
 use Rattle.og_running.specs.declared.reply.Reply.{Reply}
 use Rattle.og_running.specs.declared.reply.Reply.TheVariants as replies
 use Rattle.og_words.specs.Jobs.{IsAsked}
@@ -28,28 +29,34 @@ use Rattle.og_words.specs.declared.job.Job.TheVariants as jobs
 use Rattle.og_words.specs.declared.job.Usage.{Usage}
 use Rattle.og_words.specs.declared.job.Usage.TheVariants as usages
 use Rattle.og_program.specs.Named.{source_in, is_file, lacks_source}
-use Rattle.og_program.specs.Told.{bad_value_text, Complains, IsSilent, Fails, FailsToWrite}
+use Rattle.og_program.specs.Told.{bad_value_text, Complains, IsSilent, Notes, Fails, FailsToWrite}
 use Rattle.og_program.specs.declared.ended.Ended.{Ended}
 
--- the reply to a run, which certificates have to prove safe where they are given
-abbrev pub RanAs : (List ℕ → Option (List ℕ)) → Option (List ℕ) → ℕ → Bool → Option (Bor (List ℕ)) → List (List ℕ) → Reply → Type 0
-RanAs files source limit erased None words reply = Reads source_of source (λ s. IsRan erased limit s words reply)
-RanAs files source limit erased (Some certs) words reply = Reads source_of source (λ s. Reads certs_of (files certs.now) (λ c. IsRanProved limit s c words reply))
+-- the reply to a run: by threads, where certificates prove it safe if they are given, or else by a schedule if one is
+abbrev pub RanAs : (List ℕ → Option (List ℕ)) → Option (List ℕ) → ℕ → Bool → Option (Bor (List ℕ)) → Option (Bor (List ℕ)) → List (List ℕ) → Reply → Type 0
+RanAs files source limit erased None None words reply = Reads source_of source (λ s. IsRan erased limit s words reply)
+RanAs files source limit erased None (Some schedule) words reply = Reads source_of source (λ s. IsScheduled erased s words schedule.now reply)
+RanAs files source limit erased (Some certs) schedule words reply =
+    Reads source_of source (λ s. Reads certs_of (files certs.now) (λ c. IsRanProved limit s c words reply))
 
 -- Q of the text and the status of a check, and what they say of the source
-abbrev pub Checks : Bool → List ℕ → List ℕ → (List ℕ → ℕ → Type 0) → Type 0
-Checks json source certs Q = (text : List ℕ) × (status : ℕ) × IsOutput json source certs text status × Warrants json source text status × Q text status
+abbrev pub Checks : Bool → List ℕ → List ℕ → (List ℕ → ℕ → Option (List ℕ) → Type 0) → Type 0
+Checks json source certs Q = (text : List ℕ) × (status : ℕ) × IsOutput json source certs text status × Warrants json source text status × Q text status None
 
 -- Q of the text and the status of an answer such as P says
-abbrev pub Gives : (Answer → Type 0) → (List ℕ → ℕ → Type 0) → Type 0
-Gives P Q = (answer : Answer) × P answer × Q answer.text.items answer.status
+abbrev pub Gives : (Answer → Type 0) → (List ℕ → ℕ → Option (List ℕ) → Type 0) → Type 0
+Gives P Q = (answer : Answer) × P answer × Q answer.text.items answer.status None
+
+-- of what is told of a run, with its line for standard error
+abbrev pub Tells : (Ran → Type 0) → (List ℕ → ℕ → Option (List ℕ) → Type 0) → Type 0
+Tells P Q = (ran : Ran) × P ran × Q ran.answer.text.items ran.answer.status (note_of ran)
 
 -- what searches tell of the conditions of a source, and what that says of it
 abbrev pub IsProvedAnswer : Bool → List ℕ → Answer → Type 0
 IsProvedAnswer json source answer = IsProving json source answer × Warrants json source answer.text.items answer.status
 
--- Q of the text and the status that a job answers, by the bytes that were read of its files
-abbrev pub Answers : (List ℕ → Option (List ℕ)) → Option (List ℕ) → Job → (List ℕ → ℕ → Type 0) → Type 0
+-- Q of the text and the status that a job answers, and of its line for standard error, by the bytes that were read of its files
+abbrev pub Answers : (List ℕ → Option (List ℕ)) → Option (List ℕ) → Job → (List ℕ → ℕ → Option (List ℕ) → Type 0) → Type 0
 Answers files input jobs.Joined Q = Reads joined_of input (λ i. (source certs : List ℕ) × IsSplit i source certs × Checks false source certs Q)
 Answers files input (jobs.Prove source budget workers json) Q = Gives (λ answer. Reads source_of (source_in files input source.now) (λ s. IsProvedAnswer json s answer)) Q
 Answers files input (jobs.Check source certs workers json) Q =
@@ -57,17 +64,18 @@ Answers files input (jobs.Check source certs workers json) Q =
 Answers files input (jobs.Conditions source) Q = Gives (λ answer. Reads source_of (source_in files input source.now) (λ s. IsListed s answer)) Q
 Answers files input (jobs.Find source budget workers) Q = Gives (λ answer. Reads source_of (source_in files input source.now) (λ s. IsFound s answer)) Q
 Answers files input (jobs.Erase source) Q = Gives (λ answer. Reads source_of (source_in files input source.now) (λ s. IsErased s answer)) Q
-Answers files input (jobs.Run source limit erased certs values) Q =
-    Gives (λ answer. RanAs files (source_in files input source.now) limit erased certs (map (λ w. w.now) values.items) (replies.Answer answer)) Q
+Answers files input (jobs.Run source limit erased certs schedule values) Q =
+    Tells (λ ran. RanAs files (source_in files input source.now) limit erased certs schedule (map (λ w. w.now) values.items) (replies.Told ran)) Q
 Answers files input (jobs.Migrate certs) Q = Gives (λ answer. Reads certs_of (files certs.now) (λ c. IsMigrated c answer)) Q
 
--- a job's answer goes to the end of what standard output holds, and its status is the program's
-abbrev pub Does : (List ℕ → Option (List ℕ)) → Option (List ℕ) → Job → Option (List ℕ) → Option (List ℕ) → ℕ → Type 0
-Does files input job before after status = Answers files input job (λ text told. Appends before after text × (status ≡ told))
+-- a job's answer goes to the end of what standard output holds, its status is the program's, and its line goes to standard error
+abbrev pub Does : (List ℕ → Option (List ℕ)) → Option (List ℕ) → Job → Option (List ℕ) → Option (List ℕ) → Option (List ℕ) → Option (List ℕ) → Ended → Type 0
+Does files input job out out_after err err_after ended =
+    Answers files input job (λ text status note. Appends out out_after text × (ended.status ≡ status) × Notes note err err_after ended)
 
 -- a front of a job's answer goes there
 abbrev pub Leaves : (List ℕ → Option (List ℕ)) → Option (List ℕ) → Job → Option (List ℕ) → Option (List ℕ) → Type 0
-Leaves files input job before after = Answers files input job (λ text told. AppendsFront before after text)
+Leaves files input job before after = Answers files input job (λ text status note. AppendsFront before after text)
 
 -- there is known to be no file of the certificates of a run, where they are given
 abbrev pub lacks_certs : (List ℕ → Bool) → Option (Bor (List ℕ)) → Bool
@@ -82,7 +90,7 @@ lacks missing (jobs.Check source certs workers json) = lacks_source missing sour
 lacks missing (jobs.Conditions source) = lacks_source missing source.now
 lacks missing (jobs.Find source budget workers) = lacks_source missing source.now
 lacks missing (jobs.Erase source) = lacks_source missing source.now
-lacks missing (jobs.Run source limit erased certs values) = lacks_source missing source.now || lacks_certs missing certs
+lacks missing (jobs.Run source limit erased certs schedule values) = lacks_source missing source.now || lacks_certs missing certs
 lacks missing (jobs.Migrate certs) = missing certs.now
 
 -- whether the job is told to read standard input, which else is left as it is
@@ -93,10 +101,16 @@ reads_input (jobs.Check source certs workers json) = not (is_file source.now)
 reads_input (jobs.Conditions source) = not (is_file source.now)
 reads_input (jobs.Find source budget workers) = not (is_file source.now)
 reads_input (jobs.Erase source) = not (is_file source.now)
-reads_input (jobs.Run source limit erased certs values) = not (is_file source.now)
+reads_input (jobs.Run source limit erased certs schedule values) = not (is_file source.now)
 reads_input (jobs.Migrate certs) = false
 
--- the text that says why a job cannot be done: a word of a run gives no value
+-- the text that says why a run cannot be made: a word gives no value or no steps, or a step cannot be made
+abbrev pub RefusesAs : Reply → List ℕ → Type 0
+RefusesAs (replies.Told ran) text = ⊥
+RefusesAs (replies.BadValue word) text = text ≡ bad_value_text word.now
+RefusesAs (replies.NotMade line) text = text ≡ line.items
+
+-- that a job cannot be done
 abbrev pub Refuses : (List ℕ → Option (List ℕ)) → Option (List ℕ) → Job → List ℕ → Type 0
 Refuses files input jobs.Joined text = ⊥
 Refuses files input (jobs.Prove source budget workers json) text = ⊥
@@ -104,14 +118,15 @@ Refuses files input (jobs.Check source certs workers json) text = ⊥
 Refuses files input (jobs.Conditions source) text = ⊥
 Refuses files input (jobs.Find source budget workers) text = ⊥
 Refuses files input (jobs.Erase source) text = ⊥
-Refuses files input (jobs.Run source limit erased certs values) text =
-    (word : Bor (List ℕ)) × RanAs files (source_in files input source.now) limit erased certs (map (λ w. w.now) values.items) (replies.BadValue word) × (text ≡ bad_value_text word.now)
+Refuses files input (jobs.Run source limit erased certs schedule values) text =
+    (reply : Reply) × RanAs files (source_in files input source.now) limit erased certs schedule (map (λ w. w.now) values.items) reply × RefusesAs reply text
 Refuses files input (jobs.Migrate certs) text = ⊥
 
--- a thread can be wanting for a run: its values are a start, of what its certificates prove safe where they are given
-abbrev pub StartsAs : (List ℕ → Option (List ℕ)) → Option (List ℕ) → Bool → Option (Bor (List ℕ)) → List (List ℕ) → Type 0
-StartsAs files source erased None words = Reads source_of source (λ s. HasStart erased s words)
-StartsAs files source erased (Some certs) words = Reads source_of source (λ s. Reads certs_of (files certs.now) (λ c. HasProvedStart s c words))
+-- a thread can be wanting for a run that has no schedule: its values are a start, of what its certificates prove safe where they are given
+abbrev pub StartsAs : (List ℕ → Option (List ℕ)) → Option (List ℕ) → Bool → Option (Bor (List ℕ)) → Option (Bor (List ℕ)) → List (List ℕ) → Type 0
+StartsAs files source erased None None words = Reads source_of source (λ s. HasStart erased s words)
+StartsAs files source erased None (Some schedule) words = ⊥
+StartsAs files source erased (Some certs) schedule words = Reads source_of source (λ s. Reads certs_of (files certs.now) (λ c. HasProvedStart s c words))
 
 -- a thread can be wanting for a job: for a search or a check by two workers or more, and for such a run
 abbrev pub StartsThreads : (List ℕ → Option (List ℕ)) → Option (List ℕ) → Job → Type 0
@@ -121,14 +136,14 @@ StartsThreads files input (jobs.Check source certs workers json) = 1 < workers
 StartsThreads files input (jobs.Conditions source) = ⊥
 StartsThreads files input (jobs.Find source budget workers) = 1 < workers
 StartsThreads files input (jobs.Erase source) = ⊥
-StartsThreads files input (jobs.Run source limit erased certs values) = StartsAs files (source_in files input source.now) erased certs (map (λ w. w.now) values.items)
+StartsThreads files input (jobs.Run source limit erased certs schedule values) = StartsAs files (source_in files input source.now) erased certs schedule (map (λ w. w.now) values.items)
 StartsThreads files input (jobs.Migrate certs) = ⊥
 
 -- how the program ends where it is given a job: with the job's answer, with a word that is refused, or with a fault;
 -- a failed write leaves a front of the answer, and a thread is wanting only where the job has one started
 abbrev pub EndsJob : (List ℕ → Option (List ℕ)) → Option (List ℕ) → Job → Option (List ℕ) → Option (List ℕ) → Option (List ℕ) → Option (List ℕ) → Ended → Type 0
 EndsJob files input job out out_after err err_after ended =
-    (Does files input job out out_after ended.status × IsSilent err err_after ended)
+    Does files input job out out_after err err_after ended
     ⊎ ((text : List ℕ) × Refuses files input job text × Keeps out out_after × Complains text 3 err err_after ended)
     ⊎ ((fault : EngineFault) × (fault ≡ faults.WriteFailed → Leaves files input job out out_after) × (fault ≡ faults.Spawn → StartsThreads files input job)
     × Fails fault out out_after err err_after ended)
@@ -158,7 +173,7 @@ IsProvenIn files input (jobs.Check source certs workers json) = Reads source_of 
 IsProvenIn files input (jobs.Conditions source) = ⊤
 IsProvenIn files input (jobs.Find source budget workers) = ⊤
 IsProvenIn files input (jobs.Erase source) = ⊤
-IsProvenIn files input (jobs.Run source limit erased certs values) = IsProvenRun (source_in files input source.now) certs
+IsProvenIn files input (jobs.Run source limit erased certs schedule values) = IsProvenRun (source_in files input source.now) certs
 IsProvenIn files input (jobs.Migrate certs) = ⊤
 
 -- it never gets stuck, where what was written says that it is unblocked
@@ -171,7 +186,7 @@ IsNeverStuckIn files input before after (jobs.Check source certs workers json) =
 IsNeverStuckIn files input before after (jobs.Conditions source) = ⊤
 IsNeverStuckIn files input before after (jobs.Find source budget workers) = ⊤
 IsNeverStuckIn files input before after (jobs.Erase source) = ⊤
-IsNeverStuckIn files input before after (jobs.Run source limit erased certs values) = ⊤
+IsNeverStuckIn files input before after (jobs.Run source limit erased certs schedule values) = ⊤
 IsNeverStuckIn files input before after (jobs.Migrate certs) = ⊤
 
 -- how the program ends where it is given words: as what they ask for ends

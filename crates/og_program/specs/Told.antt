@@ -1,10 +1,12 @@
 -- What is written of an answer, a fault or wrong words, and how the program ends.
-use Rattle.std.specs.Prelude.{◌≡◌, ◌≢◌, ◌⊎◌, ℕ, Bool, true, false, List, ◌++◌, Option, codes}
+use Rattle.std.specs.Prelude.{◌≡◌, ◌≢◌, ◌⊎◌, ℕ, Bool, true, false, List, ◌++◌, Option, None, Some, codes}
 use Rattle.std.specs.Io.KnownBytes.{Appends, Keeps}
 use Rattle.og_answer.specs.declared.answer.Answer.{Answer}
 use Rattle.og_engine.specs.Unfinished.{AppendsFront}
 use Rattle.og_engine.specs.declared.fault.EngineFault.{EngineFault}
 use Rattle.og_engine.specs.declared.fault.EngineFault.TheVariants as faults
+use Rattle.og_running.specs.Running.{note_of}
+use Rattle.og_running.specs.declared.reply.Ran.{Ran}
 use Rattle.og_running.specs.declared.reply.Reply.{Reply}
 use Rattle.og_running.specs.declared.reply.Reply.TheVariants as replies
 use Rattle.og_program.specs.declared.ended.Ended.{Ended}
@@ -31,6 +33,11 @@ Complains text status before after ended = (ended.status ≡ status) × IsWritte
 abbrev pub IsSilent : Option (List ℕ) → Option (List ℕ) → Ended → Type 0
 IsSilent before after ended = Keeps before after × (ended.told ≡ true)
 
+-- the line for standard error goes there, where there is one
+abbrev pub Notes : Option (List ℕ) → Option (List ℕ) → Option (List ℕ) → Ended → Type 0
+Notes None before after ended = IsSilent before after ended
+Notes (Some line) before after ended = IsWritten ended.told line before after
+
 -- a file cannot be read or written, memory runs out or a thread cannot be started; only a failed write changes standard output
 abbrev pub Fails : EngineFault → Option (List ℕ) → Option (List ℕ) → Option (List ℕ) → Option (List ℕ) → Ended → Type 0
 Fails fault out out_after err err_after ended = (fault ≢ faults.WriteFailed → Keeps out out_after) × Complains (fault_text fault) 4 err err_after ended
@@ -50,7 +57,14 @@ abbrev pub TellsBadValue : List ℕ → Option (List ℕ) → Option (List ℕ) 
 TellsBadValue word before after ended =
     Complains (bad_value_text word) 3 before after ended ⊎ Complains (fault_text faults.Memory) 4 before after ended
 
--- the answer, or that word
+-- the answer of a run in the same way, and its line goes to standard error
+abbrev pub TellsRan : Ran → Option (List ℕ) → Option (List ℕ) → Option (List ℕ) → Option (List ℕ) → Ended → Type 0
+TellsRan ran out out_after err err_after ended =
+    (Appends out out_after ran.answer.text.items × (ended.status ≡ ran.answer.status) × Notes (note_of ran) err err_after ended)
+    ⊎ FailsToWrite ran.answer.text.items out out_after err err_after ended
+
+-- the answer, that word, or the line of a step that cannot be made
 abbrev pub TellsReply : Reply → Option (List ℕ) → Option (List ℕ) → Option (List ℕ) → Option (List ℕ) → Ended → Type 0
-TellsReply (replies.Answer answer) out out_after err err_after ended = TellsAnswer answer out out_after err err_after ended
+TellsReply (replies.Told ran) out out_after err err_after ended = TellsRan ran out out_after err err_after ended
 TellsReply (replies.BadValue word) out out_after err err_after ended = Keeps out out_after × TellsBadValue word.now err err_after ended
+TellsReply (replies.NotMade line) out out_after err err_after ended = Keeps out out_after × Complains line.items 3 err err_after ended

@@ -7,7 +7,7 @@ ghost use Rattle.og_program.specs.Told.{Fails};
 use crate::commands::{conditions, erase, migrate};
 use crate::ended::Ended;
 use crate::files::Files;
-use crate::program::Program;
+use crate::program::{Program, Way};
 use crate::telling::{fail, finish, refuse, reply, tell};
 use og_answer::Answer;
 use og_engine::{EngineFault, Options, Search};
@@ -72,9 +72,15 @@ impl<'r, F: Files, H: Threads + Wait + Sync> Program<'r, F, H> {
                 limit,
                 erased,
                 certs,
+                schedule,
                 values,
             } => {
-                let ran = self.run(source, *certs, values, *limit, *erased, input);
+                let way = Way {
+                    limit: *limit,
+                    erased: *erased,
+                    schedule: *schedule,
+                };
+                let ran = self.run(source, *certs, values, &way, input);
                 reply(alloc, ran, out, err)
             }
         }

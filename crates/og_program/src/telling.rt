@@ -1,12 +1,12 @@
 //! What is told of an answer, a fault or wrong words.
 
-ghost use Rattle.std.specs.Prelude.{◌≡◌, IfOk, IfErr};
-ghost use Rattle.og_program.specs.Told.{fault_text, Complains, IsSilent, Fails, TellsAnswer, TellsBadValue, TellsReply};
+ghost use Rattle.std.specs.Prelude.{◌≡◌, option_map, IfOk, IfErr};
+ghost use Rattle.og_program.specs.Told.{fault_text, Complains, IsSilent, Notes, Fails, TellsAnswer, TellsBadValue, TellsRan, TellsReply};
 
 use crate::ended::Ended;
 use og_answer::Answer;
 use og_engine::{EngineFault, write_answer, write_text};
-use og_running::Reply;
+use og_running::{Ran, Reply};
 use std::alloc::Global;
 use std::io::Write;
 
@@ -17,10 +17,10 @@ const WRONG: u8 = 3;
 const FAULT: u8 = 4;
 
 // Ends with a text on standard error.
-fn complain<E: Write>(text: &str, status: u8, err: &mut E) -> Ended
+fn complain<E: Write>(text: &[u8], status: u8, err: &mut E) -> Ended
     ensures { Complains text.now status (E.contents err.old) (E.contents err.new) result }
 {
-    match write_text(err, text.as_bytes()) {
+    match write_text(err, text) {
         Ok(()) => Ended { status, told: true },
         Err(_) => Ended {
             status,
@@ -33,7 +33,7 @@ fn complain<E: Write>(text: &str, status: u8, err: &mut E) -> Ended
 pub(crate) fn refuse<E: Write>(text: &str, err: &mut E) -> Ended
     ensures { Complains text.now 3 (E.contents err.old) (E.contents err.new) result }
 {
-    complain(text, WRONG, err)
+    complain(text.as_bytes(), WRONG, err)
 }
 
 /// Ends with a fault.
@@ -46,7 +46,7 @@ pub(crate) fn fail<E: Write>(fault: EngineFault, err: &mut E) -> Ended
         EngineFault::ReadFailed => "og: read failed\n",
         EngineFault::WriteFailed => "og: write failed\n",
     };
-    complain(text, FAULT, err)
+    complain(text.as_bytes(), FAULT, err)
 }
 
 /// Ends with the status of an answer that was written, or with a fault.
@@ -95,6 +95,27 @@ fn refuse_value<E: Write>(alloc: Global, word: &str, err: &mut E) -> Ended
     }
 }
 
+// Writes the line for standard error, where there is one.
+fn note<E: Write>(line: Option<&[u8]>, status: u8, err: &mut E) -> Ended
+    ensures status { result.status ≡ status }
+    ensures told { Notes (option_map (λ l. l.now) line.entry) (E.contents err.old) (E.contents err.new) result }
+{
+    match line {
+        Some(line) => complain(line, status, err),
+        None => Ended { status, told: true },
+    }
+}
+
+// Prints the answer of a run, and then its line for standard error, which changes nothing else.
+fn print_ran<O: Write, E: Write>(ran: &Ran, out: &mut O, err: &mut E) -> Ended
+    ensures { TellsRan ran.now (O.contents out.old) (O.contents out.new) (E.contents err.old) (E.contents err.new) result }
+{
+    match write_answer(out, &ran.answer) {
+        Ok(status) => note(ran.note.as_deref(), status, err),
+        Err(_) => fail(EngineFault::WriteFailed, err),
+    }
+}
+
 /// Tells what came of a run.
 pub(crate) fn reply<O: Write, E: Write>(
     alloc: Global,
@@ -106,8 +127,9 @@ pub(crate) fn reply<O: Write, E: Write>(
     ensures err { IfErr reply.entry (λ fault. Fails fault (O.contents out.old) (O.contents out.new) (E.contents err.old) (E.contents err.new) result) }
 {
     match reply {
-        Ok(Reply::Answer(answer)) => print(&answer, out, err),
+        Ok(Reply::Told(ran)) => print_ran(&ran, out, err),
         Ok(Reply::BadValue(word)) => refuse_value(alloc, word, err),
+        Ok(Reply::NotMade(line)) => complain(&line, WRONG, err),
         Err(fault) => fail(fault, err),
     }
 }

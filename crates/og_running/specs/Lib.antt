@@ -1,3 +1,5 @@
 pub mod Words
 pub mod Texts
+pub mod Schedules
+pub mod Asked
 pub mod Running

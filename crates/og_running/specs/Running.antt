@@ -1,5 +1,5 @@
 -- What `run` answers, and in which order its faults come.
-use Rattle.std.specs.Prelude.{◌≡◌, ◌≢◌, ◌⊎◌, ℕ, ℤ, Bool, true, false, if◌then◌else◌, List, codes, None, Some, ⊤}
+use Rattle.std.specs.Prelude.{◌≡◌, ◌≢◌, ◌⊎◌, ℕ, ℤ, Bool, true, false, if◌then◌else◌, List, length, codes, Option, option_map, None, Some, IfSome, ⊤}
 use Rattle.og_typed.specs.Syntax.{Program}
 use Rattle.og_typed.specs.Erase.{erased}
 use Rattle.og_theorem.specs.Sound.{IsSound, IsSoundErased}
@@ -23,7 +23,11 @@ use Rattle.og_answer.specs.Told.{Says, IsTold, IsUnread}
 use Rattle.og_answer.specs.declared.answer.Answer.{Answer}
 use Rattle.og_answer.specs.declared.fault.InputFault.{InputFault}
 use Rattle.og_running.specs.Words.{Give, IsBadIn}
-use Rattle.og_running.specs.Texts.{outcome_text, finish_status}
+use Rattle.og_running.specs.Texts.{outcome_text, finish_status, not_made_line}
+use Rattle.og_running.specs.Schedules.{IsSchedule, number_of, history_of, IsFirstHindered}
+use Rattle.og_running.specs.Asked.{IsStatementPlace, IsNote}
+use Rattle.og_running.specs.declared.hindrance.Hindrance.{Hindrance}
+use Rattle.og_running.specs.declared.reply.Ran.{Ran}
 use Rattle.og_running.specs.declared.reply.Reply.{Reply}
 use Rattle.og_running.specs.declared.reply.Reply.TheVariants as replies
 
@@ -53,62 +57,123 @@ pub record EndsAs (P : Outcome → Type 0) (g : Given) (a : Answer) : Type 0 whe
   pub more : P outcome
   pub told : Says (outcome_text g.outline outcome) (finish_status outcome.finish) a
 
+-- the line for standard error, if there is one
+abbrev pub note_of : Ran → Option (List ℕ)
+note_of r = option_map (λ line. line.items) r.note
+
+-- the answer, and no line
+abbrev pub IsQuiet : (Answer → Type 0) → Ran → Type 0
+IsQuiet P r = P r.answer × (note_of r ≡ None)
+
+-- an outcome such as P, with what is asked along its history
+abbrev pub EndsAsked : (Outcome → Type 0) → List ℕ → Given → Ran → Type 0
+EndsAsked P source g r = EndsAs (λ outcome. P outcome × IsNote source g.outline g.values outcome.history.items (note_of r)) g r.answer
+
 -- the outcome of a run, or why there is none
-abbrev pub Tells : Given → Answer → Type 0
-Tells g a = StartsNot g a ⊎ EndsAs (λ _. ⊤) g a
+abbrev pub Tells : List ℕ → Given → Ran → Type 0
+Tells source g r = IsQuiet (StartsNot g) r ⊎ EndsAsked (λ _. ⊤) source g r
 
 -- the same, of an outline that was proved
-abbrev pub TellsProved : Given → Bool → Answer → Type 0
-TellsProved g unblocked a = StartsNot g a ⊎ EndsAs (IsProvedOutcome g unblocked) g a
+abbrev pub TellsProved : List ℕ → Given → Bool → Ran → Type 0
+TellsProved source g unblocked r = IsQuiet (StartsNot g) r ⊎ EndsAsked (IsProvedOutcome g unblocked) source g r
 
 -- every run of the outline is as promised, with its auxiliaries and without them
 abbrev pub IsProven : Program → Type 0
 IsProven o = IsSound o × IsSoundErased o
 
 -- where the texts are read, but not safe, that is said; else every run is as promised, and the values are no start, or the outcome of a run is told
-abbrev pub TellsJudged : List Entry → Given → Answer → Type 0
-TellsJudged entries g a =
-    ((is_safe entries ≡ false) × Says (codes "not safe\n") 1 a)
-    ⊎ ((is_safe entries ≡ true) × IsProven g.outline × TellsProved g (is_unblocked entries) a)
+abbrev pub TellsJudged : List ℕ → List Entry → Given → Ran → Type 0
+TellsJudged source entries g r =
+    ((is_safe entries ≡ false) × IsQuiet (Says (codes "not safe\n") 1) r)
+    ⊎ ((is_safe entries ≡ true) × IsProven g.outline × TellsProved source g (is_unblocked entries) r)
 
 -- ---- the order of the faults
 
+-- P of what is told of a run
+abbrev pub OnTold : (Ran → Type 0) → Reply → Type 0
+OnTold P (replies.Told ran) = P ran
+OnTold P (replies.BadValue word) = ⊥
+OnTold P (replies.NotMade line) = ⊥
+
 -- the source has no outline; or a word gives no value
 abbrev pub IsEarly : List ℕ → List (List ℕ) → Reply → Type 0
-IsEarly source words (replies.Answer a) = IsUnread source a
+IsEarly source words (replies.Told ran) = IsQuiet (IsUnread source) ran
 IsEarly source words (replies.BadValue word) = (o : Program) × IsSource source o × IsBadIn o words word.now
+IsEarly source words (replies.NotMade line) = ⊥
 
--- neither, and then the answer is one of these
-pub record Goes (P : Program → List ℤ → Answer → Type 0) (source : List ℕ) (words : List (List ℕ)) (r : Reply) : Type 0 where
+-- neither, and then the reply is one of these
+pub record Goes (P : Program → List ℤ → Reply → Type 0) (source : List ℕ) (words : List (List ℕ)) (r : Reply) : Type 0 where
   pub outline : Program
   pub values : List ℤ
-  pub answer : Answer
   pub read : IsSource source outline
   pub given : Give outline words values
-  pub is : r ≡ replies.Answer answer
-  pub told : P outline values answer
+  pub told : P outline values r
+
+-- the program that runs: the outline, or it without auxiliaries
+abbrev pub program_of : Bool → Program → Program
+program_of without_auxiliaries o = if without_auxiliaries then erased o else o
 
 -- the outcome of a run of the source's outline, with its auxiliaries or without them
 abbrev pub IsRan : Bool → ℕ → List ℕ → List (List ℕ) → Reply → Type 0
 IsRan without_auxiliaries limit source words r =
     IsEarly source words r
-    ⊎ Goes (λ o values a. Tells (given (if without_auxiliaries then erased o else o) values limit) a) source words r
+    ⊎ Goes (λ o values reply. OnTold (Tells source (given (program_of without_auxiliaries o) values limit)) reply) source words r
 
 -- a refusal of the outline with the certificates; or what is told of its judgement
-abbrev pub IsRefusedOrJudged : List ℕ → List ℕ → Program → List ℤ → ℕ → Answer → Type 0
-IsRefusedOrJudged source certs o values limit a =
-    ((why : InputFault) × AreRefused certs o why × IsTold source why a)
-    ⊎ ((entries : List Entry) × AreEntries certs o entries × TellsJudged entries (given o values limit) a)
+abbrev pub IsRefusedOrJudged : List ℕ → List ℕ → Program → List ℤ → ℕ → Ran → Type 0
+IsRefusedOrJudged source certs o values limit r =
+    ((why : InputFault) × AreRefused certs o why × IsQuiet (IsTold source why) r)
+    ⊎ ((entries : List Entry) × AreEntries certs o entries × TellsJudged source entries (given o values limit) r)
 
 -- the outcome of a run of the source's outline, which the certificates prove safe
 abbrev pub IsRanProved : ℕ → List ℕ → List ℕ → List (List ℕ) → Reply → Type 0
 IsRanProved limit source certs words r =
-    IsEarly source words r ⊎ Goes (λ o values a. IsRefusedOrJudged source certs o values limit a) source words r
+    IsEarly source words r ⊎ Goes (λ o values reply. OnTold (IsRefusedOrJudged source certs o values limit) reply) source words r
 
 -- the answer is that of a run: its status is 0, or 1 with another text than `not safe`
 abbrev pub IsOfRun : Reply → Type 0
-IsOfRun (replies.Answer a) = (a.status ≡ 0) ⊎ ((a.status ≡ 1) × (a.text.items ≢ codes "not safe\n"))
+IsOfRun (replies.Told ran) = (ran.answer.status ≡ 0) ⊎ ((ran.answer.status ≡ 1) × (ran.answer.text.items ≢ codes "not safe\n"))
 IsOfRun (replies.BadValue word) = ⊥
+IsOfRun (replies.NotMade line) = ⊥
+
+-- ---- by a schedule
+
+-- the run whose history is exactly these steps, or why there is none
+abbrev pub TellsSteps : List ℕ → Given → List ℕ → Ran → Type 0
+TellsSteps source g steps r = IsQuiet (StartsNot g) r ⊎ EndsAsked (λ outcome. outcome.history.items ≡ history_of g.outline steps) source g r
+
+-- the line of a step that cannot be made
+pub record TellsHindrance (source : List ℕ) (o : Program) (made process : ℕ) (why : Hindrance) (line : List ℕ) : Type 0 where
+  pub place : Option ℕ
+  pub there : IfSome place (IsStatementPlace o (number_of o process))
+  pub told : line ≡ not_made_line source made process why place
+
+-- of the first that cannot
+pub record TellsNotMade (source : List ℕ) (g : Given) (steps : List ℕ) (line : List ℕ) : Type 0 where
+  pub begins : start_fault g.outline g.values ≡ None
+  pub made : ℕ
+  pub process : ℕ
+  pub why : Hindrance
+  pub first : IsFirstHindered g steps made process why
+  pub told : TellsHindrance source g.outline made process why line
+
+-- what comes of these steps
+abbrev pub IsStepped : List ℕ → Given → List ℕ → Reply → Type 0
+IsStepped source g steps (replies.Told ran) = TellsSteps source g steps ran
+IsStepped source g steps (replies.BadValue bad) = ⊥
+IsStepped source g steps (replies.NotMade line) = TellsNotMade source g steps line.items
+
+-- of a word that gives steps: that run, or that line; else the word is told
+abbrev pub Follows : List ℕ → List ℕ → Program → List ℤ → Reply → Type 0
+Follows source word o values (replies.Told ran) = (steps : List ℕ) × IsSchedule word steps × TellsSteps source (given o values (length steps)) steps ran
+Follows source word o values (replies.BadValue bad) = (bad.now ≡ word) × ((steps : List ℕ) → IsSchedule word steps → ⊥)
+Follows source word o values (replies.NotMade line) =
+    (steps : List ℕ) × IsSchedule word steps × TellsNotMade source (given o values (length steps)) steps line.items
+
+-- what comes of a schedule of the source's outline, with its auxiliaries or without them
+abbrev pub IsScheduled : Bool → List ℕ → List (List ℕ) → List ℕ → Reply → Type 0
+IsScheduled without_auxiliaries source words schedule r =
+    IsEarly source words r ⊎ Goes (λ o values reply. Follows source schedule (program_of without_auxiliaries o) values reply) source words r
 
 -- ---- where a thread can be wanting
 
@@ -123,7 +188,7 @@ pub record Has (P : Program → List ℤ → Type 0) (source : List ℕ) (words 
 -- the values are a start of the source's outline, with its auxiliaries or without them
 abbrev pub HasStart : Bool → List ℕ → List (List ℕ) → Type 0
 HasStart without_auxiliaries source words =
-    Has (λ o values. start_fault (if without_auxiliaries then erased o else o) values ≡ None) source words
+    Has (λ o values. start_fault (program_of without_auxiliaries o) values ≡ None) source words
 
 -- the certificates prove the outline safe
 abbrev pub IsSafeBy : List ℕ → Program → Type 0

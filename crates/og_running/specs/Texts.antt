@@ -1,11 +1,15 @@
 -- What is printed of a run.
-use Rattle.std.specs.Prelude.{ℕ, suc, ◌==◌, ℤ, Bool, true, false, if◌then◌else◌, List, [], ◌∷◌, length, codes}
+use Rattle.std.specs.Prelude.{ℕ, suc, Option, Some, None, ◌==◌, ℤ, Bool, true, false, if◌then◌else◌, List, [], ◌∷◌, length, codes}
 use Rattle.std.specs.Fmt.{decimal, signed_decimal}
-use Rattle.og_listing.specs.Places.{◌&◌}
+use Rattle.og_listing.specs.Places.{◌&◌, position_of, position_text}
 use Rattle.og_typed.specs.Syntax.{Program}
 use Rattle.og_board.specs.declared.outcome.Finish.{Finish}
 use Rattle.og_board.specs.declared.outcome.Finish.TheVariants.{Finished, Stuck, Limit, Overflow}
 use Rattle.og_board.specs.declared.outcome.Outcome.{Outcome}
+use Rattle.og_violation.specs.declared.violation.Wrong.{Wrong}
+use Rattle.og_violation.specs.declared.violation.Wrong.TheVariants as wrong
+use Rattle.og_running.specs.declared.hindrance.Hindrance.{Hindrance}
+use Rattle.og_running.specs.declared.hindrance.Hindrance.TheVariants as hindrances
 
 -- processes are counted from 1 in print; the main process, which has the number after the last, is 0
 abbrev pub printed_number : ℕ → ℕ → ℕ
@@ -56,3 +60,50 @@ finish_status Finished = 0
 finish_status Stuck = 1
 finish_status Limit = 1
 finish_status (Overflow p) = 1
+
+-- ---- the lines for standard error
+
+-- by the number under which it is printed
+abbrev pub process_text : ℕ → List ℕ
+process_text p = if p == 0 then codes "the main process" else codes "process " & decimal p
+
+-- the place in the source, where it is told
+abbrev pub place_text : List ℕ → Option ℕ → List ℕ
+place_text source None = []
+place_text source (Some at) = codes " at " & position_text (position_of source at)
+
+abbrev pub when_text : ℕ → List ℕ
+when_text steps = if steps == 0 then codes "at the start" else codes "after step " & decimal steps
+
+-- which assertion is false
+abbrev pub wrong_text : ℕ → Wrong → List ℕ
+wrong_text main (wrong.Assertion p) = codes "assertion of " & process_text (printed_number main p)
+wrong_text main (wrong.Overflow p) = []
+wrong_text main wrong.Post = codes "postcondition"
+wrong_text main wrong.Stuck = []
+
+-- an assertion is false after so many steps
+abbrev pub note_line : List ℕ → ℕ → Wrong → Option ℕ → ℕ → List ℕ
+note_line source main w place steps =
+    codes "run: the " & wrong_text main w & place_text source place & codes " is false " & when_text steps & codes "\n"
+
+abbrev pub no_process_text : ℕ → List ℕ
+no_process_text p = if p == 0 then codes "there is no main process" else codes "there is no process " & decimal p
+
+-- whose part of the program has not begun
+abbrev pub early_text : ℕ → List ℕ
+early_text p = if p == 0 then codes "the epilogue" else codes "process " & decimal p
+
+-- why the process that is printed as p has no step, and where it stands
+abbrev pub hindrance_text : List ℕ → ℕ → Hindrance → Option ℕ → List ℕ
+hindrance_text source p hindrances.NoProcess place = no_process_text p
+hindrance_text source p hindrances.Ended place = process_text p & codes " has ended"
+hindrance_text source p hindrances.Stuck place = codes "the program is stuck"
+hindrance_text source p hindrances.Early place = early_text p & codes " has not begun"
+hindrance_text source p hindrances.Waits place = process_text p & codes " waits" & place_text source place
+hindrance_text source p hindrances.Overflow place = process_text p & codes " overflows" & place_text source place
+
+-- the step after so many steps of a schedule cannot be made
+abbrev pub not_made_line : List ℕ → ℕ → ℕ → Hindrance → Option ℕ → List ℕ
+not_made_line source steps p why place =
+    codes "run: step " & decimal (suc steps) & codes " of the schedule cannot be made: " & hindrance_text source p why place & codes "\n"

@@ -1,10 +1,16 @@
 //! Running the program of a source: what is printed of it, and the status.
 #![tactic(auto)]
 
+mod asking;
+mod hindrance;
+mod lines;
 mod outcome;
 mod reply;
 mod running;
+mod schedule;
+mod stepping;
 mod words;
 
-pub use reply::Reply;
+pub use reply::{Ran, Reply};
 pub use running::{ran, ran_proved};
+pub use stepping::ran_by_schedule;

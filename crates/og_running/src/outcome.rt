@@ -9,8 +9,8 @@ use og_text::Name;
 use og_typed::Outline;
 use std::alloc::{AllocError, Global};
 
-// The number under which a process is printed.
-fn printed_number(main: usize, process: u32) -> u128
+/// The number under which a process is printed.
+pub(crate) fn printed_number(main: usize, process: u32) -> u128
     ensures { result ≡ printed_number main process }
 {
     if process as usize == main {

@@ -2,11 +2,22 @@
 
 use og_answer::Answer;
 
+/// What is told of a run.
+#[derive(Debug, Drop)]
+pub struct Ran {
+    /// What is printed, and the status.
+    pub answer: Answer,
+    /// The line for standard error: the first false assertion along the history, where there is one.
+    pub note: Option<Vec<u8>>,
+}
+
 /// What comes of running a program.
 #[derive(Debug, Drop)]
 pub enum Reply<'a> {
-    /// What is printed, and the status.
-    Answer(Answer),
-    /// The first word that gives no variable a value.
+    /// What is told of a run, or why there is none.
+    Told(Ran),
+    /// The first word that gives no variable a value, or a schedule that is no list of numbers.
     BadValue(&'a str),
+    /// The line that says which step of the schedule cannot be made, and why.
+    NotMade(Vec<u8>),
 }

@@ -1,8 +1,8 @@
 //! The answers of `run`.
 
-ghost use Rattle.std.specs.Prelude.{◌≡◌, ◌↔◌, true, map, if◌then◌else◌, None, Err, IfOk, IfErr};
-ghost use Rattle.og_typed.specs.Erase.{erased as erased_of};
-ghost use Rattle.og_answer.specs.Told.{Says};
+ghost use Rattle.std.specs.Prelude.{◌≡◌, ◌↔◌, true, map, None, Err, IfOk, IfErr, codes};
+ghost use Rattle.og_source.specs.Refused.{IsNotRead};
+ghost use Rattle.og_answer.specs.Told.{Says, IsUnread};
 ghost use Rattle.og_pool.specs.declared.fault.PoolFault.TheVariants.{Spawn};
 ghost use Rattle.og_run.specs.declared.fault.RunFault.TheVariants as faults;
 ghost use Rattle.og_run.specs.declared.fault.RunError.TheVariants as errors;
@@ -11,10 +11,11 @@ ghost use Rattle.og_judge.specs.Proven.{IsProvenSource};
 ghost use Rattle.og_judge.specs.Shown.{looked_at, found_of};
 ghost use Rattle.og_step.specs.Starts.{start_fault};
 ghost use Rattle.og_running.specs.Texts.{outcome_text, finish_status};
-ghost use Rattle.og_running.specs.Running.{given, fault_line, IsFaultTold, IsProven, Tells, TellsProved, TellsJudged, IsRefusedOrJudged, IsRan, IsRanProved, IsOfRun, IsSafeBy, HasStart, HasProvedStart};
+ghost use Rattle.og_running.specs.Running.{given, program_of, fault_line, IsFaultTold, IsProven, IsQuiet, Tells, TellsProved, TellsJudged, IsRefusedOrJudged, IsRan, IsRanProved, IsOfRun, IsSafeBy, HasStart, HasProvedStart};
 
+use crate::asking::{copy_of, note_on};
 use crate::outcome::{finish_status, outcome_text};
-use crate::reply::Reply;
+use crate::reply::{Ran, Reply};
 use crate::words::{WordsError, values};
 use og_answer::{Answer, put_opening};
 use og_erase::erase;
@@ -23,7 +24,7 @@ use og_limits::{RunLimit, Workers};
 use og_linear::State;
 use og_pool::PoolFault;
 use og_run::{Gate, OpenGate, Outcome, RunError, RunFault, run, run_proved};
-use og_source::Source;
+use og_source::{Source, SourceError};
 use og_typed::Outline;
 use std::alloc::{AllocError, Global};
 use std::sync::Wait;
@@ -39,8 +40,8 @@ fn fault_text(alloc: Global, fault: RunFault) -> Result<Vec<u8>, AllocError>
     Ok(text)
 }
 
-// The text of what came of a run, and the status.
-fn of_run(
+/// The text of what came of a run, and the status.
+pub(crate) fn of_run(
     alloc: Global,
     outline: &Outline,
     ended: Result<Outcome, RunError>,
@@ -63,6 +64,26 @@ fn of_run(
     }
 }
 
+// What is told of an outline that is not safe.
+fn not_safe(alloc: Global) -> Result<Ran, AllocError>
+    ensures { IfOk result (IsQuiet (Says (codes "not safe\n") 1)) }
+{
+    let answer = Answer {
+        text: Vec::from_slice(alloc, b"not safe\n")?,
+        status: 1,
+    };
+    Ok(Ran { answer, note: None })
+}
+
+/// What is told of a source that has no outline.
+pub(crate) fn unread(alloc: Global, error: &SourceError, bytes: &[u8]) -> Result<Ran, AllocError>
+    requires { IsNotRead bytes.now error.now }
+    ensures { IfOk result (IsQuiet (IsUnread bytes.now)) }
+{
+    let answer = Answer::unread(alloc, error, bytes)?;
+    Ok(Ran { answer, note: None })
+}
+
 /// What each run has, whatever runs: threads, memory, a limit, and who is told of its moves.
 #[derive(Clone, Copy)]
 struct Runner<'r, G, H> {
@@ -74,80 +95,84 @@ struct Runner<'r, G, H> {
 
 impl<'r, G: Gate, H: Threads + Wait + Sync> Runner<'r, G, H> {
     // Runs an outline.
-    fn run(&self, outline: &Outline, values: State) -> Result<Answer, PoolFault>
-        ensures told { IfOk result (Tells (given outline.now values self.now.limit)) }
+    fn run(&self, source: &Source, outline: &Outline, values: State) -> Result<Ran, PoolFault>
+        ensures told { IfOk result (Tells source.now.bytes (given outline.now values self.now.limit)) }
         ensures spawn { IfErr result (λ e. e ≡ Spawn → start_fault outline.now values ≡ None) }
     {
+        let kept = copy_of(self.alloc, &values)?;
         let limit = self.limit.steps();
         let ended = run(self.rt, self.alloc, outline, values, limit, self.gate);
-        of_run(self.alloc, outline, ended)
+        let note = note_on(self.alloc, source, outline, &kept, &ended)?;
+        let answer = of_run(self.alloc, outline, ended)?;
+        Ok(Ran { answer, note })
     }
 
     // Runs an outline, or its program without auxiliaries.
     fn run_program(
         &self,
+        source: &Source,
         outline: &Outline,
         erased: bool,
         values: State,
-    ) -> Result<Answer, PoolFault>
-        ensures told { IfOk result (Tells (given (if erased then erased_of outline.now else outline.now) values self.now.limit)) }
-        ensures spawn { IfErr result (λ e. e ≡ Spawn → start_fault (if erased then erased_of outline.now else outline.now) values ≡ None) }
+    ) -> Result<Ran, PoolFault>
+        ensures told { IfOk result (Tells source.now.bytes (given (program_of erased outline.now) values self.now.limit)) }
+        ensures spawn { IfErr result (λ e. e ≡ Spawn → start_fault (program_of erased outline.now) values ≡ None) }
     {
         if !erased {
-            return self.run(outline, values);
+            return self.run(source, outline, values);
         }
         let program = erase(self.alloc, outline)?;
-        self.run(program.outline(), values)
+        self.run(source, program.outline(), values)
     }
 
-    // Runs an outline that was proved.
-    #[tactic(auto, using(crate::proofs::Answering::proved_told))]
-    fn run_proved(&self, proved: &Proved<'_>, values: State) -> Result<Answer, PoolFault>
-        ensures told { IfOk result (TellsProved (given proved.now.0 values self.now.limit) proved.now.1) }
+    // Runs an outline that was proved: no assertion is false along its runs.
+    fn run_proved(
+        &self,
+        source: &Source,
+        proved: &Proved<'_>,
+        values: State,
+    ) -> Result<Ran, PoolFault>
+        ensures told { IfOk result (TellsProved source.now.bytes (given proved.now.0 values self.now.limit) proved.now.1) }
         ensures proven { IsProven proved.now.0 }
         ensures spawn { IfErr result (λ e. e ≡ Spawn → start_fault proved.now.0 values ≡ None) }
     {
         let limit = self.limit.steps();
         let ended = run_proved(self.rt, self.alloc, proved, values, limit, self.gate);
-        of_run(self.alloc, proved.outline(), ended)
+        let outline = proved.outline();
+        let answer = of_run(self.alloc, outline, ended)?;
+        Ok(Ran { answer, note: None })
     }
 
     // Runs an outline where what was found of it says that it is safe.
-    #[tactic(auto, using(crate::proofs::Answering::safe_told, crate::proofs::Answering::not_safe_told))]
     fn run_judged(
         &self,
+        source: &Source,
         outline: &Outline,
         findings: &Findings,
         values: State,
-    ) -> Result<Answer, PoolFault>
+    ) -> Result<Ran, PoolFault>
         requires { outline.now ≡ looked_at findings.now }
-        ensures told { IfOk result (TellsJudged (found_of findings.now) (given outline.now values self.now.limit)) }
+        ensures told { IfOk result (TellsJudged source.now.bytes (found_of findings.now) (given outline.now values self.now.limit)) }
         ensures spawn { IfErr result (λ e. e ≡ Spawn → (is_safe (found_of findings.now) ≡ true) × (start_fault outline.now values ≡ None)) }
     {
         match findings.proved(outline) {
-            Some(proved) => self.run_proved(&proved, values),
-            None => Ok(Answer {
-                text: Vec::from_slice(self.alloc, b"not safe\n")?,
-                status: 1,
-            }),
+            Some(proved) => self.run_proved(source, &proved, values),
+            None => Ok(not_safe(self.alloc)?),
         }
     }
 
     // Judges the outline of a source by the certificates, and runs it where it is safe.
-    #[tactic(auto, using(crate::proofs::Answering::judged_told, crate::proofs::Answering::refused_told))]
-    fn run_by_certs(
-        &self,
-        source: &Source,
-        certs: &[u8],
-        values: State,
-    ) -> Result<Answer, PoolFault>
+    fn run_by_certs(&self, source: &Source, certs: &[u8], values: State) -> Result<Ran, PoolFault>
         ensures told { IfOk result (IsRefusedOrJudged source.now.bytes certs.now source.now.outline values self.now.limit) }
         ensures spawn { IfErr result (λ e. e ≡ Spawn → IsSafeBy certs.now source.now.outline × (start_fault source.now.outline values ≡ None)) }
     {
         let outline = source.outline();
         match judge_outline(self.rt, self.alloc, outline, certs, Workers::ONE, &OpenGate) {
-            Ok(findings) => self.run_judged(outline, &findings, values),
-            Err(refusal) => refusal.answer(self.alloc, source.bytes()),
+            Ok(findings) => self.run_judged(source, outline, &findings, values),
+            Err(refusal) => {
+                let answer = refusal.answer(self.alloc, source.bytes())?;
+                Ok(Ran { answer, note: None })
+            }
         }
     }
 
@@ -164,8 +189,8 @@ impl<'r, G: Gate, H: Threads + Wait + Sync> Runner<'r, G, H> {
         let outline = source.outline();
         match values(self.alloc, outline, words) {
             Ok(values) => {
-                let answer = self.run_program(outline, erased, values)?;
-                Ok(Reply::Answer(answer))
+                let ran = self.run_program(source, outline, erased, values)?;
+                Ok(Reply::Told(ran))
             }
             Err(WordsError::Bad(word)) => Ok(Reply::BadValue(word)),
             Err(WordsError::Memory) => Err(PoolFault::Memory),
@@ -185,8 +210,8 @@ impl<'r, G: Gate, H: Threads + Wait + Sync> Runner<'r, G, H> {
     {
         match values(self.alloc, source.outline(), words) {
             Ok(values) => {
-                let answer = self.run_by_certs(source, certs, values)?;
-                Ok(Reply::Answer(answer))
+                let ran = self.run_by_certs(source, certs, values)?;
+                Ok(Reply::Told(ran))
             }
             Err(WordsError::Bad(word)) => Ok(Reply::BadValue(word)),
             Err(WordsError::Memory) => Err(PoolFault::Memory),
@@ -200,7 +225,8 @@ impl<'r, G: Gate, H: Threads + Wait + Sync> Runner<'r, G, H> {
 /// variables.
 ///
 /// The answer is the history, how the run ended and the state, with status 0 where all processes
-/// have ended and else 1; or the line of a refusal, with status 2. `BadValue` holds the first word
+/// have ended and else 1; or the line of a refusal, with status 2. The note says which assertion of
+/// what was run is false first along the history, where one is. `BadValue` holds the first word
 /// that gives no value: one without `=`, or whose name is no variable's, an auxiliary's, or one that
 /// a word before it has, or whose number is no `i64` in digits with or without a `-`.
 ///
@@ -234,7 +260,7 @@ pub fn ran<'a, G: Gate, H: Threads + Wait + Sync>(
             drop(source);
             reply
         }
-        Err(error) => Ok(Reply::Answer(Answer::unread(alloc, &error, source)?)),
+        Err(error) => Ok(Reply::Told(unread(alloc, &error, source)?)),
     }
 }
 
@@ -271,6 +297,6 @@ pub fn ran_proved<'a, G: Gate, H: Threads + Wait + Sync>(
             drop(source);
             reply
         }
-        Err(error) => Ok(Reply::Answer(Answer::unread(alloc, &error, source)?)),
+        Err(error) => Ok(Reply::Told(unread(alloc, &error, source)?)),
     }
 }

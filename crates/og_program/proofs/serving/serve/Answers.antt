@@ -19,5 +19,5 @@ returns-in-Ok-clause-unblocked g c =
 pub returns-in-Ok-clause-lacking : goal.returns-in-Ok-clause-lacking
 returns-in-Ok-clause-lacking g c =
     of_job (λ job. lacks (g.F.Files.is_missing c.args.files.now) job ≡ true
-        → Fails faults.ReadFailed (g.O.Write.contents c.args.out.now) (g.O.Write.contents c.perform.new.out) (g.E.Write.contents c.args.err.now) (g.E.Write.contents c.perform.new.err) c.perform.result)
+    → Fails faults.ReadFailed (g.O.Write.contents c.args.out.now) (g.O.Write.contents c.perform.new.out) (g.E.Write.contents c.args.err.now) (g.E.Write.contents c.perform.new.err) c.perform.result)
     c.args.asked c.in-Ok.job c.in-Ok.is c.perform.ensures.lacking

@@ -18,5 +18,5 @@ returns-in_ok-unread-in-Err-clause-proven g c =
     let source = c.args.source.now in
     let certs = c.args.certs.now in
     let words = map (λ w. w.now) c.args.words.now in
-    let told : IsRanProved c.args.limit source certs words (replies.Answer c.in_ok-unread-in-Err.field-0) = search rules in
-    run_proven c.args.limit source certs words (replies.Answer c.in_ok-unread-in-Err.field-0) told
+    let told : IsRanProved c.args.limit source certs words (replies.Told c.in_ok-unread-in-Err.field-0) = search rules in
+    run_proven c.args.limit source certs words (replies.Told c.in_ok-unread-in-Err.field-0) told

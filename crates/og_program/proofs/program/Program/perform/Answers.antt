@@ -1,15 +1,25 @@
-use Rattle.std.proofs.Common.{◌≡◌, ℕ, List, Bor, IfOk, IfErr, map, refl, sym, subst}
-use Rattle.std.proofs.lemmas.Result.{IfOk-weaker}
+use Rattle.std.proofs.Common.{◌≡◌, ℕ, List, Bor, IfOk, IfErr, map, subst, refl, false}
+use Rattle.og_engine.specs.Answers.{Writes, WritesJoined}
+use Rattle.og_engine.specs.Inputs.{source_of, certs_of, joined_of, Reads}
+use Rattle.og_words.specs.declared.job.Job.TheVariants as jobs
 use Rattle.og_running.specs.declared.reply.Reply.{Reply}
 use Rattle.og_program.specs.Named.{source_in}
 use Rattle.og_engine.specs.declared.fault.EngineFault.TheVariants as faults
 use Rattle.og_program.specs.Served.{RanAs, StartsAs}
 use Rattle.og_program.proofs.Ending.{joined_does, check_does, absent, finished, told, told_by_threads, replied}
+use Rattle.og_program.proofs.Faults.{unread}
 use Rattle.og_program.proofs.program.Program.perform.Goals as goal
 
 pub returns-in-Joined-clause-ended : goal.returns-in-Joined-clause-ended
 returns-in-Joined-clause-ended g c =
-    finished _ _ _ _ _ _ _ _ c.finish.result c.joined.result c.in-Joined.is (IfOk-weaker c.joined.result _ _ (λ status h. joined_does (g.F.Files.contents c.args.self.now.files.now) (g.I.Read.remaining c.args.input.now) (g.O.Write.contents c.args.out.now) (g.O.Write.contents c.joined.new.out) status h) c.joined.ensures.answer)
+    let files = g.F.Files.contents c.args.self.now.files.now in
+    let input = g.I.Read.remaining c.args.input.now in
+    let out = g.O.Write.contents c.args.out.now in
+    let after = g.O.Write.contents c.joined.new.out in
+    let err = g.E.Write.contents c.args.err.now in
+    let err_after = g.E.Write.contents c.finish.new.err in
+    finished files input c.args.job.now jobs.Joined out after err err_after c.finish.result (λ status. Reads joined_of input (λ i. WritesJoined false i out after status)) c.joined.result c.in-Joined.is
+    (λ status h told. joined_does files input out after err err_after c.finish.result status h told) c.joined.ensures.answer
     c.joined.ensures.unwritten c.joined.ensures.unfinished (absent _ c.joined.result c.joined.ensures.spawn) c.finish.ensures.ok c.finish.ensures.err
 
 pub returns-in-Prove-clause-ended : goal.returns-in-Prove-clause-ended
@@ -18,7 +28,18 @@ returns-in-Prove-clause-ended g c =
 
 pub returns-in-Check-clause-ended : goal.returns-in-Check-clause-ended
 returns-in-Check-clause-ended g c =
-    finished _ _ _ _ _ _ _ _ c.finish-in-Check.result c.check.result c.in-Check.is (IfOk-weaker c.check.result _ _ (λ status h. check_does (g.F.Files.contents c.args.self.now.files.now) (g.I.Read.remaining c.args.input.now) c.in-Check.source c.in-Check.certs c.in-Check.workers c.in-Check.json (g.O.Write.contents c.args.out.now) (g.O.Write.contents c.check.new.out) status h) c.check.ensures.answer)
+    let files = g.F.Files.contents c.args.self.now.files.now in
+    let input = g.I.Read.remaining c.args.input.now in
+    let out = g.O.Write.contents c.args.out.now in
+    let after = g.O.Write.contents c.check.new.out in
+    let err = g.E.Write.contents c.args.err.now in
+    let err_after = g.E.Write.contents c.finish-in-Check.new.err in
+    let source = c.in-Check.source in
+    let certs = c.in-Check.certs in
+    let json = c.in-Check.json in
+    finished files input c.args.job.now (jobs.Check source certs c.in-Check.workers json) out after err err_after c.finish-in-Check.result
+    (λ status. Reads source_of (source_in files input source.now) (λ s. Reads certs_of (files certs.now) (λ k. Writes json s k out after status))) c.check.result c.in-Check.is
+    (λ status h told. check_does files input source certs c.in-Check.workers json out after err err_after c.finish-in-Check.result status h told) c.check.ensures.answer
     c.check.ensures.unwritten c.check.ensures.unfinished c.check.ensures.spawn c.finish-in-Check.ensures.ok c.finish-in-Check.ensures.err
 
 pub returns-in-Conditions-clause-ended : goal.returns-in-Conditions-clause-ended
@@ -41,8 +62,23 @@ pub returns-in-Run-clause-ended : goal.returns-in-Run-clause-ended
 returns-in-Run-clause-ended g c =
     let files = g.F.Files.contents c.args.self.now.files.now in
     let source = source_in files (g.I.Read.remaining c.args.input.now) c.in-Run.source.now in
-    let Ran = λ (words : List (Bor (List ℕ))) (r : Reply). RanAs files source c.in-Run.limit c.in-Run.erased c.in-Run.certs (map (λ w. w.now) words) r in
-    replied _ _ _ _ _ _ _ _ c.reply.result (Ran c.in-Run.values.items) c.run-ran.result c.in-Run.is (λ Q gives. gives) (λ word bad. (word, bad, refl))
+    let Ran = λ (words : List (Bor (List ℕ))) (r : Reply). RanAs files source c.in-Run.limit c.in-Run.erased c.in-Run.certs c.in-Run.schedule (map (λ w. w.now) words) r in
+    replied _ _ _ _ _ _ _ _ c.reply.result (Ran c.in-Run.values.items) c.run-ran.result c.in-Run.is (λ Q gives. gives) (λ reply text ran refuses. (reply, ran, refuses))
     (subst (λ (words : List (Bor (List ℕ))). IfOk c.run-ran.result (Ran words)) c.deref.ensures.value c.run-ran.ensures.reply) c.run-ran.ensures.fault
-    (subst (λ (words : List (Bor (List ℕ))). IfErr c.run-ran.result (λ e. e ≡ faults.Spawn → StartsAs files source c.in-Run.erased c.in-Run.certs (map (λ w. w.now) words))) c.deref.ensures.value c.run-ran.ensures.spawn)
+    (subst (λ (words : List (Bor (List ℕ))). IfErr c.run-ran.result (λ e. e ≡ faults.Spawn → StartsAs files source c.in-Run.erased c.in-Run.certs c.in-Run.schedule (map (λ w. w.now) words))) c.deref.ensures.value c.run-ran.ensures.spawn)
     c.reply.ensures.ok c.reply.ensures.err
+
+pub returns-in-Check-clause-kept : goal.returns-in-Check-clause-kept
+returns-in-Check-clause-kept g c = unread _ _ c.in-Check.source.now _ c.in-Check.is refl c.check.ensures.kept
+
+pub returns-in-Conditions-clause-kept : goal.returns-in-Conditions-clause-kept
+returns-in-Conditions-clause-kept g c = unread _ _ c.in-Conditions.source.now _ c.in-Conditions.is refl c.conditions.ensures.kept
+
+pub returns-in-Find-clause-kept : goal.returns-in-Find-clause-kept
+returns-in-Find-clause-kept g c = unread _ _ c.in-Find.source.now _ c.in-Find.is refl c.find.ensures.kept
+
+pub returns-in-Erase-clause-kept : goal.returns-in-Erase-clause-kept
+returns-in-Erase-clause-kept g c = unread _ _ c.in-Erase.source.now _ c.in-Erase.is refl c.erase.ensures.kept
+
+pub returns-in-Run-clause-kept : goal.returns-in-Run-clause-kept
+returns-in-Run-clause-kept g c = unread _ _ c.in-Run.source.now _ c.in-Run.is refl c.run-ran.ensures.kept

@@ -6,5 +6,5 @@ use Rattle.og_program.proofs.program.Program.run.Goals as goal
 pub returns-in-None-clause-missing : goal.returns-in-None-clause-missing
 returns-in-None-clause-missing g c =
     let missing = g.F.Files.is_missing c.args.self.now.files.now in
-    either_missing _ _ _ _ c.run_source.ensures.missing
+    either_missing _ _ _ _ c.run_free.ensures.missing
     (λ lacks. let never : false ≡ true = subst (λ (o : Option (Bor (List ℕ))). lacks_certs missing o ≡ true) c.in-None.is lacks in absurd (cc))

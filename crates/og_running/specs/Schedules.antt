@@ -1,0 +1,61 @@
+-- Schedules: the processes that are to step, in order, by the numbers under which they are printed.
+use Rattle.std.specs.Prelude.{◌≡◌, ◌≢◌, ◌<◌, ◌≤◌, ◌-◌, ◌^◌, ◌==◌, ◌||◌, ℕ, Bool, true, false, if◌then◌else◌, nat_le, List, [], ◌∷◌, length, take, map, slice_get, Some, is_some}
+use Rattle.std.specs.List.{position_or_len, before_first, after_first}
+use Rattle.std.specs.Str.Parse.{IsNumeral, digits_value}
+use Rattle.og_typed.specs.Syntax.{Program}
+use Rattle.og_board.specs.Runs.{Given}
+use Rattle.og_board.specs.Turns.{IsTurn}
+use Rattle.og_board.specs.declared.turn.RunTurn.TheVariants as turns
+use Rattle.og_running.specs.declared.hindrance.Hindrance.{Hindrance}
+use Rattle.og_running.specs.declared.hindrance.Hindrance.TheVariants as hindrances
+
+-- ---- as words
+
+-- `,`
+abbrev pub is_comma : ℕ → Bool
+is_comma byte = byte == 44
+
+-- one digit or more; the number has 32 bits
+pub record IsNumber (text : List ℕ) (n : ℕ) : Type 0 where
+  pub digits : IsNumeral 10 text
+  pub value : n ≡ digits_value 10 text
+  pub fits : n < 2 ^ 32
+
+-- numbers with a comma between two
+abbrev pub AreNumbers : List ℕ → List ℕ → Type 0
+AreNumbers word [] = ⊥
+AreNumbers word (n ∷ []) = (position_or_len is_comma word ≡ length word) × IsNumber word n
+AreNumbers word (n ∷ m ∷ ns) =
+    (position_or_len is_comma word < length word) × IsNumber (before_first is_comma word) n × AreNumbers (after_first is_comma word) (m ∷ ns)
+
+-- no step by the empty word; else numbers, at most 1,000,000
+abbrev pub IsSchedule : List ℕ → List ℕ → Type 0
+IsSchedule word [] = word ≡ []
+IsSchedule word (n ∷ ns) = (word ≢ []) × AreNumbers word (n ∷ ns) × (length (n ∷ ns) ≤ 1000000)
+
+-- ---- as steps
+
+-- the number in calls of the process that is printed as p
+abbrev pub number_of : Program → ℕ → ℕ
+number_of o p = if p == 0 then length o.processes else p - 1
+
+-- there is a process that is printed so
+abbrev pub is_printed : Program → ℕ → Bool
+is_printed o p = if p == 0 then is_some o.prologue || is_some o.epilogue else nat_le p (length o.processes)
+
+abbrev pub history_of : Program → List ℕ → List ℕ
+history_of o steps = map (number_of o) steps
+
+-- why the process that is printed as p has no step after a history
+abbrev pub IsHindered : Given → List ℕ → ℕ → Hindrance → Type 0
+IsHindered g h p hindrances.NoProcess = is_printed g.outline p ≡ false
+IsHindered g h p hindrances.Ended = IsTurn g h (number_of g.outline p) turns.Done
+IsHindered g h p hindrances.Stuck = IsTurn g h (number_of g.outline p) turns.Stuck
+IsHindered g h p hindrances.Early = IsTurn g h (number_of g.outline p) turns.Early
+IsHindered g h p hindrances.Waits = IsTurn g h (number_of g.outline p) turns.Waits
+IsHindered g h p hindrances.Overflow = IsTurn g h (number_of g.outline p) turns.Overflow
+
+-- the first of the steps that cannot be made: those before it can
+pub record IsFirstHindered (g : Given) (steps : List ℕ) (made : ℕ) (p : ℕ) (why : Hindrance) : Type 0 where
+  pub step : slice_get steps made ≡ Some p
+  pub hindered : IsHindered g (history_of g.outline (take made steps)) p why
