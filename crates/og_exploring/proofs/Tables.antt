@@ -1,7 +1,7 @@
 -- Rows of a run.
-use Rattle.std.proofs.Common.{◌≡◌, ℕ, zero, suc, ◌+◌, ◌<◌, ℤ, arith, add-one, List, [], ◌∷◌, ◌++◌, length, take, get_or, Option, Some, None, refl, sym, ap, ◌∙◌, subst}
+use Rattle.std.proofs.Common.{◌≡◌, ℕ, zero, suc, ◌+◌, ◌<◌, ℤ, arith, add-one, List, [], ◌∷◌, ◌++◌, length, take, get_or, Option, Some, refl, sym, ap, ◌∙◌, subst}
 use Rattle.og_typed.specs.Syntax.{Program}
-use Rattle.og_typed.specs.Machine.{Moment, next, run_on}
+use Rattle.og_typed.specs.Machine.{Moment, run_on}
 use Rattle.og_exploring.specs.declared.finding.Row.{Row}
 use Rattle.og_typed.specs.declared.statement.Item.{Item}
 use Rattle.og_exploring.specs.Findings.{IsRow, AreRows, assigned_below, StandsAt, AreStands}

@@ -1,5 +1,5 @@
 -- What is promised of a finding.
-use Rattle.std.specs.Prelude.{◌≡◌, ⊤, ℕ, zero, suc, ◌+◌, ◌-◌, ◌<◌, ℤ, List, [], ◌∷◌, ◌++◌, length, take, Bool, true, false, if◌then◌else◌, Option, Some, None, unwrap_or, option_map, slice_get, IfSome}
+use Rattle.std.specs.Prelude.{◌≡◌, ⊤, ℕ, zero, suc, ◌+◌, ◌-◌, ◌<◌, ℤ, List, [], ◌∷◌, ◌++◌, length, take, if◌then◌else◌, Option, Some, None, unwrap_or, option_map, slice_get, IfSome}
 use Rattle.og_linear.specs.Linear.{value_at}
 use Rattle.og_typed.specs.Syntax.{Formula, Simple, Statement, Skip, Assign, If, While, Await, Program}
 use Rattle.og_typed.specs.Truth.{truth}

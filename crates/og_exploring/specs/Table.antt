@@ -1,5 +1,5 @@
 -- The table of the steps of a run.
-use Rattle.std.specs.Prelude.{ℕ, ◌+◌, ◌-◌, ◌==◌, max, ℤ, List, [], ◌∷◌, length, replicate, Bool, true, false, if◌then◌else◌, codes}
+use Rattle.std.specs.Prelude.{ℕ, ◌+◌, ◌-◌, ◌==◌, max, ℤ, List, [], ◌∷◌, length, replicate, true, false, if◌then◌else◌, codes}
 use Rattle.std.specs.Fmt.{decimal}
 use Rattle.og_listing.specs.Places.{◌&◌, position_of, position_text}
 use Rattle.og_wording.specs.Quotes.{quote_text}

@@ -14,6 +14,7 @@ mod texts;
 mod totals;
 
 pub use finding::{Blame, Did, Fault, Finding, Row};
+pub use table::printed_number;
 pub use telling::tell;
-pub use texts::report;
+pub use texts::{numbers, place_of, report};
 pub use totals::{Found, Totals};

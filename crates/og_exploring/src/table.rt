@@ -55,8 +55,9 @@ impl Column {
     }
 }
 
-/// The number under which a process is printed.
-pub(crate) fn printed_number(main: u32, process: u32) -> u64
+/// The number under which a process is printed: the main process as 0, the others from 1. Takes no
+/// memory.
+pub fn printed_number(main: u32, process: u32) -> u64
     ensures { result ≡ printed_number main process }
 {
     if process == main {

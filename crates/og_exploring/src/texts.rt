@@ -63,8 +63,8 @@ fn put_what(text: &mut Vec<u8>, main: u32, fault: &Fault) -> Result<(), AllocErr
     }
 }
 
-/// Where it stands.
-pub(crate) fn place_of(cobegin_at: u32, fault: &Fault) -> u32
+/// The byte offset of what is wrong; of a stuck program that of `cobegin`. Takes no memory.
+pub fn place_of(cobegin_at: u32, fault: &Fault) -> u32
     ensures { result ≡ place_of cobegin_at fault.now }
 {
     match fault {
@@ -177,8 +177,12 @@ fn put_stands(
     Ok(())
 }
 
-// The numbers of so many variables.
-fn numbers(alloc: Global, count: u32) -> Result<Vec<u32>, AllocError>
+/// The numbers of so many variables.
+///
+/// # Errors
+///
+/// An allocation was refused.
+pub fn numbers(alloc: Global, count: u32) -> Result<Vec<u32>, AllocError>
     ensures { IfOk result (λ v. v.items ≡ numbers count) }
 {
     let mut vars = Vec::new(alloc);

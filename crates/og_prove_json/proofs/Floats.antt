@@ -27,7 +27,7 @@ no_float_choice true (pos n) = refl
 no_float_choice true (negsuc n) = refl
 no_float_choice false v = refl
 
-no_float_values : (names : List (List ℕ)) (numbers : Bool) (s : List ℤ) (xs : List ℕ) (ms : Members) → members_have_float ms ≡ false
+pub no_float_values : (names : List (List ℕ)) (numbers : Bool) (s : List ℤ) (xs : List ℕ) (ms : Members) → members_have_float ms ≡ false
     → members_have_float (with_values names numbers s xs ms) ≡ false
 no_float_values names numbers s [] ms h = h
 no_float_values names numbers s (x ∷ xs) ms h =
@@ -37,15 +37,15 @@ no_float_values names numbers s (x ∷ xs) ms h =
 
 -- ---- members that may be missing
 
-abbrev optional_has_float : Option Data → Bool
+abbrev pub optional_has_float : Option Data → Bool
 optional_has_float None = false
 optional_has_float (Some d) = has_float d
 
-no_float_if : (key : List ℕ) (d : Option Data) (ms : Members) → optional_has_float d ≡ false → members_have_float ms ≡ false → members_have_float (if_some key d ms) ≡ false
+pub no_float_if : (key : List ℕ) (d : Option Data) (ms : Members) → optional_has_float d ≡ false → members_have_float ms ≡ false → members_have_float (if_some key d ms) ≡ false
 no_float_if key None ms p q = q
 no_float_if key (Some d) ms p q = neither (has_float d) (members_have_float ms) p q
 
-no_float_conjuncts : (names : List (List ℕ)) (found : List (Bor Assert)) → items_have_float (items_of (map (λ a. conjunct_data names (formula a.now)) found)) ≡ false
+pub no_float_conjuncts : (names : List (List ℕ)) (found : List (Bor Assert)) → items_have_float (items_of (map (λ a. conjunct_data names (formula a.now)) found)) ≡ false
 no_float_conjuncts names [] = refl
 no_float_conjuncts names (a ∷ found) = no_float_conjuncts names found
 

@@ -48,8 +48,12 @@ fn conjunct_value(alloc: Global, names: &[Name], assert: &Assert) -> Result<Valu
     Value::try_from_str(alloc, text_of(&text))
 }
 
-// The false conjuncts.
-fn conjunct_values(
+/// The texts of assertions.
+///
+/// # Errors
+///
+/// An allocation was refused.
+pub fn conjunct_values(
     alloc: Global,
     names: &[Name],
     found: &[&Assert],

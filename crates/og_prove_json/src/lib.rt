@@ -8,4 +8,6 @@ mod reporting;
 mod unproved;
 mod values;
 
+pub use faults::conjunct_values;
 pub use reporting::json;
+pub use values::{put_optional, put_values};

@@ -49,7 +49,11 @@ fn number_value(alloc: Global, numbers: bool, number: i128) -> Result<Value, All
 
 /// Sets the members of these variables to their values: to numbers where they are asked for and
 /// are `i64`s, else to their digits.
-pub(crate) fn put_values(
+///
+/// # Errors
+///
+/// An allocation was refused; some of the members may be set.
+pub fn put_values(
     members: &mut Map<String, Value>,
     alloc: Global,
     names: &[Name],
@@ -68,7 +72,11 @@ pub(crate) fn put_values(
 }
 
 /// Sets a member to a value, where there is one.
-pub(crate) fn put_optional(
+///
+/// # Errors
+///
+/// An allocation was refused; the members are as they were.
+pub fn put_optional(
     members: &mut Map<String, Value>,
     alloc: Global,
     key: &str,

@@ -175,5 +175,77 @@ safe from these starts: no\n\
 unblocked from these starts: yes\n\
 ";
 
-pub(crate) const DEADLOCK_JSON: &str =
-    "{\"complete\":true,\"moments\":13,\"safe\":\"yes\",\"starts\":1,\"unblocked\":\"no\",\"violations\":[{\"column\":1,\"history\":[1,2],\"kind\":\"stuck\",\"line\":5,\"start\":{\"p\":0,\"q\":0},\"state\":{\"p\":1,\"q\":1}}]}";
+pub(crate) const SEMAPHORE: &str =
+    "# A semaphore with two permits and three processes. As permits + a + b + c = 2 and permits >= 0, at\n\
+# most two of them are inside.\n\
+var permits; aux a = 0, b = 0, c = 0;\n\
+{permits = 2}\n\
+cobegin\n\
+\x20 {a = 0 and permits + a + b + c = 2 and permits >= 0 and b >= 0 and c >= 0}\n\
+\x20 await permits > 0 then begin permits := permits - 1; a := 1 end\n\
+\x20 {a = 1 and permits + a + b + c = 2 and permits >= 0 and b >= 0 and c >= 0}\n\
+\x20 await true then begin permits := permits + 1; a := 0 end\n\
+\x20 {a = 0 and permits + a + b + c = 2 and permits >= 0 and b >= 0 and c >= 0}\n\
+//\n\
+\x20 {b = 0 and permits + a + b + c = 2 and permits >= 0 and a >= 0 and c >= 0}\n\
+\x20 await permits > 0 then begin permits := permits - 1; b := 1 end\n\
+\x20 {b = 1 and permits + a + b + c = 2 and permits >= 0 and a >= 0 and c >= 0}\n\
+\x20 await true then begin permits := permits + 1; b := 0 end\n\
+\x20 {b = 0 and permits + a + b + c = 2 and permits >= 0 and a >= 0 and c >= 0}\n\
+//\n\
+\x20 {c = 0 and permits + a + b + c = 2 and permits >= 0 and a >= 0 and b >= 0}\n\
+\x20 await permits > 0 then begin permits := permits - 1; c := 1 end\n\
+\x20 {c = 1 and permits + a + b + c = 2 and permits >= 0 and a >= 0 and b >= 0}\n\
+\x20 await true then begin permits := permits + 1; c := 0 end\n\
+\x20 {c = 0 and permits + a + b + c = 2 and permits >= 0 and a >= 0 and b >= 0}\n\
+coend\n\
+{permits = 2}\n\
+";
+
+pub(crate) const RANGE: &str = "var hits;\n\
+{hits = 0}\n\
+cobegin\n\
+\x20 {hits >= 0}\n\
+\x20 while true do begin\n\
+\x20   {hits >= 0}\n\
+\x20   hits := hits + 1\n\
+\x20   {hits >= 1}\n\
+\x20 end\n\
+\x20 {false}\n\
+coend\n\
+{true}\n\
+";
+
+pub(crate) const COUNTER: &str =
+    "# Two processes add 1 to a counter. Without the auxiliaries a and b no outline shows that the\n\
+# counter ends at 2: they tell which of the two has added already.\n\
+var x; aux a = 0, b = 0;\n\
+{x = 0}\n\
+cobegin\n\
+\x20 {x = a + b and a = 0 and b <= 1}\n\
+\x20 await true then begin x := x + 1; a := 1 end\n\
+\x20 {x = a + b and a = 1 and b <= 1}\n\
+//\n\
+\x20 {x = a + b and b = 0 and a <= 1}\n\
+\x20 await true then begin x := x + 1; b := 1 end\n\
+\x20 {x = a + b and b = 1 and a <= 1}\n\
+coend\n\
+{x = 2}\n\
+";
+
+pub(crate) const SEMAPHORE_TOLD: &str = "starts: 1 with permits = 2\n\
+moments: 26\n\
+complete: yes\n\
+safe from these starts: yes\n\
+unblocked from these starts: yes\n\
+";
+
+pub(crate) const RANGE_TOLD: &str = "starts: 1 with hits = 0\n\
+moments: 1000\n\
+complete: no\n\
+safe from these starts: open\n\
+unblocked from these starts: open\n\
+";
+
+pub(crate) const NOT_PRE_TOLD: &str = "refused: 50 NotPre\n\
+";

@@ -6,4 +6,6 @@
 #[cfg(test)]
 mod examples;
 #[cfg(test)]
+mod exploring;
+#[cfg(test)]
 mod telling;

@@ -1,4 +1,4 @@
-use Rattle.std.proofs.Common.{◌≡◌, ◌++◌, take}
+use Rattle.std.proofs.Common.{◌≡◌, take}
 use Rattle.og_explorer.proofs.answering.ends.Given as goal
 
 abbrev pub invariant-loop-range : goal.invariant-loop-range

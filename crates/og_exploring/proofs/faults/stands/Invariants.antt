@@ -1,4 +1,4 @@
-use Rattle.std.proofs.Common.{◌≡◌, ◌++◌, length}
+use Rattle.std.proofs.Common.{◌≡◌, length}
 use Rattle.og_exploring.specs.Findings.{AreStands}
 use Rattle.og_exploring.proofs.faults.stands.Given as goal
 

@@ -1,5 +1,5 @@
 use Rattle.std.proofs.Common.{◌≡◌, ◌+◌, ◌-◌, ◌++◌, [], ◌∷◌, ◌<◌, length, take, get_or, Some, IfSome, refl, sym, ap, ◌∙◌, subst, arith}
-use Rattle.og_typed.specs.Machine.{Moment, run_on}
+use Rattle.og_typed.specs.Machine.{run_on}
 use Rattle.og_exploring.specs.Findings.{IsRow, AreRows}
 use Rattle.og_exploring.proofs.Tables.{rows_lead, rows_more, take_more}
 use Rattle.og_exploring.proofs.telling.steps_of.Goals as goal
