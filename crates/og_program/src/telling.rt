@@ -110,10 +110,10 @@ fn note<E: Write>(line: Option<&[u8]>, status: u8, err: &mut E) -> Ended
 fn print_ran<O: Write, E: Write>(ran: &Ran, out: &mut O, err: &mut E) -> Ended
     ensures { TellsRan ran.now (O.contents out.old) (O.contents out.new) (E.contents err.old) (E.contents err.new) result }
 {
-    match write_answer(out, &ran.answer) {
-        Ok(status) => note(ran.note.as_deref(), status, err),
-        Err(_) => fail(EngineFault::WriteFailed, err),
-    }
+    let Ok(status) = write_answer(out, &ran.answer) else {
+        return fail(EngineFault::WriteFailed, err);
+    };
+    note(ran.note.as_deref(), status, err)
 }
 
 /// Tells what came of a run.

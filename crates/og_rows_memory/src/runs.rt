@@ -2,7 +2,7 @@
 
 use og_limits::RunLimit;
 use og_pool::{OpenGate, PoolFault};
-use og_running::{Reply, ran, ran_proved};
+use og_running::{Ran, Reply, ran, ran_proved};
 use og_samples::{TWO_ADD, TWO_ADD_CERTS};
 use std::alloc::Global;
 use std::sync::Wait;
@@ -10,7 +10,7 @@ use std::thread::Threads;
 
 // Whether a reply is one of the two runs of `TWO_ADD` from x = 0.
 fn is_ended(reply: &Reply<'_>) -> bool {
-    let Reply::Answer(answer) = reply else {
+    let Reply::Told(Ran { answer, note: None }) = reply else {
         return false;
     };
     let (text, end) = (

@@ -3,7 +3,7 @@
 use crate::gates::Holds;
 use og_limits::RunLimit;
 use og_run::{Gate, OpenGate};
-use og_running::{Reply, ran, ran_proved};
+use og_running::{Ran, Reply, ran, ran_proved};
 use og_samples::{TOLD_ADD, TWO_ADD, TWO_ADD_CERTS};
 use std::alloc::Global;
 use std::process::Abort;
@@ -14,13 +14,14 @@ use std::thread::Threads;
 // A reply is this text with this status.
 fn expect_answer<R: Abort>(rt: &R, reply: Reply<'_>, text: &str, status: u8) {
     match reply {
-        Reply::Answer(answer) => {
+        Reply::Told(Ran { answer, note: _ }) => {
             assert!(rt;
                 answer.text.as_slice() == text.as_bytes() && answer.status == status,
                 "{text}"
             );
         }
         Reply::BadValue(word) => panic!(rt; "bad value: {word}"),
+        Reply::NotMade(_) => panic!(rt; "{text}"),
     }
 }
 
@@ -106,7 +107,7 @@ fn expect_bad<R: Threads + Wait + Sync + Abort>(
     let source = TWO_ADD.as_bytes();
     match ran(rt, alloc, source, words, limit(rt), false, &OpenGate)? {
         Reply::BadValue(word) => assert_eq!(rt; word, bad),
-        Reply::Answer(_) => panic!(rt; "{bad}"),
+        Reply::Told(_) | Reply::NotMade(_) => panic!(rt; "{bad}"),
     }
     Ok(())
 }
