@@ -5,14 +5,16 @@ ghost use Rattle.std.specs.List.{AllByRecursion};
 ghost use Rattle.og_cond.specs.Seen.{seen};
 ghost use Rattle.og_exploring.specs.Totals.{safe_of, unblocked_of};
 ghost use Rattle.og_explorer.specs.Told.{IsOneFinding, AreViolations};
-ghost use Rattle.og_explorer.specs.Explored.{is_yes, status_of, IsExplored};
+ghost use Rattle.og_explorer.specs.Explored.{is_yes, status_of, printed, IsExplored};
 ghost use Rattle.og_exploring.specs.declared.totals.Found.TheVariants as yes_or_no;
 
+use crate::request::Request;
 use crate::told::{Told, add};
 use og_answer::Answer;
 use og_cond::Condition;
 use og_explore::{Exploration, Range, explore};
 use og_exploring::{Finding, Found, Totals, report};
+use og_exploring_json::json;
 use og_places::Index;
 use og_typed::Outline;
 use std::alloc::{AllocError, Global};
@@ -90,8 +92,44 @@ fn status_of(totals: &Totals, findings: &[Finding]) -> u8
     }
 }
 
+// The same as JSON, in one line.
+fn json_line(
+    alloc: Global,
+    outline: &Outline,
+    source: &[u8],
+    totals: &Totals,
+    findings: &[Finding],
+) -> Result<Vec<u8>, AllocError>
+    requires { length source.now ≤ 2 ^ 20 }
+    ensures { IfOk result (λ text. text.items ≡ printed true outline.now source.now totals.now findings.now) }
+{
+    let mut text = json(alloc, outline, source, totals, findings)?;
+    text.push(b'\n')?;
+    Ok(text)
+}
+
+// What is printed, as JSON or as a text.
+fn printed(
+    alloc: Global,
+    outline: &Outline,
+    source: &[u8],
+    totals: &Totals,
+    findings: &[Finding],
+    is_json: bool,
+) -> Result<Vec<u8>, AllocError>
+    requires short { length source.now ≤ 2 ^ 20 }
+    requires given { length totals.now.given.items ≤ 256 }
+    ensures { IfOk result (λ text. text.items ≡ printed is_json outline.now source.now totals.now findings.now) }
+{
+    if is_json {
+        json_line(alloc, outline, source, totals, findings)
+    } else {
+        report(alloc, outline, source, totals, findings)
+    }
+}
+
 /// What is printed of an exploration of the outline from all starts within the ranges, at most
-/// `limit` moments, and the status: 0 where all was explored and nothing found, else 1; none where
+/// so many moments as asked for, and the status: 0 where all was explored and nothing found, else 1; none where
 /// no start was found, of which nothing is promised. `conditions` are the outline's, or none.
 ///
 /// # Errors
@@ -103,14 +141,14 @@ pub fn answer(
     source: &[u8],
     conditions: &[Condition],
     ranges: &[Range],
-    limit: u32,
+    request: Request,
 ) -> Result<Option<Answer>, AllocError>
     requires short { length source.now ≤ 2 ^ 20 }
     requires ranges { length ranges.now ≡ outline.now.vars }
-    ensures { IfOk result (λ found. IfSome found (IsExplored outline.now source.now (map seen conditions.now) ranges.now)) }
+    ensures { IfOk result (λ found. IfSome found (IsExplored request.json outline.now source.now (map seen conditions.now) ranges.now)) }
 {
     outline.follows_rule();
-    let found = explore(alloc, outline, ranges, limit)?;
+    let found = explore(alloc, outline, ranges, request.limit)?;
     if found.starts == 0 {
         return Ok(None);
     }
@@ -123,7 +161,14 @@ pub fn answer(
         complete: told.complete,
     };
     Ok(Some(Answer {
-        text: report(alloc, outline, source, &totals, &told.findings)?,
+        text: printed(
+            alloc,
+            outline,
+            source,
+            &totals,
+            &told.findings,
+            request.json,
+        )?,
         status: status_of(&totals, &told.findings),
     }))
 }

@@ -5,6 +5,7 @@ ghost use Rattle.og_cond.specs.Seen.{seen};
 ghost use Rattle.og_explorer.specs.Explored.{AreConditions, IsAnswer, IsOfProgram, not_pre_line, IsReply};
 
 use crate::answering::answer;
+use crate::request::Request;
 use crate::starting::ranges;
 use crate::words::{WordsError, given};
 use og_answer::{Answer, put_opening};
@@ -23,15 +24,6 @@ pub enum Reply<'a> {
     Answer(Answer),
     /// The first word that gives no variable a range.
     BadValue(&'a str),
-}
-
-/// How a program is explored.
-#[derive(Clone, Copy, Debug)]
-pub struct Request {
-    /// How many moments are met at most.
-    pub limit: u32,
-    /// Whether it is the program without its auxiliary variables.
-    pub erased: bool,
 }
 
 // The line of a precondition that is false.
@@ -63,13 +55,13 @@ fn of_outline(
     source: &[u8],
     conditions: &[Condition],
     ranges: &[Range],
-    limit: u32,
+    request: Request,
 ) -> Result<Answer, AllocError>
     requires short { length source.now ≤ 2 ^ 20 }
     requires ranges { length ranges.now ≡ outline.now.vars }
-    ensures { IfOk result (IsAnswer outline.now source.now (map seen conditions.now) ranges.now) }
+    ensures { IfOk result (IsAnswer request.json outline.now source.now (map seen conditions.now) ranges.now) }
 {
-    match answer(alloc, outline, source, conditions, ranges, limit)? {
+    match answer(alloc, outline, source, conditions, ranges, request)? {
         Some(answer) => Ok(answer),
         None => Ok(Answer {
             text: not_pre(alloc)?,
@@ -88,14 +80,14 @@ fn of_program(
 ) -> Result<Answer, AllocError>
     requires short { length source.now ≤ 2 ^ 20 }
     requires ranges { length ranges.now ≡ outline.now.vars }
-    ensures { IfOk result (IsOfProgram request.erased outline.now source.now) }
+    ensures { IfOk result (IsOfProgram request.json request.erased outline.now source.now) }
 {
     if request.erased {
         let program = erase(alloc, outline)?;
-        return of_outline(alloc, program.outline(), source, &[], ranges, request.limit);
+        return of_outline(alloc, program.outline(), source, &[], ranges, request);
     }
     let conditions = conditions_of(alloc, outline)?;
-    of_outline(alloc, outline, source, &conditions, ranges, request.limit)
+    of_outline(alloc, outline, source, &conditions, ranges, request)
 }
 
 // The reply for a source that was read.
@@ -105,7 +97,7 @@ fn of_source<'a>(
     words: &[&'a str],
     request: Request,
 ) -> Result<Reply<'a>, AllocError>
-    ensures { IfOk result (IsReply source.now.bytes request.erased (map (λ w. w.now) words.now)) }
+    ensures { IfOk result (IsReply request.json source.now.bytes request.erased (map (λ w. w.now) words.now)) }
 {
     let outline = source.outline();
     match given(alloc, outline, words) {
@@ -124,7 +116,7 @@ fn of_source<'a>(
 /// state which a search finds for the precondition, and 0 where it finds none.
 ///
 /// The answer is what was found, with runs that lead there, and the totals, with status 0 where all
-/// was explored and nothing found, and else 1; or the line of a refusal, with status 2. `BadValue`
+/// was explored and nothing found, and else 1, as a text or as JSON in one line; or the line of a refusal, with status 2. `BadValue`
 /// holds the first word that gives no range.
 ///
 /// # Errors
@@ -136,7 +128,7 @@ pub fn explored<'a>(
     words: &[&'a str],
     request: Request,
 ) -> Result<Reply<'a>, AllocError>
-    ensures { IfOk result (IsReply source.now request.erased (map (λ w. w.now) words.now)) }
+    ensures { IfOk result (IsReply request.json source.now request.erased (map (λ w. w.now) words.now)) }
 {
     match Source::read(alloc, source) {
         Ok(source) => {

@@ -5,9 +5,11 @@
 
 mod answering;
 mod exploring;
+mod request;
 mod starting;
 mod told;
 mod words;
 
 pub use answering::answer;
-pub use exploring::{Reply, Request, explored};
+pub use exploring::{Reply, explored};
+pub use request::Request;

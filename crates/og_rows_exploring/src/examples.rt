@@ -249,3 +249,6 @@ unblocked from these starts: open\n\
 
 pub(crate) const NOT_PRE_TOLD: &str = "refused: 50 NotPre\n\
 ";
+
+pub(crate) const DEADLOCK_JSON: &str =
+    "{\"complete\":true,\"moments\":13,\"safe\":\"yes\",\"starts\":1,\"unblocked\":\"no\",\"violations\":[{\"column\":1,\"history\":[1,2],\"kind\":\"stuck\",\"line\":5,\"start\":{\"p\":0,\"q\":0},\"state\":{\"p\":1,\"q\":1}}]}\n";

@@ -1,7 +1,7 @@
 //! What is printed of explorations.
 
 use crate::examples::{
-    COUNT_UP, COUNT_UP_TOLD, COUNTER, DEADLOCK, DEADLOCK_TOLD, LOST_UPDATE,
+    COUNT_UP, COUNT_UP_TOLD, COUNTER, DEADLOCK, DEADLOCK_JSON, DEADLOCK_TOLD, LOST_UPDATE,
     LOST_UPDATE_ERASED_TOLD, LOST_UPDATE_TOLD, NOT_PRE_TOLD, RANGE, RANGE_TOLD, SEMAPHORE,
     SEMAPHORE_TOLD, THERMOSTAT, THERMOSTAT_TOLD,
 };
@@ -13,6 +13,7 @@ use std::test::Fail;
 const WHOLE: Request = Request {
     limit: 100_000,
     erased: false,
+    json: false,
 };
 
 // Asks for this text and status.
@@ -60,9 +61,20 @@ fn what_does_not(rt: HostRuntime) -> Result<(), Fail> {
     let few = Request {
         limit: 1000,
         erased: false,
+        json: false,
     };
     expect(&rt, alloc, RANGE, &[], few, 1, RANGE_TOLD)?;
     expect(&rt, alloc, COUNTER, &["x=1"], WHOLE, 2, NOT_PRE_TOLD)
+}
+
+#[test]
+fn as_json(rt: HostRuntime) -> Result<(), Fail> {
+    let request = Request {
+        limit: 100_000,
+        erased: false,
+        json: true,
+    };
+    expect(&rt, rt.alloc(), DEADLOCK, &[], request, 1, DEADLOCK_JSON)
 }
 
 #[test]
@@ -70,6 +82,7 @@ fn without_auxiliaries(rt: HostRuntime) -> Result<(), Fail> {
     let erased = Request {
         limit: 100_000,
         erased: true,
+        json: false,
     };
     expect(
         &rt,

@@ -1,7 +1,6 @@
-use Rattle.std.proofs.Common.{length, ap, ◌∙◌}
+use Rattle.std.proofs.Common.{ap, ◌∙◌}
 use Rattle.og_exploring.specs.declared.totals.Totals.{Totals}
-use Rattle.og_exploring.specs.Texts.{report_text}
-use Rattle.og_explorer.specs.Explored.{status_of}
+use Rattle.og_explorer.specs.Explored.{printed, status_of}
 use Rattle.og_explorer.proofs.answering.answer.Goals as goal
 
 pub returns : goal.returns
@@ -17,7 +16,7 @@ returns c =
       safe = λ said. (let parts = c.in_ok-told.ensures.safe said in c.in_ok-found.ensures.sound parts.0 parts.1 parts.2 parts.3);
       unblocked = λ said. (let parts = c.in_ok-told.ensures.unblocked said in c.in_ok-found.ensures.never_stuck parts.0 parts.1);
       told = (
-        c.in_ok-report.ensures ∙ ap (report_text o.names c.args.source.now (length o.processes) o.cobegin_at totals) c.deref.ensures.value,
+        c.in_ok-printed.ensures ∙ ap (printed c.args.request.json o c.args.source.now totals) c.deref.ensures.value,
         c.status_of.ensures ∙ ap (status_of totals) c.deref-2.ensures.value,
       );
     }
