@@ -7,7 +7,7 @@ use Rattle.std.proofs.lemmas.Option.{slice_get_within, same_Some}
 use Rattle.og_typed.specs.Syntax.{Formula, Statement, If, While, Sequence, Last, Then, Otherwise, Rest, items, else_items}
 use Rattle.og_typed.specs.Plain.{item_pair}
 use Rattle.og_flow.specs.declared.points.Point.{Point}
-use Rattle.og_flow.specs.Points.{rest_at, past, passed, statement_rests, sequence_rests, parts_rests}
+use Rattle.og_flow.specs.Points.{rest_at, past, passed, statement_rests, sequence_rests, else_rests, parts_rests}
 use Rattle.og_flow.specs.Table.{rests_from, rests_of, IsLinked, AreLinked, IsGrown}
 
 -- what is left at a point more

@@ -1,4 +1,4 @@
-use Rattle.std.proofs.Common.{◌≡◌, ◌++◌, map, ap, ◌∙◌, subst}
+use Rattle.std.proofs.Common.{◌≡◌, ◌++◌, map, sym, ap, ap₂, ◌∙◌, subst}
 use Rattle.og_typed.specs.Syntax.{items, part_items}
 use Rattle.og_flow.specs.Points.{part_rests, parts_rests}
 use Rattle.og_flow.specs.Table.{rests_of, IsGrown}
