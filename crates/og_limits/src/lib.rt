@@ -2,9 +2,11 @@
 #![tactic(auto)]
 
 mod budget;
+mod moment_limit;
 mod run_limit;
 mod workers;
 
 pub use budget::Budget;
+pub use moment_limit::MomentLimit;
 pub use run_limit::RunLimit;
 pub use workers::Workers;

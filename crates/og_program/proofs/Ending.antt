@@ -7,13 +7,15 @@ use Rattle.og_engine.specs.Inputs.{source_of, certs_of, joined_of, Reads}
 use Rattle.og_engine.specs.Unfinished.{AppendsFront}
 use Rattle.og_engine.specs.declared.fault.EngineFault.{EngineFault}
 use Rattle.og_engine.specs.declared.fault.EngineFault.TheVariants as faults
+use Rattle.og_explorer.specs.declared.exploring.Reply.{Reply as Exploring}
+use Rattle.og_explorer.specs.declared.exploring.Reply.TheVariants as explorings
 use Rattle.og_running.specs.declared.reply.Reply.{Reply}
 use Rattle.og_running.specs.declared.reply.Reply.TheVariants as replies
 use Rattle.og_words.specs.declared.job.Job.{Job}
 use Rattle.og_words.specs.declared.job.Job.TheVariants as jobs
 use Rattle.og_words.specs.declared.job.Usage.{Usage}
 use Rattle.og_program.specs.Named.{source_in}
-use Rattle.og_program.specs.Told.{fault_text, bad_value_text, Complains, IsSilent, Notes, Fails, TellsAnswer, TellsBadValue, TellsReply}
+use Rattle.og_program.specs.Told.{fault_text, bad_value_text, Complains, IsSilent, Notes, Fails, TellsAnswer, TellsBadValue, TellsExplored, TellsReply}
 use Rattle.og_program.specs.Served.{Checks, Gives, Tells, Answers, Does, Leaves, StartsThreads, RefusesAs, Refuses, EndsJob}
 use Rattle.og_program.specs.declared.ended.Ended.{Ended}
 
@@ -132,3 +134,25 @@ pub replied : (files : List ℕ → Option (List ℕ)) (input : Option (List ℕ
     → EndsJob files input job out out_after err err_after ended
 replied files input job known out out_after err err_after ended R r is gives refuses ran unwritten wants ok wrong =
     subst (λ (j : Job). EndsJob files input j out out_after err err_after ended) (sym is) (run_ended files input known out out_after err err_after ended R r gives refuses ran unwritten wants ok wrong)
+
+explore_ended : (files : List ℕ → Option (List ℕ)) (input : Option (List ℕ)) (job : Job) (out out_after err err_after : Option (List ℕ)) (ended : Ended) (R : Exploring → Type 0) (r : Result Exploring EngineFault)
+    → ((Q : List ℕ → ℕ → Option (List ℕ) → Type 0) → Gives (λ a. R (explorings.Answer a)) Q → Answers files input job Q)
+    → ((word : Bor (List ℕ)) → R (explorings.BadValue word) → Refuses files input job (bad_value_text word.now)) → IfOk r R → IfErr r (λ e. e ≢ faults.WriteFailed)
+    → IfErr r (λ e. e ≢ faults.Spawn)
+    → IfOk r (λ a. TellsExplored a out out_after err err_after ended) → IfErr r (λ fault. Fails fault out out_after err err_after ended)
+    → EndsJob files input job out out_after err err_after ended
+explore_ended files input job out out_after err err_after ended R (Ok (explorings.Answer a)) gives refuses is unwritten threadless t wrong =
+    answered files input job out out_after err err_after ended (λ a. R (explorings.Answer a)) (Ok a) gives is tt tt t tt
+explore_ended files input job out out_after err err_after ended R (Ok (explorings.BadValue word)) gives refuses is unwritten threadless t wrong =
+    refused files input job out out_after err err_after ended word.now (refuses word is) t.0 t.1
+explore_ended files input job out out_after err err_after ended R (Err fault) gives refuses is unwritten threadless t wrong =
+    inr (inr (fault, (λ e. absurd (unwritten e)), (λ e. absurd (threadless e)), wrong))
+
+pub explored : (files : List ℕ → Option (List ℕ)) (input : Option (List ℕ)) (job known : Job) (out out_after err err_after : Option (List ℕ)) (ended : Ended) (R : Exploring → Type 0) (r : Result Exploring EngineFault)
+    → job ≡ known → ((Q : List ℕ → ℕ → Option (List ℕ) → Type 0) → Gives (λ a. R (explorings.Answer a)) Q → Answers files input known Q)
+    → ((word : Bor (List ℕ)) → R (explorings.BadValue word) → Refuses files input known (bad_value_text word.now)) → IfOk r R → IfErr r (λ e. e ≢ faults.WriteFailed)
+    → IfErr r (λ e. e ≢ faults.Spawn)
+    → IfOk r (λ a. TellsExplored a out out_after err err_after ended) → IfErr r (λ fault. Fails fault out out_after err err_after ended)
+    → EndsJob files input job out out_after err err_after ended
+explored files input job known out out_after err err_after ended R r is gives refuses came unwritten threadless ok wrong =
+    subst (λ (j : Job). EndsJob files input j out out_after err err_after ended) (sym is) (explore_ended files input known out out_after err err_after ended R r gives refuses came unwritten threadless ok wrong)

@@ -27,6 +27,7 @@ sound_answer files input (jobs.Run source limit erased None schedule values) bef
 sound_answer files input (jobs.Run source limit erased (Some certs) schedule values) before after err err_after ended h zero =
     let w = h.1 in let v = w.2 in
     (w.0, w.1, run_proven limit w.0 v.0 (map (λ x. x.now) values.items) (replies.Told h.0) v.2 (inl (sym h.2.1 ∙ zero)))
+sound_answer files input (jobs.Explore source limit erased json ranges) before after err err_after ended h zero = tt
 sound_answer files input (jobs.Migrate certs) before after err err_after ended h zero = tt
 
 unblocked_answer : (files : List ℕ → Option (List ℕ)) (input : Option (List ℕ)) (job : Job) (before after err err_after : Option (List ℕ)) (ended : Ended) → Does files input job before after err err_after ended
@@ -41,6 +42,7 @@ unblocked_answer files input (jobs.Conditions source) before after err err_after
 unblocked_answer files input (jobs.Find source budget workers) before after err err_after ended h zero = tt
 unblocked_answer files input (jobs.Erase source) before after err err_after ended h zero = tt
 unblocked_answer files input (jobs.Run source limit erased certs schedule values) before after err err_after ended h zero = tt
+unblocked_answer files input (jobs.Explore source limit erased json ranges) before after err err_after ended h zero = tt
 unblocked_answer files input (jobs.Migrate certs) before after err err_after ended h zero = tt
 
 -- ---- of the program

@@ -15,6 +15,9 @@ use Rattle.og_engine.specs.Warrants.{Warrants}
 use Rattle.og_engine.specs.Wrote.{Wrote}
 use Rattle.og_engine.specs.declared.fault.EngineFault.{EngineFault}
 use Rattle.og_engine.specs.declared.fault.EngineFault.TheVariants as faults
+use Rattle.og_explorer.specs.Explored.{IsReply}
+use Rattle.og_explorer.specs.declared.exploring.Reply.{Reply as Exploring}
+use Rattle.og_explorer.specs.declared.exploring.Reply.TheVariants as explorings
 use Rattle.og_input.specs.Joined.{IsSplit}
 use Rattle.og_judge.specs.Proven.{IsProvenSource}
 use Rattle.og_judge.specs.NeverStuck.{IsNeverStuckSource}
@@ -38,6 +41,10 @@ RanAs files source limit erased None None words reply = Reads source_of source (
 RanAs files source limit erased None (Some schedule) words reply = Reads source_of source (λ s. IsScheduled erased s words schedule.now reply)
 RanAs files source limit erased (Some certs) schedule words reply =
     Reads source_of source (λ s. Reads certs_of (files certs.now) (λ c. IsRanProved limit s c words reply))
+
+-- the reply to an exploration, without auxiliaries or with them, as JSON or as a text
+abbrev pub ExploredAs : Option (List ℕ) → Bool → Bool → List (List ℕ) → Exploring → Type 0
+ExploredAs source erased json words reply = Reads source_of source (λ s. IsReply json s erased words reply)
 
 -- Q of the text and the status of a check, and what they say of the source
 abbrev pub Checks : Bool → List ℕ → List ℕ → (List ℕ → ℕ → Option (List ℕ) → Type 0) → Type 0
@@ -66,6 +73,8 @@ Answers files input (jobs.Find source budget workers) Q = Gives (λ answer. Read
 Answers files input (jobs.Erase source) Q = Gives (λ answer. Reads source_of (source_in files input source.now) (λ s. IsErased s answer)) Q
 Answers files input (jobs.Run source limit erased certs schedule values) Q =
     Tells (λ ran. RanAs files (source_in files input source.now) limit erased certs schedule (map (λ w. w.now) values.items) (replies.Told ran)) Q
+Answers files input (jobs.Explore source limit erased json ranges) Q =
+    Gives (λ answer. ExploredAs (source_in files input source.now) erased json (map (λ w. w.now) ranges.items) (explorings.Answer answer)) Q
 Answers files input (jobs.Migrate certs) Q = Gives (λ answer. Reads certs_of (files certs.now) (λ c. IsMigrated c answer)) Q
 
 -- a job's answer goes to the end of what standard output holds, its status is the program's, and its line goes to standard error
@@ -91,6 +100,7 @@ lacks missing (jobs.Conditions source) = lacks_source missing source.now
 lacks missing (jobs.Find source budget workers) = lacks_source missing source.now
 lacks missing (jobs.Erase source) = lacks_source missing source.now
 lacks missing (jobs.Run source limit erased certs schedule values) = lacks_source missing source.now || lacks_certs missing certs
+lacks missing (jobs.Explore source limit erased json ranges) = lacks_source missing source.now
 lacks missing (jobs.Migrate certs) = missing certs.now
 
 -- whether the job is told to read standard input, which else is left as it is
@@ -102,6 +112,7 @@ reads_input (jobs.Conditions source) = not (is_file source.now)
 reads_input (jobs.Find source budget workers) = not (is_file source.now)
 reads_input (jobs.Erase source) = not (is_file source.now)
 reads_input (jobs.Run source limit erased certs schedule values) = not (is_file source.now)
+reads_input (jobs.Explore source limit erased json ranges) = not (is_file source.now)
 reads_input (jobs.Migrate certs) = false
 
 -- the text that says why a run cannot be made: a word gives no value or no steps, or a step cannot be made
@@ -120,6 +131,8 @@ Refuses files input (jobs.Find source budget workers) text = ⊥
 Refuses files input (jobs.Erase source) text = ⊥
 Refuses files input (jobs.Run source limit erased certs schedule values) text =
     (reply : Reply) × RanAs files (source_in files input source.now) limit erased certs schedule (map (λ w. w.now) values.items) reply × RefusesAs reply text
+Refuses files input (jobs.Explore source limit erased json ranges) text =
+    (word : Bor (List ℕ)) × ExploredAs (source_in files input source.now) erased json (map (λ w. w.now) ranges.items) (explorings.BadValue word) × (text ≡ bad_value_text word.now)
 Refuses files input (jobs.Migrate certs) text = ⊥
 
 -- a thread can be wanting for a run that has no schedule: its values are a start, of what its certificates prove safe where they are given
@@ -137,6 +150,7 @@ StartsThreads files input (jobs.Conditions source) = ⊥
 StartsThreads files input (jobs.Find source budget workers) = 1 < workers
 StartsThreads files input (jobs.Erase source) = ⊥
 StartsThreads files input (jobs.Run source limit erased certs schedule values) = StartsAs files (source_in files input source.now) erased certs schedule (map (λ w. w.now) values.items)
+StartsThreads files input (jobs.Explore source limit erased json ranges) = ⊥
 StartsThreads files input (jobs.Migrate certs) = ⊥
 
 -- how the program ends where it is given a job: with the job's answer, with a word that is refused, or with a fault;
@@ -174,6 +188,7 @@ IsProvenIn files input (jobs.Conditions source) = ⊤
 IsProvenIn files input (jobs.Find source budget workers) = ⊤
 IsProvenIn files input (jobs.Erase source) = ⊤
 IsProvenIn files input (jobs.Run source limit erased certs schedule values) = IsProvenRun (source_in files input source.now) certs
+IsProvenIn files input (jobs.Explore source limit erased json ranges) = ⊤
 IsProvenIn files input (jobs.Migrate certs) = ⊤
 
 -- it never gets stuck, where what was written says that it is unblocked
@@ -187,6 +202,7 @@ IsNeverStuckIn files input before after (jobs.Conditions source) = ⊤
 IsNeverStuckIn files input before after (jobs.Find source budget workers) = ⊤
 IsNeverStuckIn files input before after (jobs.Erase source) = ⊤
 IsNeverStuckIn files input before after (jobs.Run source limit erased certs schedule values) = ⊤
+IsNeverStuckIn files input before after (jobs.Explore source limit erased json ranges) = ⊤
 IsNeverStuckIn files input before after (jobs.Migrate certs) = ⊤
 
 -- how the program ends where it is given words: as what they ask for ends

@@ -5,6 +5,8 @@ use Rattle.og_answer.specs.declared.answer.Answer.{Answer}
 use Rattle.og_engine.specs.Unfinished.{AppendsFront}
 use Rattle.og_engine.specs.declared.fault.EngineFault.{EngineFault}
 use Rattle.og_engine.specs.declared.fault.EngineFault.TheVariants as faults
+use Rattle.og_explorer.specs.declared.exploring.Reply.{Reply as Exploring}
+use Rattle.og_explorer.specs.declared.exploring.Reply.TheVariants as explorings
 use Rattle.og_running.specs.Running.{note_of}
 use Rattle.og_running.specs.declared.reply.Ran.{Ran}
 use Rattle.og_running.specs.declared.reply.Reply.{Reply}
@@ -68,3 +70,8 @@ abbrev pub TellsReply : Reply → Option (List ℕ) → Option (List ℕ) → Op
 TellsReply (replies.Told ran) out out_after err err_after ended = TellsRan ran out out_after err err_after ended
 TellsReply (replies.BadValue word) out out_after err err_after ended = Keeps out out_after × TellsBadValue word.now err err_after ended
 TellsReply (replies.NotMade line) out out_after err err_after ended = Keeps out out_after × Complains line.items 3 err err_after ended
+
+-- the answer of an exploration, or that word
+abbrev pub TellsExplored : Exploring → Option (List ℕ) → Option (List ℕ) → Option (List ℕ) → Option (List ℕ) → Ended → Type 0
+TellsExplored (explorings.Answer answer) out out_after err err_after ended = TellsAnswer answer out out_after err err_after ended
+TellsExplored (explorings.BadValue word) out out_after err err_after ended = Keeps out out_after × TellsBadValue word.now err err_after ended

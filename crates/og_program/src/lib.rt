@@ -3,6 +3,7 @@
 
 mod commands;
 mod ended;
+mod exploring;
 mod files;
 mod program;
 mod reading;

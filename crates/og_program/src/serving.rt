@@ -6,11 +6,13 @@ ghost use Rattle.og_program.specs.Told.{Fails};
 
 use crate::commands::{conditions, erase, migrate};
 use crate::ended::Ended;
+use crate::exploring::explore;
 use crate::files::Files;
 use crate::program::{Program, Way};
-use crate::telling::{fail, finish, refuse, reply, tell};
+use crate::telling::{fail, finish, refuse, reply, reply_explored, tell};
 use og_answer::Answer;
 use og_engine::{EngineFault, Options, Search};
+use og_explorer::Request;
 use og_words::{Job, Usage, read_words};
 use std::alloc::Global;
 use std::io::{Read, Write};
@@ -82,6 +84,21 @@ impl<'r, F: Files, H: Threads + Wait + Sync> Program<'r, F, H> {
                 };
                 let ran = self.run(source, *certs, values, &way, input);
                 reply(alloc, ran, out, err)
+            }
+            Job::Explore {
+                source,
+                limit,
+                erased,
+                json,
+                ranges,
+            } => {
+                let request = Request {
+                    limit: limit.moments(),
+                    erased: *erased,
+                    json: *json,
+                };
+                let explored = explore(alloc, files, source, ranges, request, input);
+                reply_explored(alloc, explored, out, err)
             }
         }
     }

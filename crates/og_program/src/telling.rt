@@ -1,11 +1,12 @@
 //! What is told of an answer, a fault or wrong words.
 
 ghost use Rattle.std.specs.Prelude.{◌≡◌, option_map, IfOk, IfErr};
-ghost use Rattle.og_program.specs.Told.{fault_text, Complains, IsSilent, Notes, Fails, TellsAnswer, TellsBadValue, TellsRan, TellsReply};
+ghost use Rattle.og_program.specs.Told.{fault_text, Complains, IsSilent, Notes, Fails, TellsAnswer, TellsBadValue, TellsExplored, TellsRan, TellsReply};
 
 use crate::ended::Ended;
 use og_answer::Answer;
 use og_engine::{EngineFault, write_answer, write_text};
+use og_explorer::Reply as Explored;
 use og_running::{Ran, Reply};
 use std::alloc::Global;
 use std::io::Write;
@@ -130,6 +131,23 @@ pub(crate) fn reply<O: Write, E: Write>(
         Ok(Reply::Told(ran)) => print_ran(&ran, out, err),
         Ok(Reply::BadValue(word)) => refuse_value(alloc, word, err),
         Ok(Reply::NotMade(line)) => complain(&line, WRONG, err),
+        Err(fault) => fail(fault, err),
+    }
+}
+
+/// Tells what came of an exploration.
+pub(crate) fn reply_explored<O: Write, E: Write>(
+    alloc: Global,
+    reply: Result<Explored<'_>, EngineFault>,
+    out: &mut O,
+    err: &mut E,
+) -> Ended
+    ensures ok { IfOk reply.entry (λ r. TellsExplored r (O.contents out.old) (O.contents out.new) (E.contents err.old) (E.contents err.new) result) }
+    ensures err { IfErr reply.entry (λ fault. Fails fault (O.contents out.old) (O.contents out.new) (E.contents err.old) (E.contents err.new) result) }
+{
+    match reply {
+        Ok(Explored::Answer(answer)) => print(&answer, out, err),
+        Ok(Explored::BadValue(word)) => refuse_value(alloc, word, err),
         Err(fault) => fail(fault, err),
     }
 }

@@ -27,9 +27,17 @@ certs_option = record (new_rule (codes "certs")) { long = Some (codes "certs"); 
 abbrev pub schedule_option : Rule
 schedule_option = record (new_rule (codes "schedule")) { long = Some (codes "schedule"); value_names = 1; is_free = false }
 
--- the words NAME=INT, as many as there are
+-- words of this form, as many as there are
+abbrev pub words : Text → Rule
+words form = record (new_rule form) { action = Some Append; range = Some (record { start_inclusive = 0; end_inclusive = usize_max }) }
+
+-- variables with a value each
 abbrev pub values : Rule
-values = record (new_rule (codes "NAME=INT")) { action = Some Append; range = Some (record { start_inclusive = 0; end_inclusive = usize_max }) }
+values = words (codes "NAME=INT")
+
+-- variables with a value each, or with the first and the last of their values
+abbrev pub ranges : Rule
+ranges = words (codes "NAME=INT|LO..HI")
 
 abbrev pub source : Rule
 source = word (codes "SOURCE")
@@ -45,6 +53,9 @@ budget = number (codes "budget") (codes "100000") (Unsigned 1 1000000000)
 
 abbrev pub limit : Rule
 limit = number (codes "limit") (codes "1000") (Signed (pos 0) (pos 1000000))
+
+abbrev pub moments : Rule
+moments = number (codes "limit") (codes "100000") (Signed (pos 1) (pos 1000000))
 
 -- a command with these arguments
 abbrev pub command : Text → List Rule → Shape
@@ -68,6 +79,9 @@ erase = command (codes "erase") (source ∷ [])
 abbrev pub run : Shape
 run = command (codes "run") (source ∷ limit ∷ flag (codes "erased") ∷ certs_option ∷ schedule_option ∷ values ∷ [])
 
+abbrev pub explorer : Shape
+explorer = command (codes "explore") (source ∷ moments ∷ flag (codes "erased") ∷ flag (codes "json") ∷ ranges ∷ [])
+
 abbrev pub migrate : Shape
 migrate = command (codes "migrate") (certs ∷ [])
 
@@ -75,5 +89,5 @@ migrate = command (codes "migrate") (certs ∷ [])
 abbrev pub og : App
 og = record {
   top = record (new_shape (codes "og")) { is_leaf = false; no_binary_name = true; disable_help_subcommand = true; subcommand_required = true };
-  subs = prover ∷ check ∷ conditions ∷ finder ∷ erase ∷ run ∷ migrate ∷ [];
+  subs = prover ∷ check ∷ conditions ∷ finder ∷ erase ∷ run ∷ explorer ∷ migrate ∷ [];
 }

@@ -16,6 +16,7 @@ verb_name verbs.Conditions = codes "conditions"
 verb_name verbs.Find = codes "find"
 verb_name verbs.Erase = codes "erase"
 verb_name verbs.Run = codes "run"
+verb_name verbs.Explore = codes "explore"
 verb_name verbs.Migrate = codes "migrate"
 
 -- the word that names a job's command; the joined run has none
@@ -27,6 +28,7 @@ command_of (jobs.Conditions source) = Some (codes "conditions")
 command_of (jobs.Find source budget workers) = Some (codes "find")
 command_of (jobs.Erase source) = Some (codes "erase")
 command_of (jobs.Run source limit erased certs schedule values) = Some (codes "run")
+command_of (jobs.Explore source limit erased json ranges) = Some (codes "explore")
 command_of (jobs.Migrate certs) = Some (codes "migrate")
 
 -- the job holds what is given for each argument of its command
@@ -47,6 +49,9 @@ Holds rows (jobs.Run source limit erased certs schedule values) =
     (text_of (codes "SOURCE") rows ≡ Some source.now) × (number_of (codes "limit") rows ≡ Some limit) × (erased ≡ is_given (codes "erased") rows)
     × (option_map (λ c. c.now) certs ≡ text_of (codes "certs") rows) × (option_map (λ s. s.now) schedule ≡ text_of (codes "schedule") rows)
     × (map (λ w. w.now) values.items ≡ texts_of (codes "NAME=INT") rows)
+Holds rows (jobs.Explore source limit erased json ranges) =
+    (text_of (codes "SOURCE") rows ≡ Some source.now) × (number_of (codes "limit") rows ≡ Some limit) × (erased ≡ is_given (codes "erased") rows)
+    × (json ≡ is_given (codes "json") rows) × (map (λ w. w.now) ranges.items ≡ texts_of (codes "NAME=INT|LO..HI") rows)
 Holds rows (jobs.Migrate certs) = text_of (codes "CERTS") rows ≡ Some certs.now
 
 -- what words ask for

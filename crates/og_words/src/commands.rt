@@ -116,13 +116,13 @@ fn limit_arg<'a>(alloc: Global) -> Arg<'a>
         .help("How many steps the history may have")
 }
 
-fn erased_arg<'a>(alloc: Global) -> Arg<'a>
+fn erased_arg<'a>(alloc: Global, help: &'a str) -> Arg<'a>
     ensures { IsArg (line.flag (codes "erased")) result }
 {
     Arg::new(alloc, "erased")
         .long("erased")
         .action(ArgAction::SetTrue)
-        .help("Run the erased program")
+        .help(help)
 }
 
 fn run_certs_arg<'a>(alloc: Global) -> Result<Arg<'a>, AllocError>
@@ -146,13 +146,36 @@ fn schedule_arg<'a>(alloc: Global) -> Result<Arg<'a>, AllocError>
         .conflicts_with("limit")
 }
 
+// Words of a form, as many as there are.
+fn words_arg<'a>(alloc: Global, form: &'a str) -> Arg<'a>
+    ensures { IsArg (line.words form.entry.now) result }
+{
+    Arg::new(alloc, form)
+        .num_args(0..)
+        .action(ArgAction::Append)
+}
+
 fn values_arg<'a>(alloc: Global) -> Arg<'a>
     ensures { IsArg line.values result }
 {
-    Arg::new(alloc, "NAME=INT")
-        .num_args(0..)
-        .action(ArgAction::Append)
-        .help("A variable's value at the start")
+    words_arg(alloc, "NAME=INT").help("A variable's value at the start")
+}
+
+fn ranges_arg<'a>(alloc: Global) -> Arg<'a>
+    ensures { IsArg line.ranges result }
+{
+    words_arg(alloc, "NAME=INT|LO..HI").help("A variable's value at the start, or its values")
+}
+
+fn moments_arg<'a>(alloc: Global) -> Arg<'a>
+    ensures { IsArg line.moments result }
+{
+    Arg::new(alloc, "limit")
+        .long("limit")
+        .value_name("N")
+        .default_value("100000")
+        .value_parser(clap::value_parser!(u32).range(1..=1000000))
+        .help("How many moments may be looked at")
 }
 
 fn run_command<'a>(alloc: Global) -> Result<Command<'a>, AllocError>
@@ -163,10 +186,22 @@ fn run_command<'a>(alloc: Global) -> Result<Command<'a>, AllocError>
         .about("Run the processes in threads, or step by step")
         .arg(source_arg(alloc))?
         .arg(limit_arg(alloc))?
-        .arg(erased_arg(alloc))?
+        .arg(erased_arg(alloc, "Run the erased program"))?
         .arg(certs)?
         .arg(schedule)?
         .arg(values_arg(alloc))
+}
+
+fn explore_command<'a>(alloc: Global) -> Result<Command<'a>, AllocError>
+    ensures { IfOk result (IsCommand line.explorer) }
+{
+    Command::new(alloc, "explore")
+        .about("Look through every run for what goes wrong")
+        .arg(source_arg(alloc))?
+        .arg(moments_arg(alloc))?
+        .arg(erased_arg(alloc, "Explore the erased program"))?
+        .arg(json_arg(alloc))?
+        .arg(ranges_arg(alloc))
 }
 
 fn migrate_command<'a>(alloc: Global) -> Result<Command<'a>, AllocError>
@@ -205,10 +240,11 @@ fn with_outlines<'a>(alloc: Global, program: Command<'a>) -> Result<Command<'a>,
 
 // Adds the words that look at programs, and at certificates alone.
 fn with_programs<'a>(alloc: Global, program: Command<'a>) -> Result<Command<'a>, AllocError>
-    ensures { IfOk result (λ r. app_of r ≡ with_subcommand (with_subcommand (with_subcommand (app_of program.entry) line.erase) line.run) line.migrate) }
+    ensures { IfOk result (λ r. app_of r ≡ with_subcommand (with_subcommand (with_subcommand (with_subcommand (app_of program.entry) line.erase) line.run) line.explorer) line.migrate) }
 {
     let program = with_word(program, erase_command(alloc))?;
     let program = with_word(program, run_command(alloc))?;
+    let program = with_word(program, explore_command(alloc))?;
     with_word(program, migrate_command(alloc))
 }
 

@@ -4,7 +4,7 @@ ghost use Rattle.std.specs.Prelude.{◌≡◌};
 ghost use Rattle.og_words.specs.Jobs.{SaysWrong};
 ghost use Rattle.og_words.specs.declared.job.Usage.TheVariants.{Memory};
 
-use og_limits::{Budget, RunLimit, Workers};
+use og_limits::{Budget, MomentLimit, RunLimit, Workers};
 use std::alloc::{AllocError, AllocFailed, Global};
 
 /// The words that name commands.
@@ -16,6 +16,7 @@ pub(crate) enum Verb {
     Find,
     Erase,
     Run,
+    Explore,
     Migrate,
 }
 
@@ -72,6 +73,18 @@ pub enum Job<'a> {
         schedule: Option<&'a str>,
         /// Words that give variables their values at the start.
         values: Vec<&'a str>,
+    },
+    /// Look through the moments of all runs.
+    Explore {
+        source: &'a str,
+        /// How many moments may be looked at.
+        limit: MomentLimit,
+        /// Whether the program without auxiliary variables is to be explored.
+        erased: bool,
+        /// Whether the report is to be JSON.
+        json: bool,
+        /// Words that give variables their values, or ranges of them, at the start.
+        ranges: Vec<&'a str>,
     },
     /// Print the certificates in version 2 of their format.
     Migrate {

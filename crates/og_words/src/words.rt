@@ -10,7 +10,7 @@ use crate::commands::program;
 use crate::job::{Job, Usage, Verb};
 use clap::ArgMatches;
 use clap::error::{Error, ErrorKind};
-use og_limits::{Budget, RunLimit, Workers};
+use og_limits::{Budget, MomentLimit, RunLimit, Workers};
 use std::alloc::{AllocError, Global};
 
 fn verb_of(word: &str) -> Option<Verb>
@@ -23,6 +23,7 @@ fn verb_of(word: &str) -> Option<Verb>
         "find" => Some(Verb::Find),
         "erase" => Some(Verb::Erase),
         "run" => Some(Verb::Run),
+        "explore" => Some(Verb::Explore),
         "migrate" => Some(Verb::Migrate),
         _ => None,
     }
@@ -58,6 +59,12 @@ fn limit_of(m: &ArgMatches<'_>) -> Option<RunLimit>
     ensures { IfSome result (λ n. number_of (codes "limit") (rows_of (found_of m.now)) ≡ Some n) }
 {
     RunLimit::new(m.get_one::<u32>("limit")?)
+}
+
+fn moments_of(m: &ArgMatches<'_>) -> Option<MomentLimit>
+    ensures { IfSome result (λ n. number_of (codes "limit") (rows_of (found_of m.now)) ≡ Some n) }
+{
+    MomentLimit::new(m.get_one::<u32>("limit")?)
 }
 
 fn prove_job<'a>(m: &ArgMatches<'a>) -> Option<Job<'a>>
@@ -160,6 +167,30 @@ fn run_job<'a>(alloc: Global, m: &ArgMatches<'a>) -> Result<Option<Job<'a>>, All
     Ok(run_with(m, texts_of(alloc, m, "NAME=INT")?))
 }
 
+// The job of an exploration, with the words that give variables their ranges.
+fn explore_with<'a>(m: &ArgMatches<'a>, ranges: Vec<&'a str>) -> Option<Job<'a>>
+    requires { map (λ w. w.now) ranges.items ≡ texts_of (codes "NAME=INT|LO..HI") (rows_of (found_of m.now)) }
+    ensures command { IfSome result (λ job. command_of job ≡ Some (verb_name Verb.Explore)) }
+    ensures holds { IfSome result (Holds (rows_of (found_of m.now))) }
+{
+    let (source, limit) = (text_of(m, "SOURCE")?, moments_of(m)?);
+    let (erased, json) = (has_flag(m, "erased"), has_flag(m, "json"));
+    Some(Job::Explore {
+        source,
+        limit,
+        erased,
+        json,
+        ranges,
+    })
+}
+
+fn explore_job<'a>(alloc: Global, m: &ArgMatches<'a>) -> Result<Option<Job<'a>>, AllocError>
+    ensures command { IfOk result (λ r. IfSome r (λ job. command_of job ≡ Some (verb_name Verb.Explore))) }
+    ensures holds { IfOk result (λ r. IfSome r (Holds (rows_of (found_of m.now)))) }
+{
+    Ok(explore_with(m, texts_of(alloc, m, "NAME=INT|LO..HI")?))
+}
+
 // The job of a command.
 fn job_of<'a>(alloc: Global, verb: Verb, m: &ArgMatches<'a>) -> Result<Option<Job<'a>>, AllocError>
     ensures command { IfOk result (λ r. IfSome r (λ job. command_of job ≡ Some (verb_name verb))) }
@@ -172,6 +203,7 @@ fn job_of<'a>(alloc: Global, verb: Verb, m: &ArgMatches<'a>) -> Result<Option<Jo
         Verb::Find => Ok(find_job(m)),
         Verb::Erase => Ok(erase_job(m)),
         Verb::Run => run_job(alloc, m),
+        Verb::Explore => explore_job(alloc, m),
         Verb::Migrate => Ok(migrate_job(m)),
     }
 }

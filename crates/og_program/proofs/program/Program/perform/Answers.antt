@@ -1,12 +1,13 @@
 use Rattle.std.proofs.Common.{◌≡◌, ℕ, List, Bor, IfOk, IfErr, map, subst, refl, false}
-use Rattle.og_engine.specs.Answers.{Writes, WritesJoined}
+use Rattle.og_engine.specs.Written.{Writes, WritesJoined}
 use Rattle.og_engine.specs.Inputs.{source_of, certs_of, joined_of, Reads}
 use Rattle.og_words.specs.declared.job.Job.TheVariants as jobs
 use Rattle.og_running.specs.declared.reply.Reply.{Reply}
+use Rattle.og_explorer.specs.declared.exploring.Reply.{Reply as Exploring}
 use Rattle.og_program.specs.Named.{source_in}
 use Rattle.og_engine.specs.declared.fault.EngineFault.TheVariants as faults
-use Rattle.og_program.specs.Served.{RanAs, StartsAs}
-use Rattle.og_program.proofs.Ending.{joined_does, check_does, absent, finished, told, told_by_threads, replied}
+use Rattle.og_program.specs.Served.{ExploredAs, RanAs, StartsAs}
+use Rattle.og_program.proofs.Ending.{joined_does, check_does, absent, finished, told, told_by_threads, replied, explored}
 use Rattle.og_program.proofs.Faults.{unread}
 use Rattle.og_program.proofs.program.Program.perform.Goals as goal
 
@@ -68,6 +69,15 @@ returns-in-Run-clause-ended g c =
     (subst (λ (words : List (Bor (List ℕ))). IfErr c.run-ran.result (λ e. e ≡ faults.Spawn → StartsAs files source c.in-Run.erased c.in-Run.certs c.in-Run.schedule (map (λ w. w.now) words))) c.deref.ensures.value c.run-ran.ensures.spawn)
     c.reply.ensures.ok c.reply.ensures.err
 
+pub returns-in-Explore-clause-ended : goal.returns-in-Explore-clause-ended
+returns-in-Explore-clause-ended g c =
+    let files = g.F.Files.contents c.args.self.now.files.now in
+    let source = source_in files (g.I.Read.remaining c.args.input.now) c.in-Explore.source.now in
+    let Came = λ (words : List (Bor (List ℕ))) (r : Exploring). ExploredAs source c.in-Explore.erased c.in-Explore.json (map (λ w. w.now) words) r in
+    explored _ _ _ _ _ _ _ _ c.reply_explored.result (Came c.in-Explore.ranges.items) c.explore.result c.in-Explore.is (λ Q gives. gives) (λ word came. (word, came, refl))
+    (subst (λ (words : List (Bor (List ℕ))). IfOk c.explore.result (Came words)) c.deref-in-Explore.ensures.value c.explore.ensures.reply) c.explore.ensures.fault c.explore.ensures.spawn
+    c.reply_explored.ensures.ok c.reply_explored.ensures.err
+
 pub returns-in-Check-clause-kept : goal.returns-in-Check-clause-kept
 returns-in-Check-clause-kept g c = unread _ _ c.in-Check.source.now _ c.in-Check.is refl c.check.ensures.kept
 
@@ -82,3 +92,6 @@ returns-in-Erase-clause-kept g c = unread _ _ c.in-Erase.source.now _ c.in-Erase
 
 pub returns-in-Run-clause-kept : goal.returns-in-Run-clause-kept
 returns-in-Run-clause-kept g c = unread _ _ c.in-Run.source.now _ c.in-Run.is refl c.run-ran.ensures.kept
+
+pub returns-in-Explore-clause-kept : goal.returns-in-Explore-clause-kept
+returns-in-Explore-clause-kept g c = unread _ _ c.in-Explore.source.now _ c.in-Explore.is refl c.explore.ensures.kept
