@@ -1,5 +1,5 @@
 -- From what is told of all conditions to the answer.
-use Rattle.std.proofs.Common.{◌≡◌, ◌≤◌, ◌⊎◌, ◌∙◌, ◌+◌, inl, ℕ, List, [], ◌∷◌, Bool, Bor, ap, ap₂, drop, drop-cons, add-one, true, false, refl, sym, subst, length, map, codes, Option, Some, None, option_map, Result, Ok, Err, IfOk, IfSome}
+use Rattle.std.proofs.Common.{◌≡◌, ◌≤◌, ◌∙◌, ◌+◌, inl, ℕ, List, [], ◌∷◌, Bool, Bor, ap, ap₂, drop, drop-cons, add-one, true, false, refl, sym, subst, length, map, codes, Option, Some, None, option_map, Result, Ok, Err, IfOk, IfSome}
 use Rattle.std.specs.Prelude.{IsSomeAnd, slice_get}
 use Rattle.std.proofs.lemmas.Option.{slice_get_within, get_or_from_slice_get}
 use Rattle.og_typed.specs.Syntax.{Program}
@@ -9,7 +9,6 @@ use Rattle.og_cond.specs.Limits.{condition_limit}
 use Rattle.og_theorem.specs.Proved.{IsProved}
 use Rattle.og_answer.specs.Told.{Says}
 use Rattle.og_answer.specs.declared.answer.Answer.{Answer}
-use Rattle.og_engine.specs.Commands.{HasTooMany}
 use Rattle.og_engine.specs.Proving.{told_in, told_status, IsToldText, IsToldOf}
 use Rattle.og_find.specs.Found.{IsVerdict}
 use Rattle.og_find.specs.declared.verdict.Verdict.{Verdict}

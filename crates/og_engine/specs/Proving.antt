@@ -1,5 +1,5 @@
 -- What is printed of the conditions of a source, and the status.
-use Rattle.std.specs.Prelude.{◌≡◌, ◌≤◌, ◌⊎◌, ℕ, Bool, true, false, if◌then◌else◌, List, [], ◌∷◌, ◌++◌, length}
+use Rattle.std.specs.Prelude.{◌≤◌, ◌⊎◌, ℕ, Bool, true, false, if◌then◌else◌, List, [], ◌∷◌, ◌++◌, length}
 use Rattle.og_typed.specs.Syntax.{Program}
 use Rattle.og_cond.specs.Condition.{Condition}
 use Rattle.og_cond.specs.Conditions.{conditions}

@@ -1,5 +1,5 @@
 -- From the parts of an end to the whole.
-use Rattle.std.proofs.Common.{◌≡◌, ◌≢◌, refl, inl, inr, ℕ, Bool, false, List, Option, None, Some, Result, Ok, Err, IfOk, IfErr, Bor, subst, sym}
+use Rattle.std.proofs.Common.{◌≡◌, ◌≢◌, refl, inl, inr, ℕ, Bool, false, List, Option, Result, Ok, Err, IfOk, IfErr, Bor, subst, sym}
 use Rattle.std.specs.Io.KnownBytes.{Appends, Keeps}
 use Rattle.og_answer.specs.declared.answer.Answer.{Answer}
 use Rattle.og_engine.specs.Written.{Writes, WritesJoined}

@@ -119,14 +119,15 @@ fn explain<O: Write, E: Write>(usage: Usage, out: &mut O, err: &mut E) -> Ended
 }
 
 /// Does a job, or tells why there is none. What a command prints goes to `out`, with its status, from
-/// 0 to 2, and nothing to `err`. Status 0 of a check says that the source that was checked is proven;
-/// and where what was printed says that it is unblocked, that it never gets stuck. `input` is read
-/// where a source is named `-`, and for a job that has no files.
+/// 0 to 2, and nothing to `err` but the line of a run along which an assertion is false. Status 0 of
+/// `prove`, of a check and of a run with certificates says that the source is proven; and where what
+/// was printed says that it is unblocked, that it never gets stuck. `input` is read where a source is
+/// named `-`, and for a job that has no files.
 ///
-/// The status is 3, with a text to `err`, where the words are wrong or one gives no variable a value;
-/// and 4, with a text to `err`, where a file cannot be read or `out` not be written, memory runs out
-/// or a thread cannot be started. Nothing goes to `out` then, but a front of the answer where it
-/// could not be written whole.
+/// The status is 3, with a text to `err`, where the words are wrong, one gives no variable a value, or
+/// a step of a schedule cannot be made; and 4, with a text to `err`, where a file cannot be read or
+/// `out` not be written, memory runs out or a thread cannot be started. Nothing goes to `out` then,
+/// but a front of the answer where it could not be written whole.
 pub fn serve<F: Files, I: Read, O: Write, E: Write, H: Threads + Wait + Sync>(
     rt: &H,
     alloc: Global,

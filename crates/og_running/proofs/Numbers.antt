@@ -1,5 +1,5 @@
 -- Numbers with a comma between two, one after another.
-use Rattle.std.proofs.Common.{◌≡◌, ◌∙◌, ◌<◌, ◌+◌, ◌≤◌, ◌++◌, ◌∷◌, [], ℕ, Bool, false, List, length, ap, sym, subst, refl, arith, append_assoc, drop}
+use Rattle.std.proofs.Common.{◌≡◌, ◌∙◌, ◌<◌, ◌≤◌, ◌++◌, ◌∷◌, [], ℕ, Bool, false, List, length, ap, sym, subst, refl, arith, append_assoc}
 use Rattle.std.specs.Prelude.{◌≢◌, ◌==◌}
 use Rattle.std.specs.List.{position_or_len, before_first, after_first}
 use Rattle.og_running.specs.Schedules.{is_comma, IsNumber, AreNumbers, IsSchedule}

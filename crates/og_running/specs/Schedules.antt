@@ -1,5 +1,5 @@
 -- Schedules: the processes that are to step, in order, by the numbers under which they are printed.
-use Rattle.std.specs.Prelude.{◌≡◌, ◌≢◌, ◌<◌, ◌≤◌, ◌-◌, ◌^◌, ◌==◌, ◌||◌, ℕ, Bool, true, false, if◌then◌else◌, nat_le, List, [], ◌∷◌, length, take, map, slice_get, Some, is_some}
+use Rattle.std.specs.Prelude.{◌≡◌, ◌≢◌, ◌<◌, ◌≤◌, ◌-◌, ◌^◌, ◌==◌, ◌||◌, ℕ, Bool, false, if◌then◌else◌, nat_le, List, [], ◌∷◌, length, take, map, slice_get, Some, is_some}
 use Rattle.std.specs.List.{position_or_len, before_first, after_first}
 use Rattle.std.specs.Str.Parse.{IsNumeral, digits_value}
 use Rattle.og_typed.specs.Syntax.{Program}

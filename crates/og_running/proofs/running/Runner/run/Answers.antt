@@ -2,7 +2,7 @@ use Rattle.std.proofs.Common.{rules, ℕ, ℤ, List, IfOk, subst}
 use Rattle.og_running.specs.Asked.{IsNote}
 use Rattle.og_running.specs.Running.{given, note_of, Tells}
 use Rattle.og_running.specs.declared.reply.Ran.{Ran}
-use Rattle.og_running.proofs.Answering.{run_told, run_wants}
+use Rattle.og_running.proofs.Answering.{run_told}
 use Rattle.og_running.proofs.running.Runner.run.Goals as goal
 
 pub returns-clause-told : goal.returns-clause-told
