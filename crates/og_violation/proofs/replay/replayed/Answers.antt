@@ -19,5 +19,5 @@ returns-else-is_wrong-clause-none c =
     let o = c.args.outline.now in
     let after = subst (λ x. IfSome x (IsAfterRun o c.args.values c.deref.result.now)) c.in-Some.is c.in_ok-moment.ensures.some in
     λ w.
-        let same = same_Some c.in-Some.moment.moment w.last (sym after.2 ∙ ap (λ h. run_on h (Some (start_of o c.args.values))) c.deref.ensures.value ∙ w.leads) in
-        both_ways c.is_wrong.result c.if-is_wrong.false (c.is_wrong.ensures.1 (subst (λ m. IsWrongAt o m c.args.wrong) (sym same) w.there))
+    let same = same_Some c.in-Some.moment.moment w.last (sym after.2 ∙ ap (λ h. run_on h (Some (start_of o c.args.values))) c.deref.ensures.value ∙ w.leads) in
+    both_ways c.is_wrong.result c.if-is_wrong.false (c.is_wrong.ensures.1 (subst (λ m. IsWrongAt o m c.args.wrong) (sym same) w.there))
