@@ -3,6 +3,7 @@
 ghost use Rattle.std.specs.Prelude.{◌≡◌, ◌≤◌, ◌^◌, length, map, true, None, IfOk, IfSome};
 ghost use Rattle.std.specs.List.{AllByRecursion};
 ghost use Rattle.og_cond.specs.Seen.{seen};
+ghost use Rattle.og_explore.specs.Told.{AreWithin};
 ghost use Rattle.og_exploring.specs.Totals.{safe_of, unblocked_of};
 ghost use Rattle.og_explorer.specs.Told.{IsOneFinding, AreViolations};
 ghost use Rattle.og_explorer.specs.Explored.{is_yes, status_of, printed, IsExplored};
@@ -36,10 +37,12 @@ fn told_of<'a>(
     outline: &'a Outline,
     index: &Index<'a>,
     conditions: &[Condition],
+    ranges: &[Range],
     found: &Exploration,
 ) -> Result<Told<'a>, AllocError>
     requires found { AreViolations outline.now found.now }
-    ensures each { IfOk result (λ told. AllByRecursion (IsOneFinding outline.now (map seen conditions.now)) told.findings.items) }
+    requires within { AreWithin ranges.now found.now }
+    ensures each { IfOk result (λ told. AllByRecursion (IsOneFinding outline.now (map seen conditions.now) ranges.now) told.findings.items) }
     ensures safe { IfOk result (λ told. safe_of told.complete told.findings.items ≡ yes_or_no.Yes
         → (found.now.complete ≡ true) × (found.now.assertion ≡ None) × (found.now.overflow ≡ None) × (found.now.post ≡ None)) }
     ensures unblocked { IfOk result (λ told. unblocked_of told.complete told.findings.items ≡ yes_or_no.Yes
@@ -55,6 +58,7 @@ fn told_of<'a>(
         outline,
         index,
         conditions,
+        ranges,
         &found.assertion,
     )?;
     add(
@@ -63,10 +67,27 @@ fn told_of<'a>(
         outline,
         index,
         conditions,
+        ranges,
         &found.overflow,
     )?;
-    add(&mut told, alloc, outline, index, conditions, &found.post)?;
-    add(&mut told, alloc, outline, index, conditions, &found.stuck)?;
+    add(
+        &mut told,
+        alloc,
+        outline,
+        index,
+        conditions,
+        ranges,
+        &found.post,
+    )?;
+    add(
+        &mut told,
+        alloc,
+        outline,
+        index,
+        conditions,
+        ranges,
+        &found.stuck,
+    )?;
     Ok(told)
 }
 
@@ -153,7 +174,7 @@ pub fn answer(
         return Ok(None);
     }
     let index = Index::new(alloc, outline)?;
-    let told = told_of(alloc, outline, &index, conditions, &found)?;
+    let told = told_of(alloc, outline, &index, conditions, ranges, &found)?;
     let totals = Totals {
         starts: u64::from(found.starts),
         given: ends(alloc, ranges)?,

@@ -3,9 +3,11 @@
 ghost use Rattle.std.specs.Prelude.{◌≡◌, map, IfSome, OnOk};
 ghost use Rattle.og_cond.specs.Seen.{seen};
 ghost use Rattle.og_violation.specs.Violations.{IsViolation};
+ghost use Rattle.og_explore.specs.Within.{IsWithin};
 ghost use Rattle.og_explorer.specs.Told.{IsAdded};
 
 use og_cond::Condition;
+use og_explore::Range;
 use og_exploring::{Finding, tell};
 use og_places::Index;
 use og_typed::Outline;
@@ -26,10 +28,12 @@ pub(crate) fn add<'a>(
     outline: &'a Outline,
     index: &Index<'a>,
     conditions: &[Condition],
+    ranges: &[Range],
     found: &Option<Violation>,
 ) -> Result<(), AllocError>
-    requires { IfSome found.now (IsViolation outline.now) }
-    ensures { OnOk result (IsAdded outline.now (map seen conditions.now) found.now told.old told.new) }
+    requires violation { IfSome found.now (IsViolation outline.now) }
+    requires within { IfSome found.now (λ v. IsWithin ranges.now v.values) }
+    ensures { OnOk result (IsAdded outline.now (map seen conditions.now) ranges.now found.now told.old told.new) }
 {
     let Some(violation) = found else {
         return Ok(());
