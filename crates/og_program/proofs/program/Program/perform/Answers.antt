@@ -74,8 +74,8 @@ returns-in-Explore-clause-ended g c =
     let files = g.F.Files.contents c.args.self.now.files.now in
     let source = source_in files (g.I.Read.remaining c.args.input.now) c.in-Explore.source.now in
     let Came = λ (words : List (Bor (List ℕ))) (r : Exploring). ExploredAs source c.in-Explore.erased c.in-Explore.json (map (λ w. w.now) words) r in
-    explored _ _ _ _ _ _ _ _ c.reply_explored.result (Came c.in-Explore.ranges.items) c.explore.result c.in-Explore.is (λ Q gives. gives) (λ word came. (word, came, refl))
-    (subst (λ (words : List (Bor (List ℕ))). IfOk c.explore.result (Came words)) c.deref-in-Explore.ensures.value c.explore.ensures.reply) c.explore.ensures.fault c.explore.ensures.spawn
+    explored _ _ _ _ _ _ _ _ c.reply_explored.result (Came c.in-Explore.ranges.items) c.explore-explored.result c.in-Explore.is (λ Q gives. gives) (λ word came. (word, came, refl))
+    (subst (λ (words : List (Bor (List ℕ))). IfOk c.explore-explored.result (Came words)) c.deref-in-Explore.ensures.value c.explore-explored.ensures.reply) c.explore-explored.ensures.fault c.explore-explored.ensures.spawn
     c.reply_explored.ensures.ok c.reply_explored.ensures.err
 
 pub returns-in-Check-clause-kept : goal.returns-in-Check-clause-kept
@@ -94,4 +94,4 @@ pub returns-in-Run-clause-kept : goal.returns-in-Run-clause-kept
 returns-in-Run-clause-kept g c = unread _ _ c.in-Run.source.now _ c.in-Run.is refl c.run-ran.ensures.kept
 
 pub returns-in-Explore-clause-kept : goal.returns-in-Explore-clause-kept
-returns-in-Explore-clause-kept g c = unread _ _ c.in-Explore.source.now _ c.in-Explore.is refl c.explore.ensures.kept
+returns-in-Explore-clause-kept g c = unread _ _ c.in-Explore.source.now _ c.in-Explore.is refl c.explore-explored.ensures.kept
