@@ -52,23 +52,43 @@ const JOBS: &[(&str, &str)] = &[
     ("erase a", "Erase { source: \"a\" }"),
     (
         "run a x=1 y=-2 --limit 0",
-        "Run { source: \"a\", limit: RunLimit { steps: 0 }, erased: false, certs: None, values: [\"x=1\", \"y=-2\"] }",
+        "Run { source: \"a\", limit: RunLimit { steps: 0 }, erased: false, certs: None, schedule: None, values: [\"x=1\", \"y=-2\"] }",
     ),
     (
         "run a --certs f",
-        "Run { source: \"a\", limit: RunLimit { steps: 1000 }, erased: false, certs: Some(\"f\"), values: [] }",
+        "Run { source: \"a\", limit: RunLimit { steps: 1000 }, erased: false, certs: Some(\"f\"), schedule: None, values: [] }",
     ),
     (
         "run a --erased",
-        "Run { source: \"a\", limit: RunLimit { steps: 1000 }, erased: true, certs: None, values: [] }",
+        "Run { source: \"a\", limit: RunLimit { steps: 1000 }, erased: true, certs: None, schedule: None, values: [] }",
     ),
     (
         "run --limit 1000000 a",
-        "Run { source: \"a\", limit: RunLimit { steps: 1000000 }, erased: false, certs: None, values: [] }",
+        "Run { source: \"a\", limit: RunLimit { steps: 1000000 }, erased: false, certs: None, schedule: None, values: [] }",
     ),
     (
         "run a i=1 h=2 g=3 f=4 e=5 d=6 c=7 b=8 a=9 i=10",
-        "Run { source: \"a\", limit: RunLimit { steps: 1000 }, erased: false, certs: None, values: [\"i=1\", \"h=2\", \"g=3\", \"f=4\", \"e=5\", \"d=6\", \"c=7\", \"b=8\", \"a=9\", \"i=10\"] }",
+        "Run { source: \"a\", limit: RunLimit { steps: 1000 }, erased: false, certs: None, schedule: None, values: [\"i=1\", \"h=2\", \"g=3\", \"f=4\", \"e=5\", \"d=6\", \"c=7\", \"b=8\", \"a=9\", \"i=10\"] }",
+    ),
+    (
+        "run a --schedule 1,2,0 x=1",
+        "Run { source: \"a\", limit: RunLimit { steps: 1000 }, erased: false, certs: None, schedule: Some(\"1,2,0\"), values: [\"x=1\"] }",
+    ),
+    (
+        "run a --erased --schedule 1",
+        "Run { source: \"a\", limit: RunLimit { steps: 1000 }, erased: true, certs: None, schedule: Some(\"1\"), values: [] }",
+    ),
+    (
+        "explore a",
+        "Explore { source: \"a\", limit: MomentLimit { moments: 100000 }, erased: false, json: false, ranges: [] }",
+    ),
+    (
+        "explore - x=1 y=-2..3 --limit 1",
+        "Explore { source: \"-\", limit: MomentLimit { moments: 1 }, erased: false, json: false, ranges: [\"x=1\", \"y=-2..3\"] }",
+    ),
+    (
+        "explore --json --limit 1000000 --erased a",
+        "Explore { source: \"a\", limit: MomentLimit { moments: 1000000 }, erased: true, json: true, ranges: [] }",
     ),
     ("migrate c", "Migrate { certs: \"c\" }"),
 ];
@@ -94,6 +114,12 @@ const NO_JOBS: &[(&str, &str)] = &[
     ("find a --json", "wrong"),
     ("run a --limit 1000001", "wrong"),
     ("run a --erased --certs f", "wrong"),
+    ("run a --schedule 1 --certs f", "wrong"),
+    ("run a --schedule 1 --limit 5", "wrong"),
+    ("explore", "wrong"),
+    ("explore a --limit 0", "wrong"),
+    ("explore a --limit 1000001", "wrong"),
+    ("explore a --workers 2", "wrong"),
     ("migrate", "wrong"),
     ("verify a", "wrong"),
     ("--help", "asked"),
