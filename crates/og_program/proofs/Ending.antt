@@ -69,7 +69,7 @@ absent P (Err e) not = λ is. absurd (not is)
 memory_is_not_written : faults.Memory ≡ faults.WriteFailed → ⊥
 memory_is_not_written e = cc
 
--- nor is it, or a failed write, a thread that is wanting
+-- nor is it, or a failed write, a thread that could not be started
 memory_is_no_thread : faults.Memory ≡ faults.Spawn → ⊥
 memory_is_no_thread e = cc
 
@@ -95,7 +95,7 @@ told files input job known out out_after err err_after ended P r is gives answer
     subst (λ (j : Job). EndsJob files input j out out_after err err_after ended) (sym is)
     (answered files input known out out_after err err_after ended P r gives answer unwritten (absent (StartsThreads files input known) r threadless) ok wrong)
 
--- the same, where a thread can be wanting
+-- the same of a job that may start threads
 pub told_by_threads : (files : List ℕ → Option (List ℕ)) (input : Option (List ℕ)) (job known : Job) (out out_after err err_after : Option (List ℕ)) (ended : Ended) (P : Answer → Type 0) (r : Result Answer EngineFault)
     → job ≡ known → ((Q : List ℕ → ℕ → Option (List ℕ) → Type 0) → Gives P Q → Answers files input known Q) → IfOk r P → IfErr r (λ e. e ≢ faults.WriteFailed) → IfErr r (λ e. e ≡ faults.Spawn → StartsThreads files input known)
     → IfOk r (λ a. TellsAnswer a out out_after err err_after ended) → IfErr r (λ fault. Fails fault out out_after err err_after ended)

@@ -8,7 +8,7 @@ use Rattle.og_words.specs.declared.job.Job.{Job}
 use Rattle.og_program.specs.Named.{is_file, lacks_source}
 use Rattle.og_program.specs.Served.{reads_input}
 
--- a thread that is wanting
+-- a thread that could not be started
 pub of_pool-Spawn : (fault : PoolFault) → of_pool fault ≡ faults.Spawn → fault ≡ pool.Spawn
 of_pool-Spawn pool.Spawn e = refl
 of_pool-Spawn pool.Memory e = let none : faults.Memory ≡ faults.Spawn = e in absurd (cc)

@@ -135,13 +135,13 @@ Refuses files input (jobs.Explore source limit erased json ranges) text =
     (word : Bor (List ℕ)) × ExploredAs (source_in files input source.now) erased json (map (λ w. w.now) ranges.items) (explorings.BadValue word) × (text ≡ bad_value_text word.now)
 Refuses files input (jobs.Migrate certs) text = ⊥
 
--- a thread can be wanting for a run that has no schedule: its values are a start, of what its certificates prove safe where they are given
+-- a run starts threads where it has no schedule and its values are a start, of what its certificates prove safe where they are given
 abbrev pub StartsAs : (List ℕ → Option (List ℕ)) → Option (List ℕ) → Bool → Option (Bor (List ℕ)) → Option (Bor (List ℕ)) → List (List ℕ) → Type 0
 StartsAs files source erased None None words = Reads source_of source (λ s. HasStart erased s words)
 StartsAs files source erased None (Some schedule) words = ⊥
 StartsAs files source erased (Some certs) schedule words = Reads source_of source (λ s. Reads certs_of (files certs.now) (λ c. HasProvedStart s c words))
 
--- a thread can be wanting for a job: for a search or a check by two workers or more, and for such a run
+-- a job starts threads: a search or a check by two workers or more, and such a run
 abbrev pub StartsThreads : (List ℕ → Option (List ℕ)) → Option (List ℕ) → Job → Type 0
 StartsThreads files input jobs.Joined = ⊥
 StartsThreads files input (jobs.Prove source budget workers json) = 1 < workers
@@ -154,7 +154,7 @@ StartsThreads files input (jobs.Explore source limit erased json ranges) = ⊥
 StartsThreads files input (jobs.Migrate certs) = ⊥
 
 -- how the program ends where it is given a job: with the job's answer, with a word that is refused, or with a fault;
--- a failed write leaves a front of the answer, and a thread is wanting only where the job has one started
+-- a failed write leaves a front of the answer, and that a thread could not be started is told only of a job that starts threads
 abbrev pub EndsJob : (List ℕ → Option (List ℕ)) → Option (List ℕ) → Job → Option (List ℕ) → Option (List ℕ) → Option (List ℕ) → Option (List ℕ) → Ended → Type 0
 EndsJob files input job out out_after err err_after ended =
     Does files input job out out_after err err_after ended
