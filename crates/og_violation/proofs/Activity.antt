@@ -1,13 +1,13 @@
 -- Who is active at a moment, by whose turn it is and by who has something left.
-use Rattle.std.proofs.Common.{◌≡◌, ℕ, ◌+◌, ◌<◌, ℤ, List, [], ◌∷◌, length, Bool, true, false, not, ◌&&◌, ◌||◌, ◌==◌, nat_lt, if◌then◌else◌, Some, None, is_some, slice_get, option_map, unwrap_or, refl, sym, ap, ap₂, ◌∙◌, subst, ⊎_elim, arith}
-use Rattle.std.proofs.lemmas.Bool.{and_parts, and_from, both_ways, cases_eq, cases_lt, eqb-true, eq-eqb, ne_eqb, false_from_ne_true, le-ltb, lt-ltb, not-true, not-false}
+use Rattle.std.proofs.Common.{◌≡◌, ℕ, ℤ, List, [], ◌∷◌, length, Bool, true, false, not, ◌&&◌, ◌||◌, ◌==◌, nat_lt, if◌then◌else◌, Some, None, is_some, slice_get, option_map, unwrap_or, refl, sym, ap, ap₂, ◌∙◌, subst, arith}
+use Rattle.std.proofs.lemmas.Bool.{and_parts, and_from, both_ways, eqb-true, eq-eqb, false_from_ne_true, le-ltb, not-true, not-false}
 use Rattle.og_typed.specs.Syntax.{Statement, Skip, Assign, If, While, Await, Program, Rest, last_of}
 use Rattle.og_typed.specs.Machine.{Moment, Phase, Before, During, After, phase, phase_by, next_in, next, is_empty, all_empty, is_last, advance_rest, with_epilogue, head_or, current, is_main, is_process, active, active_in, todo, is_finished, stmt_overflows, rest_overflows, overflows}
 use Rattle.og_typed.specs.Turns.{is_turn, is_early}
 use Rattle.og_typed.specs.Stuck.{stmt_waits, rest_waits, waits}
 use Rattle.std.proofs.lemmas.Option.{none-some, slice_get_past}
 use Rattle.og_typed.proofs.Turns.{IsShaped, turn_active, next_early}
-use Rattle.og_theorem.proofs.Sound.{all_empty_from, todo_main, todo_process, main_after}
+use Rattle.og_theorem.proofs.Sound.{todo_main, main_after}
 use Rattle.og_step.specs.declared.turn.Turn.{Turn}
 use Rattle.og_step.specs.declared.turn.Turn.TheVariants as turn
 use Rattle.og_step.specs.Turns.{turn_of}
@@ -21,20 +21,6 @@ abbrev pick : Bool → Bool → Bool → Bool → Turn
 pick a b c d =
     if a then turn.Done else (if b then turn.Early else (if c then turn.Waits else (if d then turn.Overflow else turn.Moved)))
 
-done_parts : (a b c d : Bool) → pick a b c d ≡ turn.Done → a ≡ true
-done_parts true b c d e = refl
-done_parts false true c d e = absurd (cc)
-done_parts false false true d e = absurd (cc)
-done_parts false false false true e = absurd (cc)
-done_parts false false false false e = absurd (cc)
-
-early_parts : (a b c d : Bool) → pick a b c d ≡ turn.Early → (a ≡ false) × (b ≡ true)
-early_parts true b c d e = absurd (cc)
-early_parts false true c d e = (refl, refl)
-early_parts false false true d e = absurd (cc)
-early_parts false false false true e = absurd (cc)
-early_parts false false false false e = absurd (cc)
-
 -- its turn has come
 abbrev pub IsOn : Turn → Type 0
 IsOn turn.Moved = Unit {0}
@@ -42,13 +28,6 @@ IsOn turn.Waits = Unit {0}
 IsOn turn.Done = ⊥
 IsOn turn.Overflow = Unit {0}
 IsOn turn.Early = ⊥
-
-pub on_from : (t : Turn) → (t ≡ turn.Done → ⊥) → (t ≡ turn.Early → ⊥) → IsOn t
-on_from turn.Moved done early = tt
-on_from turn.Waits done early = tt
-on_from turn.Done done early = done refl
-on_from turn.Overflow done early = tt
-on_from turn.Early done early = early refl
 
 on_parts : (a b c d : Bool) → IsOn (pick a b c d) → (a ≡ false) × (b ≡ false)
 on_parts true b c d h = absurd h
@@ -63,25 +42,12 @@ over_parts false false false true e = refl
 over_parts false false false false e = absurd (cc)
 
 module _ (m : Moment) (p : ℕ) where
-  pub done_left : turn_of m p ≡ turn.Done → is_empty (todo m p) ≡ true
-  done_left e = done_parts (is_empty (todo m p)) (is_early m p) (waits m p) (overflows m p) e
-
-  not_turn : (a t : Bool) → a ≡ false → (not a && not t) ≡ true → t ≡ false
-  not_turn true t e h = absurd (both_ways true e refl)
-  not_turn false true e h = absurd (both_ways false refl h)
-  not_turn false false e h = refl
-
   own_turn : (a t : Bool) → a ≡ false → (not a && not t) ≡ false → t ≡ true
   own_turn true t e h = absurd (both_ways true e refl)
   own_turn false true e h = refl
   own_turn false false e h = absurd (both_ways true h refl)
 
-  pub early_turn : turn_of m p ≡ turn.Early → is_turn (phase m) m p ≡ false
-  early_turn e =
-      let parts = early_parts (is_empty (todo m p)) (is_early m p) (waits m p) (overflows m p) e in
-      not_turn (is_empty (todo m p)) (is_turn (phase m) m p) parts.0 parts.1
-
-  pub on_turn : IsOn (turn_of m p) → (is_empty (todo m p) ≡ false) × (is_turn (phase m) m p ≡ true)
+  on_turn : IsOn (turn_of m p) → (is_empty (todo m p) ≡ false) × (is_turn (phase m) m p ≡ true)
   on_turn h =
       let parts = on_parts (is_empty (todo m p)) (is_early m p) (waits m p) (overflows m p) h in
       (parts.0, own_turn (is_empty (todo m p)) (is_turn (phase m) m p) parts.0 parts.1)
@@ -137,45 +103,6 @@ module _ (o : Program) (m : Moment) (shaped : IsShaped o m) where
   pub other_turn : (q : ℕ) → (q ≡ length o.processes → ⊥) → is_mains_turn o m ≡ not (is_turn (phase m) m q)
   other_turn = by_phase (phase m)
 
-  -- what a process that is early says, and one whose turn has come
-  pub early_group : (q : ℕ) → q < length o.processes + 1 → turn_of m q ≡ turn.Early → nat_lt q (length o.processes) ≡ is_mains_turn o m
-  early_group q lt e = ⊎_elim main other (cases_eq q (length o.processes))
-    where
-      main : q ≡ length o.processes → nat_lt q (length o.processes) ≡ is_mains_turn o m
-      main same = le-ltb q (length o.processes) (omega (arith, same)) ∙ sym (ap (is_turn (phase m) m) (sym same) ∙ early_turn m q e)
-
-      other : (q ≡ length o.processes → ⊥) → nat_lt q (length o.processes) ≡ is_mains_turn o m
-      other ne = lt-ltb q (length o.processes) (omega (arith, lt, ne)) ∙ sym (other_turn q ne ∙ ap not (early_turn m q e))
-
-  pub on_group : (q : ℕ) → IsOn (turn_of m q) → (q == length o.processes) ≡ is_mains_turn o m
-  on_group q on = ⊎_elim main other (cases_eq q (length o.processes))
-    where
-      main : q ≡ length o.processes → (q == length o.processes) ≡ is_mains_turn o m
-      main same = eq-eqb q (length o.processes) same ∙ sym (ap (is_turn (phase m) m) (sym same) ∙ (on_turn m q on).1)
-
-      other : (q ≡ length o.processes → ⊥) → (q == length o.processes) ≡ is_mains_turn o m
-      other ne = ne_eqb q (length o.processes) ne ∙ sym (other_turn q ne ∙ ap not (on_turn m q on).1)
-
-  -- where nobody has anything left
-  pub all_done : ((k : ℕ) → k < length o.processes + 1 → is_empty (todo m k) ≡ true) → is_finished m ≡ true
-  all_done done = and_from _ _ parts.0 (and_from _ _ rests parts.1)
-    where
-      both : (a b : Rest) → is_empty (if is_empty a then b else a) ≡ true → (is_empty a ≡ true) × (is_empty b ≡ true)
-      both [] b e = (refl, e)
-      both (head ∷ a) b e = absurd (both_ways false refl e)
-
-      parts : (is_empty m.prologue ≡ true) × (is_empty m.epilogue ≡ true)
-      parts =
-          both m.prologue m.epilogue
-          (sym (ap is_empty (todo_main m (length o.processes) shaped.count)) ∙ done (length o.processes) (omega arith))
-
-      rests : all_empty m.rests ≡ true
-      rests =
-          all_empty_from m.rests
-          (λ i. ⊎_elim
-          (λ lt. sym (ap is_empty (todo_process m i lt)) ∙ done i (omega (arith, lt, shaped.count)))
-          (λ past. ap (λ r. is_empty (unwrap_or r [])) (slice_get_past m.rests i past)) (cases_lt i (length m.rests)))
-
   has_prologue : is_empty m.prologue ≡ false → is_some o.prologue ≡ true
   has_prologue e = not-false (is_some o.prologue) (false_from_ne_true (not (is_some o.prologue)) (λ h. both_ways (is_empty m.prologue) e (shaped.no_prologue (not-true (is_some o.prologue) h))))
 
@@ -212,6 +139,14 @@ module _ (o : Program) (m : Moment) (shaped : IsShaped o m) where
       go true true e f =
           closing (is_some o.epilogue) (has_epilogue (false_from_ne_true (is_empty m.epilogue) (λ h. both_ways (is_finished m) left (and_from _ _ e (and_from _ _ f h)))))
           ∙ sym (ap (λ c. by_turn c p) main_last)
+
+  -- the main process is active where its turn has come
+  pub main_active : is_finished m ≡ false → active o m (length o.processes) ≡ is_mains_turn o m
+  main_active left = active_left left (length o.processes) ∙ go (is_mains_turn o m)
+    where
+      go : (b : Bool) → by_turn b (length o.processes) ≡ b
+      go true = eq-eqb (length o.processes) (length o.processes) refl
+      go false = le-ltb (length o.processes) (length o.processes) (omega arith)
 
   -- where nobody has
   pub active_ended : is_finished m ≡ true → (p : ℕ) → active o m p ≡ (is_main o p || (is_process o p && not (is_some o.epilogue)))

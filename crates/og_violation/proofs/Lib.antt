@@ -1,5 +1,3 @@
-pub mod Readable
-pub mod Usable
 pub mod Activity
 pub mod Runs
 pub mod Firsts

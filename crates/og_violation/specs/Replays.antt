@@ -1,8 +1,7 @@
 -- Where a replay stands: the words of the contracts of private functions.
 use Rattle.std.specs.Prelude.{◌≡◌, ℕ, ◌<◌, ◌≤◌, ℤ, List, length, take, Bool, true, false, if◌then◌else◌, Option, Some, None}
-use Rattle.og_typed.specs.Syntax.{Formula, Program}
+use Rattle.og_typed.specs.Syntax.{Program}
 use Rattle.og_typed.specs.Truth.{truth}
-use Rattle.og_typed.specs.Rule.{IsUsable}
 use Rattle.og_typed.specs.Machine.{Moment, IsStart, start_of, run_on, next, IsReached, current, phase}
 use Rattle.og_typed.specs.Turns.{is_turn}
 use Rattle.og_step.specs.Progress.{Progress}
@@ -10,10 +9,6 @@ use Rattle.og_violation.specs.declared.violation.Wrong.{Wrong}
 use Rattle.og_violation.specs.declared.violation.Wrong.TheVariants.{Assertion, Overflow, Post, Stuck}
 use Rattle.og_violation.specs.Violations.{IsWrongAt, IsWrong}
 use Rattle.og_violation.specs.Along.{IsOfAssertion, IsTrueAfter, IsLeast}
-
--- the outline's variables have values, and nothing else occurs in the assertion
-abbrev pub IsReadableAt : List ℤ → Formula → Type 0
-IsReadableAt s a = (n : ℕ) × (n ≤ 256) × (n ≤ length s) × IsUsable n a
 
 -- a moment of the outline that a run reaches
 abbrev pub IsOf : Program → Progress → Type 0

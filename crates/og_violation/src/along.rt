@@ -5,7 +5,7 @@ ghost use Rattle.og_typed.specs.Machine.{is_finished};
 ghost use Rattle.og_violation.specs.Along.{IsFirst, IsTrueAlong};
 ghost use Rattle.og_violation.specs.Replays.{of_main, IsOf, IsToldAt, IsToldIfMoves, IsFirstWrong};
 
-use crate::moments::{first_false, is_mains_turn, is_post_false, is_true, main_number};
+use crate::moments::{first_false, is_post_false};
 use crate::replay::{begun, copy_of};
 use crate::violation::{Violation, Wrong};
 use og_linear::State;
@@ -18,8 +18,8 @@ fn of_main(outline: &Outline, moment: &Moment) -> Option<Wrong>
     requires { IsOf outline.now moment.now }
     ensures { result ≡ of_main outline.now moment.now.moment }
 {
-    let main = main_number(outline);
-    if is_true(outline, moment, main) {
+    let main = moment.processes();
+    if moment.is_true(main) {
         None
     } else {
         Some(Wrong::Assertion(main))
@@ -38,7 +38,7 @@ fn before_step(outline: &Outline, moment: &Moment, p: u32) -> Option<Wrong>
     requires { IsOf outline.now moment.now }
     ensures { IsToldIfMoves outline.now moment.now.moment p result }
 {
-    if p == main_number(outline) {
+    if p == moment.processes() {
         of_main(outline, moment)
     } else {
         of_process(first_false(outline, moment))
@@ -63,20 +63,18 @@ fn at_end(outline: &Outline, moment: &Moment) -> Option<Wrong>
     }
 }
 
-// What is false, whoever steps next. The moment may step.
-fn at_last(outline: &Outline, moment: &mut Moment) -> Option<Wrong>
-    requires { IsOf outline.now moment.old }
-    ensures { IsToldAt outline.now moment.old.moment result }
+// What is false, whoever steps next.
+fn at_last(outline: &Outline, moment: &Moment) -> Option<Wrong>
+    requires { IsOf outline.now moment.now }
+    ensures { IsToldAt outline.now moment.now.moment result }
 {
     if moment.is_finished() {
         return at_end(outline, moment);
     }
-    let main = of_main(outline, moment);
-    let process = first_false(outline, moment);
-    if is_mains_turn(outline, moment) {
-        main
+    if moment.is_active(moment.processes()) {
+        of_main(outline, moment)
     } else {
-        of_process(process)
+        of_process(first_false(outline, moment))
     }
 }
 
@@ -96,13 +94,13 @@ fn first_wrong(
     for (k, p) in history.iter().enumerate() {
         let found = before_step(outline, &moment, *p);
         let Turn::Moved = moment.step(*p) else {
-            return Ok(with_steps(k, at_last(outline, &mut moment)));
+            return Ok(with_steps(k, at_last(outline, &moment)));
         };
         if let Some(wrong) = found {
             return Ok(Some((k, wrong)));
         }
     }
-    Ok(with_steps(history.len(), at_last(outline, &mut moment)))
+    Ok(with_steps(history.len(), at_last(outline, &moment)))
 }
 
 // With so many steps.

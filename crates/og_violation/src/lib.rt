@@ -8,7 +8,6 @@ mod along;
 mod laws;
 mod moments;
 mod replay;
-mod truth;
 mod violation;
 
 pub use along::first_along;
