@@ -2,7 +2,7 @@
 
 use crate::answers::{is_checked, is_erased, is_found, is_listed, is_migrated, is_written};
 use crate::judged::{is_judged, is_told};
-use crate::runs::{is_proved_run, is_run};
+use crate::runs::{is_proved_run, is_run, is_run_by_schedule};
 use crate::searched::{are_examined, are_found};
 use og_pool::PoolFault;
 use std::alloc::Global;
@@ -22,6 +22,7 @@ enum Call {
     Migrate,
     Run,
     RunProved,
+    RunBySchedule,
     Examine,
     FindAll,
 }
@@ -43,6 +44,7 @@ fn is_right<R: Threads + Wait + Sync>(
         Call::Migrate => is_migrated(alloc),
         Call::Run => is_run(rt, alloc),
         Call::RunProved => is_proved_run(rt, alloc),
+        Call::RunBySchedule => is_run_by_schedule(alloc),
         Call::Examine => are_examined(alloc),
         Call::FindAll => are_found(rt, alloc),
     }
@@ -106,6 +108,11 @@ fn runs(rt: HostRuntime) {
 #[test]
 fn runs_what_is_proved(rt: HostRuntime) {
     expect_right(&rt, rt.alloc(), Call::RunProved);
+}
+
+#[test]
+fn runs_by_a_schedule(rt: HostRuntime) {
+    expect_right(&rt, rt.alloc(), Call::RunBySchedule);
 }
 
 #[test]

@@ -2,7 +2,7 @@
 
 use og_limits::RunLimit;
 use og_pool::{OpenGate, PoolFault};
-use og_running::{Ran, Reply, ran, ran_proved};
+use og_running::{Ran, Reply, ran, ran_by_schedule, ran_proved};
 use og_samples::{TWO_ADD, TWO_ADD_CERTS};
 use std::alloc::Global;
 use std::sync::Wait;
@@ -41,4 +41,15 @@ pub(crate) fn is_proved_run<R: Threads + Wait + Sync>(
     let (source, certs) = (TWO_ADD.as_bytes(), TWO_ADD_CERTS.as_bytes());
     let reply = ran_proved(rt, alloc, source, certs, &["x=0"], limit, &OpenGate)?;
     Ok(is_ended(&reply))
+}
+
+// Whether a run in this order ends in the postcondition.
+pub(crate) fn is_run_by_schedule(alloc: Global) -> Result<bool, PoolFault> {
+    let source = TWO_ADD.as_bytes();
+    let reply = ran_by_schedule(alloc, source, &["x=0"], "2,1", false)?;
+    let Reply::Told(Ran { answer, note: None }) = &reply else {
+        return Ok(false);
+    };
+    let text = b"history: 2 1\noutcome: finished\nstate: x = 3\n".as_slice();
+    Ok(answer.status == 0 && answer.text.as_slice() == text)
 }
