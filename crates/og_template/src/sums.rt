@@ -20,14 +20,10 @@ fn named_factor(alloc: Global, depth: u32, cursor: &mut Cursor) -> Result<Factor
     if cursor.eat_special(Special::OpenBracket) {
         return Ok(Factor::Element(name, bracketed(alloc, depth, cursor)?));
     }
-    if !cursor.is_at(&TokenKind::OpenParen) {
-        return Ok(Factor::Name(name));
+    if cursor.eat(&TokenKind::OpenParen) {
+        return Ok(Factor::Use(name, arguments(alloc, depth, cursor)?));
     }
-    if depth == 0 {
-        return Err(Refusal::Fault(FaultKind::TooDeep));
-    }
-    cursor.expect(&TokenKind::OpenParen)?;
-    Ok(Factor::Use(name, arguments(alloc, depth - 1, cursor)?))
+    Ok(Factor::Name(name))
 }
 
 fn factor(alloc: Global, depth: u32, cursor: &mut Cursor) -> Result<Factor, Refusal>
