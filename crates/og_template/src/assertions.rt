@@ -1,0 +1,242 @@
+//! Reading assertions.
+
+ghost use Rattle.std.specs.Prelude.{◌<◌, ◌≤◌, length, OnOk};
+
+use crate::binders::binder;
+use crate::cursor::Cursor;
+use crate::sums::sum;
+use crate::tree::{Assertion, Conjunction, Disjunction, Factor, Note, Sum, TermKind, Unit};
+use og_grammar::{FaultKind, Refusal};
+use og_parse::Sign;
+use og_template_words::Special;
+use og_text::TokenKind;
+use std::alloc::Global;
+
+// Whether a quantifier stands among the parts, outside of parentheses.
+fn has_quantifier(left: &Disjunction) -> bool {
+    for conjunction in &left.parts {
+        for unit in &conjunction.parts {
+            if matches!(unit, Unit::All(_, _, _) | Unit::Any(_, _, _)) {
+                return true;
+            }
+        }
+    }
+    false
+}
+
+// The use of a named assertion that a sum without a relation is, if it is one factor without a sign.
+fn use_of(mut sum: Sum) -> Option<Unit> {
+    if sum.terms.len() != 1 {
+        return None;
+    }
+    let term = sum.terms.remove(0);
+    if term.span.start != sum.span.start {
+        return None;
+    }
+    match (term.sign, term.kind) {
+        (Sign::Plus, TermKind::Factor(Factor::Name(name))) => {
+            Some(Unit::Use(name, Vec::new(*sum.terms.allocator())))
+        }
+        (Sign::Plus, TermKind::Factor(Factor::Use(name, arguments))) => {
+            Some(Unit::Use(name, arguments))
+        }
+        _ => None,
+    }
+}
+
+// What begins as a sum: a comparison, or the use of a named assertion.
+fn comparison(alloc: Global, depth: u32, cursor: &mut Cursor) -> Result<Unit, Refusal>
+    ensures { length cursor.new ≤ length cursor.old }
+{
+    let left = sum(alloc, depth, cursor)?;
+    match cursor.relation() {
+        Some(relation) => Ok(Unit::Compare(left, relation, sum(alloc, depth, cursor)?)),
+        None => match use_of(left) {
+            Some(unit) => Ok(unit),
+            None => Err(Refusal::Fault(FaultKind::Expected)),
+        },
+    }
+}
+
+// What follows `not`.
+#[cycle(assertions)]
+fn closed(alloc: Global, depth: u32, cursor: &mut Cursor) -> Result<Unit, Refusal>
+    ensures { length cursor.new ≤ length cursor.old }
+{
+    if cursor.is_at_special(Special::All) || cursor.is_at_special(Special::Any) {
+        return Err(Refusal::Fault(FaultKind::Expected));
+    }
+    unit(alloc, depth, cursor)
+}
+
+#[cycle(assertions)]
+fn negation(alloc: Global, depth: u32, cursor: &mut Cursor) -> Result<Unit, Refusal>
+    ensures { length cursor.new ≤ length cursor.old }
+{
+    let span = cursor.expect(&TokenKind::Not)?;
+    let inner = closed(alloc, depth, cursor)?;
+    Ok(Unit::Not(span, Box::new(alloc, inner)?))
+}
+
+#[cycle(assertions)]
+fn group(alloc: Global, depth: u32, cursor: &mut Cursor) -> Result<Unit, Refusal>
+    ensures { length cursor.new ≤ length cursor.old }
+{
+    let span = cursor.expect(&TokenKind::OpenParen)?;
+    let inner = assertion(alloc, depth, cursor)?;
+    cursor.expect(&TokenKind::CloseParen)?;
+    Ok(Unit::Group(span, Box::new(alloc, inner)?))
+}
+
+// What follows `all` or `some`.
+#[cycle(assertions)]
+fn quantified(alloc: Global, depth: u32, all: bool, cursor: &mut Cursor) -> Result<Unit, Refusal>
+    ensures { length cursor.new ≤ length cursor.old }
+{
+    let span = cursor.span();
+    cursor.advance();
+    let binder = binder(alloc, depth, cursor)?;
+    cursor.expect_special(Special::Colon)?;
+    let inner = unit(alloc, depth, cursor)?;
+    let inner = Box::new(alloc, inner)?;
+    if all {
+        return Ok(Unit::All(span, binder, inner));
+    }
+    Ok(Unit::Any(span, binder, inner))
+}
+
+// What `not`, `(`, `all` or `some` opens, where `depth` levels are left.
+#[cycle(assertions)]
+fn opened(alloc: Global, depth: u32, cursor: &mut Cursor) -> Result<Unit, Refusal>
+    ensures { length cursor.new ≤ length cursor.old }
+{
+    if depth == 0 {
+        return Err(Refusal::Fault(FaultKind::TooDeep));
+    }
+    if cursor.is_at(&TokenKind::Not) {
+        return negation(alloc, depth - 1, cursor);
+    }
+    if cursor.is_at(&TokenKind::OpenParen) {
+        return group(alloc, depth - 1, cursor);
+    }
+    quantified(alloc, depth - 1, cursor.is_at_special(Special::All), cursor)
+}
+
+// Whether the next word opens a level in front of an assertion.
+fn is_at_opening(cursor: &Cursor) -> bool {
+    cursor.is_at(&TokenKind::Not)
+        || cursor.is_at(&TokenKind::OpenParen)
+        || cursor.is_at_special(Special::All)
+        || cursor.is_at_special(Special::Any)
+}
+
+#[cycle(assertions)]
+fn unit(alloc: Global, depth: u32, cursor: &mut Cursor) -> Result<Unit, Refusal>
+    ensures { length cursor.new ≤ length cursor.old }
+{
+    if is_at_opening(cursor) {
+        return opened(alloc, depth, cursor);
+    }
+    let span = cursor.span();
+    if cursor.eat(&TokenKind::True) {
+        return Ok(Unit::True(span));
+    }
+    if cursor.eat(&TokenKind::False) {
+        return Ok(Unit::False(span));
+    }
+    comparison(alloc, depth, cursor)
+}
+
+#[cycle(assertions)]
+fn conjunction(alloc: Global, depth: u32, cursor: &mut Cursor) -> Result<Conjunction, Refusal>
+    ensures { length cursor.new ≤ length cursor.old }
+{
+    let mut parts = Vec::new(alloc);
+    parts.push(unit(alloc, depth, cursor)?)?;
+    'more: while cursor.eat(&TokenKind::And) {
+        parts.push(unit(alloc, depth, cursor)?)?;
+    }
+    Ok(Conjunction { parts })
+}
+
+#[cycle(assertions)]
+fn disjunction(alloc: Global, depth: u32, cursor: &mut Cursor) -> Result<Disjunction, Refusal>
+    ensures { length cursor.new ≤ length cursor.old }
+{
+    let mut parts = Vec::new(alloc);
+    parts.push(conjunction(alloc, depth, cursor)?)?;
+    'more: while cursor.eat(&TokenKind::Or) {
+        parts.push(conjunction(alloc, depth, cursor)?)?;
+    }
+    Ok(Disjunction { parts })
+}
+
+// What `->` opens behind what has a quantifier or not, where `depth` levels are left.
+#[cycle(assertions)]
+fn implied(
+    alloc: Global,
+    depth: u32,
+    quantified: bool,
+    cursor: &mut Cursor,
+) -> Result<Assertion, Refusal>
+    ensures { length cursor.new ≤ length cursor.old }
+{
+    if quantified {
+        return Err(Refusal::Fault(FaultKind::Expected));
+    }
+    if depth == 0 {
+        return Err(Refusal::Fault(FaultKind::TooDeep));
+    }
+    cursor.expect(&TokenKind::Arrow)?;
+    assertion(alloc, depth - 1, cursor)
+}
+
+/// Reads an assertion with at most `depth` levels.
+#[cycle(assertions)]
+pub(crate) fn assertion(
+    alloc: Global,
+    depth: u32,
+    cursor: &mut Cursor,
+) -> Result<Assertion, Refusal>
+    ensures { length cursor.new ≤ length cursor.old }
+{
+    let left = disjunction(alloc, depth, cursor)?;
+    let span = cursor.span();
+    if !cursor.is_at(&TokenKind::Arrow) {
+        return Ok(Assertion {
+            left,
+            implied: None,
+        });
+    }
+    let quantified = has_quantifier(&left);
+    let right = implied(alloc, depth, quantified, cursor)?;
+    let right = Box::new(alloc, right)?;
+    Ok(Assertion {
+        left,
+        implied: Some((span, right)),
+    })
+}
+
+/// Reads an assertion and the word after it.
+pub(crate) fn test(
+    alloc: Global,
+    depth: u32,
+    word: &TokenKind,
+    cursor: &mut Cursor,
+) -> Result<Assertion, Refusal>
+    ensures { length cursor.new ≤ length cursor.old }
+{
+    let test = assertion(alloc, depth, cursor)?;
+    cursor.expect(word)?;
+    Ok(test)
+}
+
+/// Reads an assertion in braces.
+pub(crate) fn note(alloc: Global, depth: u32, cursor: &mut Cursor) -> Result<Note, Refusal>
+    ensures ok { OnOk result (length cursor.new < length cursor.old) }
+    ensures less { length cursor.new ≤ length cursor.old }
+{
+    let span = cursor.expect(&TokenKind::OpenBrace)?;
+    let assertion = test(alloc, depth, &TokenKind::CloseBrace, cursor)?;
+    Ok(Note { assertion, span })
+}

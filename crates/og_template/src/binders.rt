@@ -1,0 +1,63 @@
+//! Reading ranges and binders.
+
+ghost use Rattle.std.specs.Prelude.{◌≤◌, length};
+
+use crate::cursor::Cursor;
+use crate::exprs::expr;
+use crate::tree::{Binder, Bounds, Test};
+use og_grammar::{FaultKind, Refusal};
+use og_template_words::Special;
+use og_text::TokenKind;
+use std::alloc::Global;
+
+/// Reads a range.
+pub(crate) fn bounds(alloc: Global, depth: u32, cursor: &mut Cursor) -> Result<Bounds, Refusal>
+    ensures { length cursor.new ≤ length cursor.old }
+{
+    let span = cursor.span();
+    let low = expr(alloc, depth, cursor)?;
+    cursor.expect_special(Special::Dots)?;
+    let high = expr(alloc, depth, cursor)?;
+    Ok(Bounds { low, high, span })
+}
+
+fn test(alloc: Global, depth: u32, cursor: &mut Cursor) -> Result<Test, Refusal>
+    ensures { length cursor.new ≤ length cursor.old }
+{
+    let left = expr(alloc, depth, cursor)?;
+    let Some(relation) = cursor.relation() else {
+        return Err(Refusal::Fault(FaultKind::Expected));
+    };
+    let right = expr(alloc, depth, cursor)?;
+    Ok(Test {
+        left,
+        relation,
+        right,
+    })
+}
+
+// The tests after `where`, if it stands here.
+fn tests(alloc: Global, depth: u32, cursor: &mut Cursor) -> Result<Vec<Test>, Refusal>
+    ensures { length cursor.new ≤ length cursor.old }
+{
+    let mut all = Vec::new(alloc);
+    if !cursor.eat_special(Special::Where) {
+        return Ok(all);
+    }
+    all.push(test(alloc, depth, cursor)?)?;
+    'more: while cursor.eat(&TokenKind::And) {
+        all.push(test(alloc, depth, cursor)?)?;
+    }
+    Ok(all)
+}
+
+/// Reads a binder.
+pub(crate) fn binder(alloc: Global, depth: u32, cursor: &mut Cursor) -> Result<Binder, Refusal>
+    ensures { length cursor.new ≤ length cursor.old }
+{
+    let name = cursor.name(alloc)?;
+    cursor.expect_special(Special::In)?;
+    let range = bounds(alloc, depth, cursor)?;
+    let tests = tests(alloc, depth, cursor)?;
+    Ok(Binder { name, range, tests })
+}

@@ -1,0 +1,162 @@
+//! Reading constant expressions.
+
+ghost use Rattle.std.specs.Prelude.{◌<◌, ◌≤◌, length, IfSome};
+
+use crate::cursor::Cursor;
+use crate::tree::{Expr, Link, Operator};
+use og_grammar::{FaultKind, Refusal};
+use og_template_words::Special;
+use og_text::TokenKind;
+use std::alloc::{AllocError, Global};
+
+// The operator `+` or `-`, if one stands here. Goes past it.
+fn additive(cursor: &mut Cursor) -> Option<Operator>
+    ensures some { IfSome result (λ _. length cursor.new < length cursor.old) }
+    ensures less { length cursor.new ≤ length cursor.old }
+{
+    if cursor.eat(&TokenKind::Plus) {
+        return Some(Operator::Plus);
+    }
+    if cursor.eat(&TokenKind::Minus) {
+        return Some(Operator::Minus);
+    }
+    None
+}
+
+// The operator `*` or `mod`, if one stands here. Goes past it.
+fn multiplicative(cursor: &mut Cursor) -> Option<Operator>
+    ensures some { IfSome result (λ _. length cursor.new < length cursor.old) }
+    ensures less { length cursor.new ≤ length cursor.old }
+{
+    if cursor.eat(&TokenKind::Star) {
+        return Some(Operator::Times);
+    }
+    if cursor.eat_special(Special::Mod) {
+        return Some(Operator::Mod);
+    }
+    None
+}
+
+// The operators from the left; an operand alone is itself.
+fn chain(alloc: Global, first: Expr, links: Vec<Link>) -> Result<Expr, AllocError> {
+    if links.is_empty() {
+        return Ok(first);
+    }
+    Ok(Expr::Chain(Box::new(alloc, first)?, links))
+}
+
+// The expression after a `-`.
+fn negated(alloc: Global, operand: Expr, minus: u32, end: u32) -> Result<Expr, AllocError> {
+    let span = og_text::Span { start: minus, end };
+    match operand {
+        Expr::Number(n, _) => Ok(Expr::Negative(n, span)),
+        operand => Ok(Expr::Minus(Box::new(alloc, operand)?, span)),
+    }
+}
+
+// What `(` opens, where `depth` levels are left.
+#[cycle(expressions)]
+fn group(alloc: Global, depth: u32, cursor: &mut Cursor) -> Result<Expr, Refusal>
+    ensures { length cursor.new ≤ length cursor.old }
+{
+    if depth == 0 {
+        return Err(Refusal::Fault(FaultKind::TooDeep));
+    }
+    cursor.expect(&TokenKind::OpenParen)?;
+    let inner = expr(alloc, depth - 1, cursor)?;
+    cursor.expect(&TokenKind::CloseParen)?;
+    Ok(inner)
+}
+
+#[cycle(expressions)]
+fn operand(alloc: Global, depth: u32, cursor: &mut Cursor) -> Result<Expr, Refusal>
+    ensures { length cursor.new ≤ length cursor.old }
+{
+    if cursor.is_at(&TokenKind::OpenParen) {
+        return group(alloc, depth, cursor);
+    }
+    let span = cursor.span();
+    if let Some(n) = cursor.number() {
+        return Ok(Expr::Number(n, span));
+    }
+    Ok(Expr::Name(cursor.name(alloc)?))
+}
+
+#[cycle(expressions)]
+fn product(alloc: Global, depth: u32, cursor: &mut Cursor) -> Result<Expr, Refusal>
+    ensures { length cursor.new ≤ length cursor.old }
+{
+    let first = operand(alloc, depth, cursor)?;
+    let mut links = Vec::new(alloc);
+    let mut span = cursor.span();
+    'more: while let Some(operator) = multiplicative(cursor) {
+        let operand = operand(alloc, depth, cursor)?;
+        links.push(Link {
+            operator,
+            span,
+            operand,
+        })?;
+        span = cursor.span();
+    }
+    Ok(chain(alloc, first, links)?)
+}
+
+// A product, with a `-` before it or without.
+#[cycle(expressions)]
+fn signed(alloc: Global, depth: u32, cursor: &mut Cursor) -> Result<Expr, Refusal>
+    ensures { length cursor.new ≤ length cursor.old }
+{
+    let span = cursor.span();
+    let minus = cursor.eat(&TokenKind::Minus);
+    let first = product(alloc, depth, cursor)?;
+    if minus {
+        return Ok(negated(alloc, first, span.start, span.end)?);
+    }
+    Ok(first)
+}
+
+/// Reads an expression with at most `depth` levels.
+#[cycle(expressions)]
+pub(crate) fn expr(alloc: Global, depth: u32, cursor: &mut Cursor) -> Result<Expr, Refusal>
+    ensures { length cursor.new ≤ length cursor.old }
+{
+    let first = signed(alloc, depth, cursor)?;
+    let mut links = Vec::new(alloc);
+    let mut span = cursor.span();
+    'more: while let Some(operator) = additive(cursor) {
+        let operand = product(alloc, depth, cursor)?;
+        links.push(Link {
+            operator,
+            span,
+            operand,
+        })?;
+        span = cursor.span();
+    }
+    Ok(chain(alloc, first, links)?)
+}
+
+/// Reads expressions with `,` between them, up to the `)`.
+pub(crate) fn arguments(
+    alloc: Global,
+    depth: u32,
+    cursor: &mut Cursor,
+) -> Result<Vec<Expr>, Refusal>
+    ensures { length cursor.new ≤ length cursor.old }
+{
+    let mut all = Vec::new(alloc);
+    all.push(expr(alloc, depth, cursor)?)?;
+    'more: while cursor.eat(&TokenKind::Comma) {
+        all.push(expr(alloc, depth, cursor)?)?;
+    }
+    cursor.expect(&TokenKind::CloseParen)?;
+    Ok(all)
+}
+
+/// Reads an expression and the `]` after it.
+pub(crate) fn bracketed(alloc: Global, depth: u32, cursor: &mut Cursor) -> Result<Expr, Refusal>
+    ensures { length cursor.new ≤ length cursor.old }
+{
+    let value = expr(alloc, depth, cursor)?;
+    cursor.expect_special(Special::CloseBracket)?;
+    Ok(value)
+}
