@@ -1,0 +1,4 @@
+pub mod Advice
+pub mod Quotes
+pub mod Reasons
+pub mod Words
