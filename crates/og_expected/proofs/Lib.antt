@@ -1,2 +1,5 @@
 pub mod Fronts
+pub mod SameFronts
+pub mod SameGrammar
+pub mod SameKinds
 pub mod Those

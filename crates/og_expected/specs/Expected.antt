@@ -1,5 +1,6 @@
 -- Which symbols may stand behind tokens.
 use Rattle.std.specs.Prelude.{◌≡◌, Bool, false, ◌==◌, ◌<◌, ◌≤◌, List, [], ◌∷◌, ◌++◌, ◌⊎◌}
+use Rattle.og_text.specs.Kinds.{number_of}
 use Rattle.og_text.specs.declared.token.Token.{Token}
 use Rattle.og_text.specs.declared.token.TokenKind.{TokenKind}
 use Rattle.og_text.specs.declared.token.TokenKind.TheVariants as kinds
@@ -52,3 +53,10 @@ abbrev pub is_at_end : ParseFault → Bool
 is_at_end (faults.Expected span) = span.start == span.end
 is_at_end (faults.TooDeep span) = false
 is_at_end (faults.TooManyStatements span) = false
+
+-- as many tokens, each of the same kind as the other list's
+abbrev pub AreAlike : List Token → List Token → Type 0
+AreAlike [] [] = Unit {0}
+AreAlike [] (u ∷ us) = ⊥
+AreAlike (t ∷ ts) [] = ⊥
+AreAlike (t ∷ ts) (u ∷ us) = (number_of t.kind ≡ number_of u.kind) × AreAlike ts us

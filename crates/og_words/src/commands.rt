@@ -54,7 +54,7 @@ fn budget_arg<'a>(alloc: Global) -> Arg<'a>
         .value_name("N")
         .default_value("100000")
         .value_parser(clap::value_parser!(u64).range(1..=1000000000))
-        .help("How many facts may be added for each condition")
+        .help("How many steps a search may make for each condition, 1 to 1000000000")
 }
 
 fn prove_command<'a>(alloc: Global) -> Result<Command<'a>, AllocError>
@@ -64,7 +64,7 @@ fn prove_command<'a>(alloc: Global) -> Result<Command<'a>, AllocError>
         .about("Prove an outline, or say what is wrong with it")
         .arg(source_arg(alloc))?
         .arg(budget_arg(alloc))?
-        .arg(workers_arg(alloc, "How many threads work"))?
+        .arg(workers_arg(alloc, "How many threads work, 1 to 64"))?
         .arg(json_arg(alloc))
 }
 
@@ -75,7 +75,7 @@ fn check_command<'a>(alloc: Global) -> Result<Command<'a>, AllocError>
         .about("Check an outline by its certificates")
         .arg(source_arg(alloc))?
         .arg(certs_arg(alloc))?
-        .arg(workers_arg(alloc, "How many threads check"))?
+        .arg(workers_arg(alloc, "How many threads check, 1 to 64"))?
         .arg(json_arg(alloc))
 }
 
@@ -94,7 +94,7 @@ fn find_command<'a>(alloc: Global) -> Result<Command<'a>, AllocError>
         .about("Print the certificates that are found")
         .arg(source_arg(alloc))?
         .arg(budget_arg(alloc))?
-        .arg(workers_arg(alloc, "How many threads work"))
+        .arg(workers_arg(alloc, "How many threads work, 1 to 64"))
 }
 
 fn erase_command<'a>(alloc: Global) -> Result<Command<'a>, AllocError>
@@ -113,7 +113,7 @@ fn limit_arg<'a>(alloc: Global) -> Arg<'a>
         .value_name("N")
         .default_value("1000")
         .value_parser(clap::value_parser!(u32).range(0..=1000000))
-        .help("How many steps the history may have")
+        .help("How many steps the history may have, 0 to 1000000")
 }
 
 fn erased_arg<'a>(alloc: Global, help: &'a str) -> Arg<'a>
@@ -175,7 +175,7 @@ fn moments_arg<'a>(alloc: Global) -> Arg<'a>
         .value_name("N")
         .default_value("100000")
         .value_parser(clap::value_parser!(u32).range(1..=1000000))
-        .help("How many moments may be looked at")
+        .help("How many moments may be looked at, 1 to 1000000")
 }
 
 fn run_command<'a>(alloc: Global) -> Result<Command<'a>, AllocError>
@@ -253,6 +253,7 @@ pub(crate) fn program<'a>(alloc: Global) -> Result<Command<'a>, AllocError>
     ensures { IfOk result (λ r. app_of r ≡ line.og) }
 {
     let program = Command::new(alloc, "og")
+        .bin_name("og")?
         .about("Checks proof outlines of parallel programs")
         .no_binary_name(true)
         .disable_help_subcommand(true)
