@@ -43,13 +43,17 @@ pub(crate) fn is_proved_run<R: Threads + Wait + Sync>(
     Ok(is_ended(&reply))
 }
 
-// Whether a run in this order ends in the postcondition.
+// Whether a reply is the run of `TWO_ADD` from x = 0 in which the second process steps first.
+fn is_ended_by_schedule(reply: &Reply<'_>) -> bool {
+    let Reply::Told(Ran { answer, note: None }) = reply else {
+        return false;
+    };
+    let text = b"history: 2 1\noutcome: finished\nstate: x = 3\n".as_slice();
+    answer.status == 0 && answer.text.as_slice() == text
+}
+
 pub(crate) fn is_run_by_schedule(alloc: Global) -> Result<bool, PoolFault> {
     let source = TWO_ADD.as_bytes();
     let reply = ran_by_schedule(alloc, source, &["x=0"], "2,1", false)?;
-    let Reply::Told(Ran { answer, note: None }) = &reply else {
-        return Ok(false);
-    };
-    let text = b"history: 2 1\noutcome: finished\nstate: x = 3\n".as_slice();
-    Ok(answer.status == 0 && answer.text.as_slice() == text)
+    Ok(is_ended_by_schedule(&reply))
 }
