@@ -116,4 +116,5 @@ def main():
                 print("| %s | `%s` | %.3f s | %.3f s | %.2f |" % (name, command, one, four, one / four), flush=True)
 
 
-main()
+if __name__ == "__main__":
+    main()

@@ -48,6 +48,17 @@ def crates_of(top):
         os.chdir(before)
 
 
+def was_built_from(crate, stamp):
+    """Returns whether the crate's library was built from what this sum was made of: a gate notes no sum beside what it builds."""
+    noted = f"{os.path.dirname(crate.rlib)}/stamp"
+    if not os.path.isdir(crate.rlib) or crate.stamp() != stamp:
+        return False
+    if not os.path.isfile(noted):
+        return True
+    with open(noted, encoding="utf-8") as file:
+        return file.read() == stamp
+
+
 def take_libraries(source, target):
     """Copies to `target` each library that `source` has built from the same files, and returns the names of the others."""
     theirs = {crate.name: crate for crate in crates_of(source)}
@@ -57,7 +68,7 @@ def take_libraries(source, target):
         if crate.is_program or crate.is_built():
             continue
         stamp = crate.stamp()
-        if given is None or not os.path.isdir(given.rlib) or given.stamp() != stamp:
+        if given is None or not was_built_from(given, stamp):
             lacking.append(crate.name)
             continue
         folder = os.path.dirname(crate.rlib)

@@ -1,13 +1,34 @@
 //! The program `og`.
 #![tactic(auto)]
 
+mod progress;
+
 use og_program::serve_words;
 use og_words::given_words;
+use progress::Progress;
+use std::io::{IsTerminal, Write};
 use std::process::ExitCode;
+
+// What is told at a terminal where there are no words.
+const WAITING: &str =
+    "og: reading a source and its certificates from this terminal; og --help lists the commands\n";
 
 fn main(rt: HostRuntime) -> ExitCode {
     let words = given_words(&rt);
     let (mut input, mut out, mut err) = (rt.stdin(), rt.stdout(), rt.stderr());
-    let ended = serve_words(&rt, rt.alloc(), &rt, words, &mut input, &mut out, &mut err);
+    if matches!(&words, Ok(words) if words.is_empty()) && input.is_terminal() {
+        let _ = err.write_all(WAITING.as_bytes());
+    }
+    let progress = Progress::new(&rt);
+    let ended = serve_words(
+        &rt,
+        rt.alloc(),
+        &rt,
+        &progress,
+        words,
+        &mut input,
+        &mut out,
+        &mut err,
+    );
     ExitCode::from(ended.status)
 }

@@ -82,7 +82,7 @@ pub fn advise(
     let mut text = Vec::new(alloc);
     put_head(&mut text, names, fault, source)?;
     put_front(&mut text, source, fault)?;
-    let (reason, hint) = reason(alloc, fault, source)?;
+    let (reason, hint) = reason(alloc, names, fault, source)?;
     text.extend_from_slice(&reason)?;
     text.extend_from_slice(b"\n")?;
     put_hint(&mut text, line_of(hint))?;

@@ -16,3 +16,4 @@ mod reasons;
 mod words;
 
 pub use advice::{Names, advise};
+pub use quotes::put_quote;

@@ -110,12 +110,13 @@ fn put_marked(text: &mut Vec<u8>, before: &[u8], after: &[u8]) -> Result<(), All
     text.extend_from_slice(b"^ ")
 }
 
-/// Adds the line of a place, and below it a mark at the place, to the text.
+/// Adds the line of a place, a byte offset, and below it a mark at the place, to the text: what is
+/// said of the place may follow in the same line. A line of more than 160 bytes is left out.
 ///
 /// # Errors
 ///
 /// An allocation was refused; the text has what it had, and perhaps a part of this.
-pub(crate) fn put_quote(text: &mut Vec<u8>, source: &[u8], at: u32) -> Result<(), AllocError>
+pub fn put_quote(text: &mut Vec<u8>, source: &[u8], at: u32) -> Result<(), AllocError>
     requires { length source.now ≤ 2 ^ 20 }
     ensures { OnOk result (text.new.items ≡ text.old.items ++ quote_text source.now at) }
 {

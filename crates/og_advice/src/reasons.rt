@@ -9,6 +9,7 @@ ghost use Rattle.og_source.specs.declared.fault.SourceFault.TheVariants as sourc
 ghost use Rattle.og_advice.specs.Advice.{IsKnown};
 ghost use Rattle.og_advice.specs.Reasons.{wrong_text, certs_text, is_word, first_start, start_from, HasTokens, declared_text, IsDeclaredText, IsReason};
 
+use crate::advice::Names;
 use crate::bytes::{put_bad_byte, rest_of, word_at};
 use crate::choosing::{byte_hint, expected_hint};
 use crate::expected::{expected_reason, tokens_from, tokens_of};
@@ -190,8 +191,23 @@ fn source_reason(alloc: Global, fault: &SourceFault, source: &[u8]) -> Result<Re
     }
 }
 
+// Advice on what is no text of certificates: read behind its source, beside it or alone.
+fn certs_hint(names: Names<'_>) -> Option<Hint> {
+    if names.source.is_empty() {
+        None
+    } else if names.source == names.certs {
+        Some(Hint::CertificatesBehind)
+    } else {
+        Some(Hint::TwoFiles)
+    }
+}
+
 // Why a text of certificates is not read.
-fn certs_reason(alloc: Global, fault: &CertTextFault) -> Result<Reason, AllocError>
+fn certs_reason(
+    alloc: Global,
+    names: Names<'_>,
+    fault: &CertTextFault,
+) -> Result<Reason, AllocError>
     ensures { IfOk result (λ r. r.0.items ≡ certs_text fault.now) }
 {
     match fault {
@@ -200,7 +216,7 @@ fn certs_reason(alloc: Global, fault: &CertTextFault) -> Result<Reason, AllocErr
         }
         CertTextFault::BadVersion => {
             let why = "certificates begin with the line 'og-cert 1' or 'og-cert 2'";
-            plain(alloc, why, Some(Hint::TwoFiles))
+            plain(alloc, why, certs_hint(names))
         }
         CertTextFault::BadLine(_) => {
             let why = "the line is none of a certificate, or out of place, or missing";
@@ -227,7 +243,12 @@ fn stray(alloc: Global, condition: u32) -> Result<Reason, AllocError>
 /// # Errors
 ///
 /// An allocation was refused.
-pub(crate) fn reason(alloc: Global, fault: &InputFault, source: &[u8]) -> Result<Reason, AllocError>
+pub(crate) fn reason(
+    alloc: Global,
+    names: Names<'_>,
+    fault: &InputFault,
+    source: &[u8],
+) -> Result<Reason, AllocError>
     requires { IsKnown source.now fault.now }
     ensures { IfOk result (λ r. IsReason source.now fault.now r.0.items) }
 {
@@ -236,7 +257,7 @@ pub(crate) fn reason(alloc: Global, fault: &InputFault, source: &[u8]) -> Result
         InputFault::Conditions(_) => {
             plain(alloc, "the outline has more than 4000000 conditions", None)
         }
-        InputFault::Certs(fault) => certs_reason(alloc, fault),
+        InputFault::Certs(fault) => certs_reason(alloc, names, fault),
         InputFault::Stray(condition) => stray(alloc, *condition),
     }
 }

@@ -6,6 +6,7 @@ use crate::folder::Folder;
 use crate::part::Part;
 use crate::pieces::{Input, Output};
 use crate::way::{WRONG, Way, ways};
+use og_pool::OpenGate;
 use og_program::serve_words;
 use std::alloc::{AllocError, Global};
 use std::sync::Wait;
@@ -136,7 +137,7 @@ impl Case {
         let mut input = Input::new(&self.input, size);
         let (mut out, mut err) = (Output::new(alloc, size), Output::new(alloc, size));
         let ended = serve_words(
-            threads, alloc, folder, words, &mut input, &mut out, &mut err,
+            threads, alloc, folder, &OpenGate, words, &mut input, &mut out, &mut err,
         );
         Ok(Ends {
             status: ended.status,

@@ -89,6 +89,6 @@ impl<'a> Files for Folder<'a> {
     fn open(&self, name: &str) -> io::Result<File> {
         let folder = self.path;
         let path = format!(in self.alloc(); "{folder}/{name}")?;
-        File::open(self.rt, path.as_str())
+        self.rt.open(path.as_str())
     }
 }

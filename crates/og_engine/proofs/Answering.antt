@@ -58,11 +58,11 @@ too_many P source bytes o p fault (Ok a) same_bytes same h told =
     inr (subst (λ (q : Program). condition_limit < length (conditions q)) same h, (fault, subst (λ (s : List ℕ). IsTold s (faults.Conditions fault) a) same_bytes told))
 
 -- the certificates of listed conditions are those of the outline's
-pub listed_found : {E : Type 0} (source : List ℕ) (o p : Program) (cs : List Condition) (r : Result Answer E) → p ≡ o → cs ≡ conditions p
-    → length (conditions p) ≤ condition_limit → IfOk r (HasCertificates cs) → IfOk r (IsFoundOf o source)
-listed_found source o p cs (Err e) same listed within h = tt
-listed_found source o p cs (Ok a) same listed within h =
-    inl (subst (λ (q : Program). IsFoundText q a) same (within, subst (λ (ds : List Condition). HasCertificates ds a) listed h))
+pub listed_found : {E : Type 0} (version : ℕ) (source : List ℕ) (o p : Program) (cs : List Condition) (r : Result Answer E) → p ≡ o → cs ≡ conditions p
+    → length (conditions p) ≤ condition_limit → IfOk r (HasCertificates version cs) → IfOk r (IsFoundOf version o source)
+listed_found version source o p cs (Err e) same listed within h = tt
+listed_found version source o p cs (Ok a) same listed within h =
+    inl (subst (λ (q : Program). IsFoundText version q a) same (within, subst (λ (ds : List Condition). HasCertificates version ds a) listed h))
 
 -- such an answer is that of the outline's source
 pub of_source : {E : Type 0} (P : Program → Answer → Type 0) (source : List ℕ) (o : Program) (r : Result Answer E) → IsSource source o

@@ -1,5 +1,5 @@
 -- What is printed of certificates that are made, and the status.
-use Rattle.std.specs.Prelude.{◌≡◌, ◌<◌, ◌≤◌, ◌⊎◌, ℕ, List, [], length, IsSome}
+use Rattle.std.specs.Prelude.{◌≡◌, ◌<◌, ◌≤◌, ◌⊎◌, ◌==◌, if◌then◌else◌, ℕ, List, [], length, IsSome}
 use Rattle.og_typed.specs.Syntax.{Program}
 use Rattle.og_cond.specs.Condition.{Condition}
 use Rattle.og_cond.specs.Conditions.{conditions}
@@ -8,6 +8,7 @@ use Rattle.og_cert_text.specs.Files.{Entries, certificate_of}
 use Rattle.og_cert_text.specs.Listing.{file_text}
 use Rattle.og_cert_text.specs.declared.fault.CertTextFault.{CertTextFault}
 use Rattle.og_cert_read.specs.Read.{IsWrong}
+use Rattle.og_cert_read.specs.Shared.{shared_text}
 use Rattle.og_find.specs.Found.{AreOf}
 use Rattle.og_source.specs.Source.{IsSource}
 use Rattle.og_answer.specs.Told.{IsTold, IsUnread}
@@ -24,22 +25,26 @@ HasAll count es = (n : ℕ) → 0 < n → n ≤ count → IsSome (certificate_of
 abbrev pub TellsWhetherAll : ℕ → Entries → ℕ → Type 0
 TellsWhetherAll count es status = ((status ≡ 0) × HasAll count es) ⊎ ((status ≡ 1) × (HasAll count es → ⊥))
 
+-- the text of a file in this version
+abbrev pub text_in : ℕ → Entries → List ℕ
+text_in version es = if version == 2 then shared_text es else file_text es
+
 -- the text of certificates, each of one of the conditions, and whether all have one
-abbrev pub HasCertificates : List Condition → Answer → Type 0
-HasCertificates cs answer = (es : Entries) × AreOf cs es × (answer.text.items ≡ file_text es) × TellsWhetherAll (length cs) es answer.status
+abbrev pub HasCertificates : ℕ → List Condition → Answer → Type 0
+HasCertificates version cs answer = (es : Entries) × AreOf cs es × (answer.text.items ≡ text_in version es) × TellsWhetherAll (length cs) es answer.status
 
 -- that text for the conditions of the outline, which are within the limit
-abbrev pub IsFoundText : Program → Answer → Type 0
-IsFoundText o answer = (length (conditions o) ≤ condition_limit) × HasCertificates (conditions o) answer
+abbrev pub IsFoundText : ℕ → Program → Answer → Type 0
+IsFoundText version o answer = (length (conditions o) ≤ condition_limit) × HasCertificates version (conditions o) answer
 
 -- that text, or the line that says that there are too many conditions
-abbrev pub IsFoundOf : Program → List ℕ → Answer → Type 0
-IsFoundOf o source answer = IsFoundText o answer ⊎ HasTooMany o source answer
+abbrev pub IsFoundOf : ℕ → Program → List ℕ → Answer → Type 0
+IsFoundOf version o source answer = IsFoundText version o answer ⊎ HasTooMany o source answer
 
 -- that of the source's outline, or the line of a refusal
-abbrev pub IsFound : List ℕ → Answer → Type 0
-IsFound source answer =
-    IsUnread source answer ⊎ ((o : Program) × IsSource source o × IsFoundOf o source answer)
+abbrev pub IsFound : ℕ → List ℕ → Answer → Type 0
+IsFound version source answer =
+    IsUnread source answer ⊎ ((o : Program) × IsSource source o × IsFoundOf version o source answer)
 
 -- the text in version 2, which answers as the given one, with status 0; or the line of a refusal
 abbrev pub IsMigrated : List ℕ → Answer → Type 0

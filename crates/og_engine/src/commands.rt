@@ -1,28 +1,74 @@
 //! The answers of the commands that print what an outline stands for.
 
-ghost use Rattle.std.specs.Prelude.{◌≡◌, IfOk};
+ghost use Rattle.std.specs.Prelude.{◌≡◌, ◌≤◌, ◌^◌, length, IfOk};
 ghost use Rattle.og_parse.specs.TreeOf.{tree_of};
-ghost use Rattle.og_typed.specs.Erase.{erased as erased_of};
+ghost use Rattle.og_cond.specs.Conditions.{conditions};
+ghost use Rattle.og_readable.specs.Readable.{readable};
+ghost use Rattle.og_triples.specs.Triples.{triples_text};
 ghost use Rattle.og_erase.specs.Collected.{raw_of};
 ghost use Rattle.og_print.specs.Print.{program_text};
 ghost use Rattle.og_answer.specs.Told.{Says};
-ghost use Rattle.og_engine.specs.Commands.{IsListedOf, IsListed, IsErased};
+ghost use Rattle.og_engine.specs.Commands.{IsText, listing_text, IsListedOf, IsListed, erased_tree, IsErased};
 
 use og_answer::{Answer, InputFault};
 use og_cond::ConditionsError;
 use og_erase::{Program, erase};
 use og_parse::Raw;
 use og_print::print_program;
+use og_readable::print_readable;
 use og_report::conditions_text;
+use og_smt::script;
 use og_source::Source;
+use og_triples::{TriplesError, all_triples};
 use og_typed::Outline;
 use std::alloc::{AllocError, Global};
 
-// The conditions of the outline of a source.
-fn of_conditions(alloc: Global, source: &Source) -> Result<Answer, AllocError>
-    ensures { IfOk result (IsListedOf source.now.outline source.now.bytes) }
+/// How conditions are listed.
+#[derive(Clone, Copy, Debug, PartialEq, Eq)]
+pub enum Form {
+    /// Each with its facts.
+    Facts,
+    /// As triples: an assertion, a statement, an assertion.
+    Triples,
+    /// As a script in SMT-LIB.
+    Script,
+}
+
+// The conditions of an outline as triples.
+fn triples_text(alloc: Global, outline: &Outline, source: &[u8]) -> Result<Vec<u8>, ConditionsError>
+    requires { length source.now ≤ 2 ^ 20 }
+    ensures { IsText (triples_text outline.now.names source.now 1 (conditions outline.now)) outline.now result }
 {
-    match conditions_text(alloc, source.outline(), source.bytes()) {
+    match all_triples(alloc, outline, source) {
+        Ok(text) => Ok(text),
+        Err(TriplesError::TooMany(fault)) => Err(ConditionsError::Fault(fault)),
+        Err(TriplesError::Memory) => Err(ConditionsError::Memory),
+        Err(TriplesError::NoCondition(_)) => unreachable!(),
+    }
+}
+
+// The conditions of an outline in this form.
+fn text_in(
+    alloc: Global,
+    form: Form,
+    outline: &Outline,
+    source: &[u8],
+) -> Result<Vec<u8>, ConditionsError>
+    requires { length source.now ≤ 2 ^ 20 }
+    ensures { IsText (listing_text form outline.now source.now) outline.now result }
+{
+    match form {
+        Form::Facts => conditions_text(alloc, outline, source),
+        Form::Triples => triples_text(alloc, outline, source),
+        Form::Script => script(alloc, outline, source),
+    }
+}
+
+// The conditions of the outline of a source.
+fn of_conditions(alloc: Global, form: Form, source: &Source) -> Result<Answer, AllocError>
+    ensures { IfOk result (IsListedOf form source.now.outline source.now.bytes) }
+{
+    match text_in(alloc, form, source.outline(), source.bytes()) {
         Ok(text) => Ok(Answer { text, status: 0 }),
         Err(ConditionsError::Fault(fault)) => {
             Answer::refused(alloc, &InputFault::Conditions(fault), source.bytes())
@@ -31,18 +77,18 @@ fn of_conditions(alloc: Global, source: &Source) -> Result<Answer, AllocError>
     }
 }
 
-/// The conditions of the outline of a source, each with its facts, and status 0; or the line of a
-/// refusal and status 2.
+/// The conditions of the outline of a source in this form, and status 0; or the line of a refusal
+/// and status 2.
 ///
 /// # Errors
 ///
 /// An allocation was refused.
-pub fn listed(alloc: Global, source: &[u8]) -> Result<Answer, AllocError>
-    ensures { IfOk result (IsListed source.now) }
+pub fn listed(alloc: Global, form: Form, source: &[u8]) -> Result<Answer, AllocError>
+    ensures { IfOk result (IsListed form source.now) }
 {
     match Source::read(alloc, source) {
         Ok(source) => {
-            let answer = of_conditions(alloc, &source);
+            let answer = of_conditions(alloc, form, &source);
             drop(source);
             answer
         }
@@ -58,7 +104,7 @@ fn of_tree(alloc: Global, raw: &Raw) -> Result<Answer, AllocError>
     Ok(Answer { text, status: 0 })
 }
 
-// The text of a program.
+// The text of a program with collected relations.
 fn of_program(alloc: Global, program: &Program) -> Result<Answer, AllocError>
     ensures { IfOk result (Says (program_text (raw_of program.now)) 0) }
 {
@@ -68,28 +114,41 @@ fn of_program(alloc: Global, program: &Program) -> Result<Answer, AllocError>
     answer
 }
 
+// The text of a program with readable relations.
+fn of_readable(alloc: Global, program: &Program) -> Result<Answer, AllocError>
+    ensures { IfOk result (Says (program_text (readable (raw_of program.now))) 0) }
+{
+    let text = print_readable(alloc, program)?;
+    Ok(Answer { text, status: 0 })
+}
+
 // The program of an outline without its auxiliaries.
-fn of_outline(alloc: Global, outline: &Outline) -> Result<Answer, AllocError>
-    ensures { IfOk result (Says (program_text (raw_of (erased_of outline.now))) 0) }
+fn of_outline(alloc: Global, outline: &Outline, is_readable: bool) -> Result<Answer, AllocError>
+    ensures { IfOk result (Says (program_text (erased_tree is_readable outline.now)) 0) }
 {
     let program = erase(alloc, outline)?;
-    let answer = of_program(alloc, &program);
+    let answer = if is_readable {
+        of_readable(alloc, &program)
+    } else {
+        of_program(alloc, &program)
+    };
     drop(program);
     answer
 }
 
-/// The program of the outline of a source without its auxiliary variables and its assertions, and
-/// status 0; or the line of a refusal and status 2.
+/// The program of the outline of a source without its auxiliary variables and its assertions, with
+/// terms on both sides of its relations or with all on the left, and status 0; or the line of a
+/// refusal and status 2.
 ///
 /// # Errors
 ///
 /// An allocation was refused.
-pub fn erased(alloc: Global, source: &[u8]) -> Result<Answer, AllocError>
-    ensures { IfOk result (IsErased source.now) }
+pub fn erased(alloc: Global, source: &[u8], is_readable: bool) -> Result<Answer, AllocError>
+    ensures { IfOk result (IsErased is_readable source.now) }
 {
     match Source::read(alloc, source) {
         Ok(source) => {
-            let answer = of_outline(alloc, source.outline());
+            let answer = of_outline(alloc, source.outline(), is_readable);
             drop(source);
             answer
         }

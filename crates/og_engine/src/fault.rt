@@ -2,11 +2,13 @@
 
 ghost use Rattle.std.specs.Prelude.{◌≡◌};
 ghost use Rattle.og_engine.specs.Names.{number_of_fault, name_of_fault, of_read, of_pool};
-ghost use Rattle.og_engine.specs.declared.fault.EngineFault.TheVariants.{Memory, WriteFailed as NotWritten};
+ghost use Rattle.og_engine.specs.declared.fault.EngineFault.TheVariants.{Memory, WriteFailed};
 
 use og_input::ReadFault;
 use og_pool::PoolFault;
 use std::alloc::{AllocError, AllocFailed};
+use std::io;
+use std::io::ErrorKind;
 use thiserror::Error;
 
 /// Why nothing was answered, or the answer was not written.
@@ -74,15 +76,31 @@ impl From<PoolFault> for EngineFault {
     }
 }
 
-/// The writer failed; some bytes may have been written.
+/// Why a text was not written whole; some bytes of it may have been written.
 #[derive(Clone, Copy, Debug, PartialEq, Eq, Error)]
-#[error("write failed")]
-pub struct WriteFailed;
+pub enum WriteFault {
+    /// Nobody reads any more what is written: the other end of the pipe is closed.
+    #[error("nobody reads")]
+    Closed,
+    /// The writer failed.
+    #[error("write failed")]
+    Failed,
+}
 
-impl From<WriteFailed> for EngineFault {
-    ghost from_gives = { λ _ e. e ≡ NotWritten };
+impl WriteFault {
+    /// Why a write failed.
+    pub(crate) fn of(error: &io::Error) -> WriteFault {
+        match error.kind() {
+            ErrorKind::BrokenPipe => WriteFault::Closed,
+            _ => WriteFault::Failed,
+        }
+    }
+}
 
-    fn from(_: WriteFailed) -> EngineFault {
+impl From<WriteFault> for EngineFault {
+    ghost from_gives = { λ _ e. e ≡ WriteFailed };
+
+    fn from(_: WriteFault) -> EngineFault {
         EngineFault::WriteFailed
     }
 }

@@ -11,9 +11,9 @@ mod proving;
 mod writing;
 
 pub use answer::checked;
-pub use commands::{erased, listed};
+pub use commands::{Form, erased, listed};
 pub use engines::{Options, engine, engine_joined};
-pub use fault::{EngineFault, WriteFailed};
+pub use fault::{EngineFault, WriteFault};
 pub use inputs::{read_certificates, read_joined, read_source};
 pub use making::{found, migrated};
 pub use og_answer::Answer;

@@ -2,65 +2,85 @@
 
 ghost use Rattle.std.specs.Prelude.{◌≡◌, ◌<◌, ◌≤◌, length, map, IfOk, IfErr};
 ghost use Rattle.og_cert_text.specs.Shown.{shown};
-ghost use Rattle.og_cert_text.specs.Listing.{file_text};
 ghost use Rattle.og_cond.specs.Limits.{condition_limit};
 ghost use Rattle.og_cond.specs.Seen.{seen};
 ghost use Rattle.og_pool.specs.declared.fault.PoolFault.TheVariants.{Spawn};
-ghost use Rattle.og_engine.specs.Making.{TellsWhetherAll, HasCertificates, IsFoundOf, IsFound, IsMigrated};
+ghost use Rattle.og_engine.specs.Making.{text_in, TellsWhetherAll, HasCertificates, IsFoundOf, IsFound, IsMigrated};
 
 use og_answer::{Answer, InputFault};
+use og_cert_read::write_certs_2;
 use og_cert_text::{CertFile, CertTextError, write_certs};
 use og_cond::{Condition, ConditionsError, conditions};
 use og_find::has_all;
 use og_finder::find_all;
 use og_judge::migrate;
-use og_limits::{Budget, Workers};
-use og_pool::PoolFault;
+use og_limits::{Budget, CertVersion, Workers};
+use og_pool::{Gate, PoolFault};
 use og_source::Source;
 use std::alloc::{AllocError, Global};
 use std::sync::Wait;
 use std::thread::Threads;
 
+// The text of a file in this version.
+fn text_in(alloc: Global, file: &CertFile, version: CertVersion) -> Result<Vec<u8>, AllocError>
+    ensures { IfOk result (λ t. t.items ≡ text_in version (shown file.now)) }
+{
+    if version.is_second() {
+        write_certs_2(alloc, file)
+    } else {
+        write_certs(alloc, file)
+    }
+}
+
 // The text of a file, and whether each of so many conditions has a certificate in it.
-fn of_file(alloc: Global, file: &CertFile, count: u32) -> Result<Answer, AllocError>
-    ensures text { IfOk result (λ a. a.text.items ≡ file_text (shown file.now)) }
+fn of_file(
+    alloc: Global,
+    file: &CertFile,
+    count: u32,
+    version: CertVersion,
+) -> Result<Answer, AllocError>
+    ensures text { IfOk result (λ a. a.text.items ≡ text_in version (shown file.now)) }
     ensures status { IfOk result (λ a. TellsWhetherAll count (shown file.now) a.status) }
 {
-    let text = write_certs(alloc, file)?;
+    let text = text_in(alloc, file, version)?;
     let status = if has_all(file, count) { 0 } else { 1 };
     Ok(Answer { text, status })
 }
 
 // The certificates that are found for conditions.
-fn of_search<H: Threads + Wait + Sync>(
+fn of_search<G: Gate, H: Threads + Wait + Sync>(
     rt: &H,
     alloc: Global,
     conditions: &[Condition],
     budget: Budget,
     workers: Workers,
+    version: CertVersion,
+    gate: &G,
 ) -> Result<Answer, PoolFault>
     requires { length conditions.now ≤ condition_limit }
-    ensures found { IfOk result (HasCertificates (map seen conditions.now)) }
+    ensures found { IfOk result (HasCertificates version (map seen conditions.now)) }
     ensures spawn { IfErr result (λ e. e ≡ Spawn → 1 < workers) }
 {
-    let file = find_all(rt, alloc, conditions, budget.facts(), workers.count())?;
-    let answer = of_file(alloc, &file, conditions.len() as u32)?;
+    let file = find_all(rt, alloc, conditions, budget.facts(), workers.count(), gate)?;
+    let answer = of_file(alloc, &file, conditions.len() as u32, version)?;
     Ok(answer)
 }
 
 // The answer for the outline of a source.
-fn found_of<H: Threads + Wait + Sync>(
+fn found_of<G: Gate, H: Threads + Wait + Sync>(
     rt: &H,
     alloc: Global,
     source: &Source,
     budget: Budget,
     workers: Workers,
+    version: CertVersion,
+    gate: &G,
 ) -> Result<Answer, PoolFault>
-    ensures found { IfOk result (IsFoundOf source.now.outline source.now.bytes) }
+    ensures found { IfOk result (IsFoundOf version source.now.outline source.now.bytes) }
     ensures spawn { IfErr result (λ e. e ≡ Spawn → 1 < workers) }
 {
     match conditions(alloc, source.outline()) {
-        Ok(conditions) => of_search(rt, alloc, &conditions, budget, workers),
+        Ok(conditions) => of_search(rt, alloc, &conditions, budget, workers, version, gate),
         Err(ConditionsError::Fault(fault)) => {
             let why = InputFault::Conditions(fault);
             Ok(Answer::refused(alloc, &why, source.bytes())?)
@@ -69,28 +89,30 @@ fn found_of<H: Threads + Wait + Sync>(
     }
 }
 
-/// The certificates that searches find for the conditions of the outline of a source, in version 1
+/// The certificates that searches find for the conditions of the outline of a source, in this version
 /// of their text, with status 0 where each condition has one and 1 where some has none; or the line
 /// of a refusal and status 2. Each search has the budget, as in `og_find::find`. The answer is the
-/// same for every number of workers.
+/// same for every number of workers. The gate is told of the searches as by `og_finder::find_all`.
 ///
 /// # Errors
 ///
 /// `Spawn`, of two workers or more, where a thread could not be started. `Memory` where an allocation
 /// was refused.
-pub fn found<H: Threads + Wait + Sync>(
+pub fn found<G: Gate, H: Threads + Wait + Sync>(
     rt: &H,
     alloc: Global,
     source: &[u8],
     budget: Budget,
     workers: Workers,
+    version: CertVersion,
+    gate: &G,
 ) -> Result<Answer, PoolFault>
-    ensures answer { IfOk result (IsFound source.now) }
+    ensures answer { IfOk result (IsFound version source.now) }
     ensures spawn { IfErr result (λ e. e ≡ Spawn → 1 < workers) }
 {
     match Source::read(alloc, source) {
         Ok(source) => {
-            let answer = found_of(rt, alloc, &source, budget, workers);
+            let answer = found_of(rt, alloc, &source, budget, workers, version, gate);
             drop(source);
             answer
         }

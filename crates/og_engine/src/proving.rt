@@ -22,7 +22,7 @@ use og_find::Verdict;
 use og_finder::{Findings, examine_all};
 use og_limits::{Budget, Workers};
 use og_places::Index;
-use og_pool::PoolFault;
+use og_pool::{Gate, PoolFault};
 use og_prove::{Told, is_safe, is_unblocked, report, tell};
 use og_prove_json::json;
 use og_source::Source;
@@ -152,12 +152,13 @@ fn answer_of(
 }
 
 // What is told of the conditions of an outline, which are searched.
-fn searched<H: Threads + Wait + Sync>(
+fn searched<G: Gate, H: Threads + Wait + Sync>(
     rt: &H,
     alloc: Global,
     source: &Source,
     conditions: &[Condition],
     search: Search,
+    gate: &G,
 ) -> Result<Answer, PoolFault>
     requires listed { map seen conditions.now ≡ conditions_of source.now.outline }
     requires few { length conditions.now ≤ condition_limit }
@@ -167,24 +168,25 @@ fn searched<H: Threads + Wait + Sync>(
 {
     let (outline, bytes) = (source.outline(), source.bytes());
     let (budget, workers) = (search.budget.facts(), search.workers.count());
-    let findings = examine_all(rt, alloc, conditions, budget, workers)?;
+    let findings = examine_all(rt, alloc, conditions, budget, workers, gate)?;
     let told = tell_all(alloc, outline, conditions, &findings)?;
     Ok(answer_of(alloc, outline, bytes, conditions, &told, search.json)?)
 }
 
 // The answer for the outline of a source.
-fn proved_of<H: Threads + Wait + Sync>(
+fn proved_of<G: Gate, H: Threads + Wait + Sync>(
     rt: &H,
     alloc: Global,
     source: &Source,
     search: Search,
+    gate: &G,
 ) -> Result<Answer, PoolFault>
     ensures told { IfOk result (IsToldOf search.json source.now.outline source.now.bytes) }
     ensures promises { IfOk result (Promises search.json source.now.outline) }
     ensures spawn { IfErr result (λ e. e ≡ Spawn → 1 < search.workers) }
 {
     match conditions(alloc, source.outline()) {
-        Ok(list) => searched(rt, alloc, source, &list, search),
+        Ok(list) => searched(rt, alloc, source, &list, search, gate),
         Err(ConditionsError::Fault(fault)) => {
             let fault = InputFault::Conditions(fault);
             Ok(Answer::refused(alloc, &fault, source.bytes())?)
@@ -197,17 +199,19 @@ fn proved_of<H: Threads + Wait + Sync>(
 /// what is wrong, and the totals; or the line of a refusal. Status 0 where every condition but the
 /// last is proved, 1 where one is not, 2 at a refusal. Status 0 says that every run of the outline is
 /// as promised, with its auxiliaries and without them; and a report that says then that it is
-/// unblocked, that none gets stuck. The answer is the same for every number of workers.
+/// unblocked, that none gets stuck. The answer is the same for every number of workers. The gate is
+/// told of the searches as by `og_finder::examine_all`.
 ///
 /// # Errors
 ///
 /// `Spawn`, of two workers or more, where a thread could not be started. `Memory` where an allocation
 /// was refused.
-pub fn proved<H: Threads + Wait + Sync>(
+pub fn proved<G: Gate, H: Threads + Wait + Sync>(
     rt: &H,
     alloc: Global,
     source: &[u8],
     search: Search,
+    gate: &G,
 ) -> Result<Answer, PoolFault>
     ensures answer { IfOk result (IsProving search.json source.now) }
     ensures sound { IfOk result (λ answer. answer.status ≡ 0 → IsProvenSource source.now) }
@@ -216,7 +220,7 @@ pub fn proved<H: Threads + Wait + Sync>(
 {
     match Source::read(alloc, source) {
         Ok(source) => {
-            let answer = proved_of(rt, alloc, &source, search);
+            let answer = proved_of(rt, alloc, &source, search, gate);
             drop(source);
             answer
         }

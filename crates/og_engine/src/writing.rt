@@ -4,12 +4,12 @@ ghost use Rattle.std.specs.Prelude.{◌≡◌, ◌≤◌, OnOk, IfOk, IfErr, len
 ghost use Rattle.std.specs.Io.KnownBytes.{Appends, Keeps};
 ghost use Rattle.og_engine.specs.Unfinished.{AppendsFront};
 
-use crate::fault::WriteFailed;
+use crate::fault::WriteFault;
 use og_answer::Answer;
 use std::io::{ErrorKind, Write};
 
 // Writes once. How many bytes went out: none where the write was interrupted.
-fn write_once<W: Write>(out: &mut W, rest: &[u8]) -> Result<usize, WriteFailed>
+fn write_once<W: Write>(out: &mut W, rest: &[u8]) -> Result<usize, WriteFault>
     ensures within { IfOk result (λ count. count ≤ length rest.now) }
     ensures written { IfOk result (λ count. Appends (W.contents out.old) (W.contents out.new) (take count rest.now)) }
     ensures kept { IfErr result (λ _. Keeps (W.contents out.old) (W.contents out.new)) }
@@ -17,7 +17,7 @@ fn write_once<W: Write>(out: &mut W, rest: &[u8]) -> Result<usize, WriteFailed>
     match out.write(rest) {
         Ok(count) => {
             if count == 0 {
-                return Err(WriteFailed);
+                return Err(WriteFault::Failed);
             }
             Ok(count)
         }
@@ -25,7 +25,7 @@ fn write_once<W: Write>(out: &mut W, rest: &[u8]) -> Result<usize, WriteFailed>
             if error.kind() == ErrorKind::Interrupted {
                 Ok(0)
             } else {
-                Err(WriteFailed)
+                Err(WriteFault::of(&error))
             }
         }
     }
@@ -36,7 +36,7 @@ fn write_once<W: Write>(out: &mut W, rest: &[u8]) -> Result<usize, WriteFailed>
 /// # Errors
 ///
 /// The writer failed; a front of the text may have been written then.
-pub fn write_text<W: Write>(out: &mut W, text: &[u8]) -> Result<(), WriteFailed>
+pub fn write_text<W: Write>(out: &mut W, text: &[u8]) -> Result<(), WriteFault>
     ensures written { OnOk result (Appends (W.contents out.old) (W.contents out.new) text.now) }
     ensures unfinished { IfErr result (λ _. AppendsFront (W.contents out.old) (W.contents out.new) text.now) }
 {
@@ -48,7 +48,7 @@ pub fn write_text<W: Write>(out: &mut W, text: &[u8]) -> Result<(), WriteFailed>
         let count = write_once(out, rest)?;
         rest = &rest[count..];
     }
-    Err(WriteFailed)
+    Err(WriteFault::Failed)
 }
 
 /// Writes the answer's text and tells its status.
@@ -56,14 +56,14 @@ pub fn write_text<W: Write>(out: &mut W, text: &[u8]) -> Result<(), WriteFailed>
 /// # Errors
 ///
 /// The writer failed; a front of the text may have been written then.
-pub fn write_answer<W: Write>(out: &mut W, answer: &Answer) -> Result<u8, WriteFailed>
+pub fn write_answer<W: Write>(out: &mut W, answer: &Answer) -> Result<u8, WriteFault>
     ensures written { OnOk result (Appends (W.contents out.old) (W.contents out.new) answer.now.text.items) }
     ensures status { IfOk result (λ status. status ≡ answer.now.status) }
     ensures unfinished { IfErr result (λ _. AppendsFront (W.contents out.old) (W.contents out.new) answer.now.text.items) }
 {
     write_text(out, answer.text.as_slice())?;
-    if out.flush().is_err() {
-        return Err(WriteFailed);
+    match out.flush() {
+        Ok(()) => Ok(answer.status),
+        Err(error) => Err(WriteFault::of(&error)),
     }
-    Ok(answer.status)
 }

@@ -7,13 +7,14 @@ use Rattle.std.specs.Bool.{MatchBool}
 use Rattle.std.proofs.lemmas.Bool.Decides.{eqb_tells}
 use Rattle.og_text.specs.declared.token.Token.{Token}
 use Rattle.og_text.specs.declared.place.Span.{Span}
-use Rattle.og_grammar.specs.Language.{Language, Begins}
+use Rattle.og_grammar.specs.Language.{Language}
+use Rattle.og_grammar.specs.Fronts.{Begins}
 use Rattle.og_parse.specs.declared.fault.ParseFault.{ParseFault}
 use Rattle.og_parse.specs.declared.fault.ParseFault.TheVariants as faults
 use Rattle.og_parse.specs.Trees.{Outline}
-use Rattle.og_parse.specs.Grammar.{IsOutline, IsAnyOutline}
+use Rattle.og_parse.specs.Grammar.{IsOutline}
 use Rattle.og_parse.specs.Limits.{level_limit, statement_limit, statement_count}
-use Rattle.og_parse.specs.Faults.{IsFault}
+use Rattle.og_parse.specs.Faults.{IsAnyOutline, IsFault}
 use Rattle.og_parse.proofs.Counts.{statements-append}
 use Rattle.og_expected.specs.Expected.{IsFront, HoldsBytes, is_at_end}
 

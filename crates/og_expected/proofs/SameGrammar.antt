@@ -13,7 +13,8 @@ use Rattle.og_parse.specs.declared.raw.Relation.TheVariants as relations
 use Rattle.og_parse.specs.declared.raw.RawFactor.TheVariants.{Variable}
 use Rattle.og_parse.specs.Trees.{Comparison, Negation, Implication, Truth, Falsity, Assertion, Skip, Assign, Simple, Await, While, Stmt, Seq, choice, sequence, conjunction, disjunction}
 use Rattle.og_parse.specs.Words.{name_kind, name_of, number_kind, value_of, sign_kind, sign_of, relation_kind, relation_of}
-use Rattle.og_parse.specs.Grammar.{IsLeading, product, IsFactor, term, IsTermAfter, IsSum, IsInt, IsComparison, Openings, IsUnitWith, IsDisjunctionWith, IsAssertionWith, openings, IsAssertion, IsNote, IsBasic, IsBody, IsAwait, IsRestOfBlock, IsBlock, IsIf, IsWhile, IsStepWith, IsSeqWith, compounds, IsSeq, IsAux, IsListed, IsMain, IsOutline}
+use Rattle.og_parse.specs.Grammar.{IsLeading, product, IsFactor, term, IsTermAfter, IsSum, IsInt, IsComparison, Openings, IsUnitWith, IsDisjunctionWith, IsAssertionWith, openings, IsAssertion, IsNote, IsBasic, IsBody, IsAwait, IsBlock, IsIf, IsWhile, IsStepWith, IsSeqWith, compounds, IsSeq, IsAux, IsListed, IsMain, IsOutline}
+use Rattle.og_parse.proofs.Productions.{IsRestOfBlock}
 use Rattle.og_expected.proofs.SameKinds.{Alike, gives_alike, symbol_alike, one_alike, then_alike, either_alike, never_alike, allowed_alike, many_alike, with_place_alike, map_alike, separated_alike, if_symbol_alike}
 
 -- ---- tokens with a value
@@ -87,10 +88,10 @@ relation_alike = one_alike relation_of (λ t u x same is. relation_told u.kind (
 -- ---- sums
 
 leading_alike : {I : Type 0} → Alike (λ (i : I). IsLeading)
-leading_alike = either_alike (map_alike (λ at. Minus) (symbol_alike kinds.Minus)) (gives_alike (λ i. Plus))
+leading_alike = either_alike (map_alike (λ at. Minus) (symbol_alike kinds.Minus refl)) (gives_alike (λ i. Plus))
 
 factor_alike : {I : Type 0} → Alike (λ (i : I). IsFactor)
-factor_alike = either_alike (map_alike Variable name_alike) (then_alike value_alike (then_alike (if_symbol_alike kinds.Star name_alike) (gives_alike (λ q. product q.0.1 q.1))))
+factor_alike = either_alike (map_alike Variable name_alike) (then_alike value_alike (then_alike (if_symbol_alike kinds.Star refl name_alike) (gives_alike (λ q. product q.0.1 q.1))))
 
 term_after_alike : {I : Type 0} → Alike (λ (i : I). IsTermAfter)
 term_after_alike = then_alike sign_alike (then_alike factor_alike (gives_alike (λ q. term q.0.1 q.1)))
@@ -113,10 +114,10 @@ record Opens (o : Openings) : Type 1 where
   implied : {I : Type 0} → (f : I → Assertion) → Alike (λ (i : I). o.implied (f i))
 
 unit_alike : {I : Type 0} (o : Openings) → Opens o → Alike (λ (i : I). IsUnitWith o)
-unit_alike o h = either_alike h.prefix (either_alike (map_alike (λ w. Truth) (symbol_alike kinds.True)) (either_alike (map_alike (λ w. Falsity) (symbol_alike kinds.False)) comparison_alike))
+unit_alike o h = either_alike h.prefix (either_alike (map_alike (λ w. Truth) (symbol_alike kinds.True refl)) (either_alike (map_alike (λ w. Falsity) (symbol_alike kinds.False refl)) comparison_alike))
 
 disjunction_alike : {I : Type 0} (o : Openings) → Opens o → Alike (λ (i : I). IsDisjunctionWith o)
-disjunction_alike o h = map_alike disjunction (separated_alike kinds.Or (map_alike conjunction (separated_alike kinds.And (unit_alike o h))))
+disjunction_alike o h = map_alike disjunction (separated_alike kinds.Or refl (map_alike conjunction (separated_alike kinds.And refl (unit_alike o h))))
 
 assertion_with_alike : {I : Type 0} (o : Openings) → Opens o → Alike (λ (i : I). IsAssertionWith o)
 assertion_with_alike o h = then_alike (disjunction_alike o h) (either_alike (h.implied (λ p. p.1)) (gives_alike (λ p. p.1)))
@@ -124,42 +125,42 @@ assertion_with_alike o h = then_alike (disjunction_alike o h) (either_alike (h.i
 opens : (n : ℕ) → Opens (openings n)
 opens zero = record { prefix = never_alike; implied = λ f. never_alike }
 opens (suc n) = record {
-  prefix = either_alike (then_alike (symbol_alike kinds.Not) (map_alike Negation (unit_alike (openings n) (opens n))))
-      (then_alike (symbol_alike kinds.OpenParen) (then_alike (assertion_with_alike (openings n) (opens n)) (then_alike (symbol_alike kinds.CloseParen) (gives_alike (λ q. q.0.1)))));
-  implied = λ f. then_alike (symbol_alike kinds.Arrow) (then_alike (assertion_with_alike (openings n) (opens n)) (gives_alike (λ q. Implication (f q.0.0) q.1)));
+  prefix = either_alike (then_alike (symbol_alike kinds.Not refl) (map_alike Negation (unit_alike (openings n) (opens n))))
+      (then_alike (symbol_alike kinds.OpenParen refl) (then_alike (assertion_with_alike (openings n) (opens n)) (then_alike (symbol_alike kinds.CloseParen refl) (gives_alike (λ q. q.0.1)))));
+  implied = λ f. then_alike (symbol_alike kinds.Arrow refl) (then_alike (assertion_with_alike (openings n) (opens n)) (gives_alike (λ q. Implication (f q.0.0) q.1)));
 }
 
 assertion_alike : {I : Type 0} (n : ℕ) → Alike (λ (i : I). IsAssertion n)
 assertion_alike n = assertion_with_alike (openings n) (opens n)
 
 note_alike : {I : Type 0} (n : ℕ) → Alike (λ (i : I). IsNote n)
-note_alike n = with_place_alike (then_alike (symbol_alike kinds.OpenBrace) (then_alike (assertion_alike n) (then_alike (symbol_alike kinds.CloseBrace) (gives_alike (λ q. q.0.1)))))
+note_alike n = with_place_alike (then_alike (symbol_alike kinds.OpenBrace refl) (then_alike (assertion_alike n) (then_alike (symbol_alike kinds.CloseBrace refl) (gives_alike (λ q. q.0.1)))))
 
 -- ---- statements
 
 basic_alike : {I : Type 0} → Alike (λ (i : I). IsBasic)
-basic_alike = either_alike (map_alike (λ w. Skip) (symbol_alike kinds.Skip)) (then_alike name_alike (then_alike (symbol_alike kinds.Assign) (then_alike sum_alike (gives_alike (λ q. Assign q.0.0.1 q.1)))))
+basic_alike = either_alike (map_alike (λ w. Skip) (symbol_alike kinds.Skip refl)) (then_alike name_alike (then_alike (symbol_alike kinds.Assign refl) (then_alike sum_alike (gives_alike (λ q. Assign q.0.0.1 q.1)))))
 
 body_alike : {I : Type 0} → Alike (λ (i : I). IsBody)
 body_alike = either_alike
-    (then_alike (symbol_alike kinds.Begin) (then_alike (separated_alike kinds.Semicolon (with_place_alike basic_alike)) (then_alike (symbol_alike kinds.End) (gives_alike (λ q. q.0.1)))))
+    (then_alike (symbol_alike kinds.Begin refl) (then_alike (separated_alike kinds.Semicolon refl (with_place_alike basic_alike)) (then_alike (symbol_alike kinds.End refl) (gives_alike (λ q. q.0.1)))))
     (map_alike (λ e. e ∷ []) (with_place_alike basic_alike))
 
 await_alike : {I : Type 0} (n : ℕ) → Alike (λ (i : I). IsAwait n)
-await_alike n = then_alike (symbol_alike kinds.Await) (then_alike (assertion_alike n) (then_alike (symbol_alike kinds.Then) (then_alike body_alike (gives_alike (λ q. Await q.0.0.1 q.1)))))
+await_alike n = then_alike (symbol_alike kinds.Await refl) (then_alike (assertion_alike n) (then_alike (symbol_alike kinds.Then refl) (then_alike body_alike (gives_alike (λ q. Await q.0.0.1 q.1)))))
 
 rest_alike : {I : Type 0} (seq : Language Seq) → ((J : Type 0) → Alike (λ (j : J). seq)) → Alike (λ (i : I). IsRestOfBlock seq)
-rest_alike seq s = then_alike (s _) (then_alike (symbol_alike kinds.End) (gives_alike (λ q. q.0.1)))
+rest_alike seq s = then_alike (s _) (then_alike (symbol_alike kinds.End refl) (gives_alike (λ q. q.0.1)))
 
 block_alike : {I : Type 0} (seq : Language Seq) → ((J : Type 0) → Alike (λ (j : J). seq)) → Alike (λ (i : I). IsBlock seq)
-block_alike seq s = then_alike (symbol_alike kinds.Begin) (rest_alike seq s)
+block_alike seq s = then_alike (symbol_alike kinds.Begin refl) (rest_alike seq s)
 
 if_alike : {I : Type 0} (n : ℕ) (seq : Language Seq) → ((J : Type 0) → Alike (λ (j : J). seq)) → Alike (λ (i : I). IsIf n seq)
-if_alike n seq s = then_alike (symbol_alike kinds.If) (then_alike (assertion_alike n) (then_alike (symbol_alike kinds.Then) (then_alike (block_alike seq s)
-    (then_alike (if_symbol_alike kinds.Else (block_alike seq s)) (gives_alike (λ q. choice q.0.0.0.1 q.0.1 q.1))))))
+if_alike n seq s = then_alike (symbol_alike kinds.If refl) (then_alike (assertion_alike n) (then_alike (symbol_alike kinds.Then refl) (then_alike (block_alike seq s)
+    (then_alike (if_symbol_alike kinds.Else refl (block_alike seq s)) (gives_alike (λ q. choice q.0.0.0.1 q.0.1 q.1))))))
 
 while_alike : {I : Type 0} (n : ℕ) (seq : Language Seq) → ((J : Type 0) → Alike (λ (j : J). seq)) → Alike (λ (i : I). IsWhile n seq)
-while_alike n seq s = then_alike (symbol_alike kinds.While) (then_alike (assertion_alike n) (then_alike (symbol_alike kinds.Do) (then_alike (block_alike seq s) (gives_alike (λ q. While q.0.0.1 q.1)))))
+while_alike n seq s = then_alike (symbol_alike kinds.While refl) (then_alike (assertion_alike n) (then_alike (symbol_alike kinds.Do refl) (then_alike (block_alike seq s) (gives_alike (λ q. While q.0.0.1 q.1)))))
 
 step_alike : {I : Type 0} (n : ℕ) (awaits : Bool) (compound : Language Stmt) → ((J : Type 0) → Alike (λ (j : J). compound)) → Alike (λ (i : I). IsStepWith n awaits compound)
 step_alike n awaits compound c = then_alike (with_place_alike (either_alike (c _) (either_alike (allowed_alike awaits (await_alike n)) (map_alike Simple basic_alike))))
@@ -180,15 +181,15 @@ seq_alike n awaits k = seq_with_alike n awaits (compounds n awaits k) (compounds
 -- ---- outlines
 
 listed_alike : {I X : Type 0} {F : I → Language X} → Alike F → Alike (λ (i : I). IsListed (F i))
-listed_alike each = then_alike (separated_alike kinds.Comma each) (then_alike (symbol_alike kinds.Semicolon) (gives_alike (λ q. q.0.1)))
+listed_alike each = then_alike (separated_alike kinds.Comma refl each) (then_alike (symbol_alike kinds.Semicolon refl) (gives_alike (λ q. q.0.1)))
 
 aux_alike : {I : Type 0} → Alike (λ (i : I). IsAux)
-aux_alike = then_alike name_alike (then_alike (symbol_alike kinds.Equal) (then_alike int_alike (gives_alike (λ q. record { name = q.0.0.1; value = q.1 }))))
+aux_alike = then_alike name_alike (then_alike (symbol_alike kinds.Equal refl) (then_alike int_alike (gives_alike (λ q. record { name = q.0.0.1; value = q.1 }))))
 
 main_alike : {I : Type 0} (n : ℕ) → Alike (λ (i : I). IsMain n)
-main_alike n = if_symbol_alike kinds.Begin (rest_alike (IsSeq n false n) (λ J. seq_alike n false n))
+main_alike n = if_symbol_alike kinds.Begin refl (rest_alike (IsSeq n false n) (λ J. seq_alike n false n))
 
 pub outline_alike : {I : Type 0} (n : ℕ) → Alike (λ (i : I). IsOutline n)
-outline_alike n = then_alike (if_symbol_alike kinds.Var (listed_alike name_alike)) (then_alike (if_symbol_alike kinds.Aux (listed_alike aux_alike)) (then_alike (note_alike n) (then_alike (main_alike n)
-    (then_alike (symbol_alike kinds.Cobegin) (then_alike (separated_alike kinds.Parallel (seq_alike n true n)) (then_alike (symbol_alike kinds.Coend) (then_alike (main_alike n) (then_alike (note_alike n)
+outline_alike n = then_alike (if_symbol_alike kinds.Var refl (listed_alike name_alike)) (then_alike (if_symbol_alike kinds.Aux refl (listed_alike aux_alike)) (then_alike (note_alike n) (then_alike (main_alike n)
+    (then_alike (symbol_alike kinds.Cobegin refl) (then_alike (separated_alike kinds.Parallel refl (seq_alike n true n)) (then_alike (symbol_alike kinds.Coend refl) (then_alike (main_alike n) (then_alike (note_alike n)
     (gives_alike (λ q. record { vars = unwrap_or q.0.0.0.0.0.0.0.0.1 []; auxes = unwrap_or q.0.0.0.0.0.0.0.1 []; pre = q.0.0.0.0.0.0.1; prologue = q.0.0.0.0.0.1; cobegin = q.0.0.0.0.1; processes = q.0.0.0.1; epilogue = q.0.1; post = q.1 }))))))))))

@@ -4,6 +4,7 @@ use Rattle.og_text.specs.Kinds.{number_of}
 use Rattle.og_text.specs.declared.token.TokenKind.{TokenKind}
 use Rattle.og_text.specs.declared.token.Token.{Token}
 use Rattle.og_grammar.specs.Language.{Language, Symbol, One, Gives, Never, Then, Either, Allowed, Many, After, Separated, IfSymbol, WithPlace, first_place}
+use Rattle.og_grammar.proofs.Numbered.{is_symbol, same_kind}
 use Rattle.og_expected.specs.Expected.{AreAlike}
 
 -- whatever stands for tokens, in one place of a family, something stands for tokens of the same kinds in another
@@ -46,11 +47,11 @@ along t t' u e same = subst (λ (w : List Token). AreAlike w u) e same
 pub gives_alike : {I X : Type 0} (f : I → X) → Alike (λ (i : I). Gives (f i))
 gives_alike f = record { like = λ i j x t u same is. (f j, (refl, none u (along t [] u is.1 same))) }
 
-pub symbol_alike : {I : Type 0} (kind : TokenKind) → Alike (λ (i : I). Symbol kind)
-symbol_alike kind = record {
+pub symbol_alike : {I : Type 0} (kind : TokenKind) → is_symbol kind ≡ true → Alike (λ (i : I). Symbol kind)
+symbol_alike kind symbolic = record {
   like = λ i j x t u same is.
       let s = single is.0 u (along t (is.0 ∷ []) u is.1 same) in
-      (s.other.span, (s.other, s.is, sym s.same ∙ is.2, refl));
+      (s.other.span, (s.other, s.is, same_kind kind s.other.kind symbolic (sym s.same ∙ ap number_of is.2), refl));
 }
 
 pub one_alike : {I X : Type 0} (value : Token → Option X)
@@ -111,11 +112,11 @@ over is = record { like = λ p q x t u same h. is.like p.0 q.0 x t u same h }
 pub map_alike : {I A B : Type 0} {F : I → Language A} (f : A → B) → Alike F → Alike (λ (i : I). Then (F i) (λ a. Gives (f a)))
 map_alike f is = then_alike is (gives_alike (λ p. f p.1))
 
-pub after_alike : {I X : Type 0} {F : I → Language X} (kind : TokenKind) → Alike F → Alike (λ (i : I). After kind (F i))
-after_alike kind is = then_alike (symbol_alike kind) (over is)
+pub after_alike : {I X : Type 0} {F : I → Language X} (kind : TokenKind) → is_symbol kind ≡ true → Alike F → Alike (λ (i : I). After kind (F i))
+after_alike kind symbolic is = then_alike (symbol_alike kind symbolic) (over is)
 
-pub separated_alike : {I X : Type 0} {F : I → Language X} (kind : TokenKind) → Alike F → Alike (λ (i : I). Separated kind (F i))
-separated_alike kind is = then_alike is (then_alike (over (many_alike (after_alike kind is))) (gives_alike (λ q. q.0.1 ∷ q.1)))
+pub separated_alike : {I X : Type 0} {F : I → Language X} (kind : TokenKind) → is_symbol kind ≡ true → Alike F → Alike (λ (i : I). Separated kind (F i))
+separated_alike kind symbolic is = then_alike is (then_alike (over (many_alike (after_alike kind symbolic is))) (gives_alike (λ q. q.0.1 ∷ q.1)))
 
-pub if_symbol_alike : {I X : Type 0} {F : I → Language X} (kind : TokenKind) → Alike F → Alike (λ (i : I). IfSymbol kind (F i))
-if_symbol_alike kind is = either_alike (map_alike Some (after_alike kind is)) (gives_alike (λ i. None))
+pub if_symbol_alike : {I X : Type 0} {F : I → Language X} (kind : TokenKind) → is_symbol kind ≡ true → Alike F → Alike (λ (i : I). IfSymbol kind (F i))
+if_symbol_alike kind symbolic is = either_alike (map_alike Some (after_alike kind symbolic is)) (gives_alike (λ i. None))

@@ -4,7 +4,7 @@ use Rattle.og_text.specs.Kinds.{number_of}
 use Rattle.og_text.specs.declared.token.Token.{Token}
 use Rattle.og_text.specs.declared.token.TokenKind.{TokenKind}
 use Rattle.og_text.specs.declared.token.TokenKind.TheVariants as kinds
-use Rattle.og_grammar.specs.Language.{Begins}
+use Rattle.og_grammar.specs.Fronts.{Begins}
 use Rattle.og_parse.specs.declared.fault.ParseFault.{ParseFault}
 use Rattle.og_parse.specs.declared.fault.ParseFault.TheVariants as faults
 use Rattle.og_parse.specs.Trees.{Outline}

@@ -16,7 +16,7 @@ use crate::searching::Searching;
 use og_cert_text::CertFile;
 use og_cond::Condition;
 use og_draws::answers;
-use og_pool::PoolFault;
+use og_pool::{Gate, PoolFault};
 use std::alloc::Global;
 use std::sync::Wait;
 use std::thread::Threads;
@@ -24,18 +24,20 @@ use std::thread::Threads;
 /// What searches tell of each condition, found by so many workers. The budget holds for each search,
 /// as in `og_find::examine`. The verdicts are the same for every number of workers.
 ///
-/// Conditions with equal facts are searched once, and share what was found.
+/// Conditions with equal facts are searched once, and share what was found. The gate is told how many
+/// searches there are, and before and after each.
 ///
 /// # Errors
 ///
 /// `Spawn`, of two workers or more, where a thread could not be started. `Memory` where an
 /// allocation was refused.
-pub fn examine_all<R: Threads + Wait + Sync>(
+pub fn examine_all<G: Gate, R: Threads + Wait + Sync>(
     rt: &R,
     alloc: Global,
     conditions: &[Condition],
     budget: u64,
     workers: u32,
+    gate: &G,
 ) -> Result<Findings, PoolFault>
     requires workers { (0 < workers) × (workers ≤ 64) }
     requires few { length conditions.now < 2 ^ 32 }
@@ -50,8 +52,11 @@ pub fn examine_all<R: Threads + Wait + Sync>(
         conditions,
         indices: &groups.firsts,
         budget,
+        gate,
     };
-    let verdicts = answers(rt, alloc, &searching, groups.firsts.len() as u32, workers)?;
+    let searches = groups.firsts.len() as u32;
+    gate.begin(searches);
+    let verdicts = answers(rt, alloc, &searching, searches, workers)?;
     let checking = Checking {
         conditions,
         places: &groups.places,
@@ -78,19 +83,20 @@ pub fn examine_all<R: Threads + Wait + Sync>(
 /// # Errors
 ///
 /// As `examine_all`.
-pub fn find_all<R: Threads + Wait + Sync>(
+pub fn find_all<G: Gate, R: Threads + Wait + Sync>(
     rt: &R,
     alloc: Global,
     conditions: &[Condition],
     budget: u64,
     workers: u32,
+    gate: &G,
 ) -> Result<CertFile, PoolFault>
     requires workers { (0 < workers) × (workers ≤ 64) }
     requires few { length conditions.now < 2 ^ 32 }
     ensures certificates { IfOk result (λ file. AreOf (map seen conditions.now) (shown file)) }
     ensures spawn { IfErr result (λ e. e ≡ Spawn → 1 < workers) }
 {
-    let findings = examine_all(rt, alloc, conditions, budget, workers)?;
+    let findings = examine_all(rt, alloc, conditions, budget, workers, gate)?;
     let file = findings.certificates(alloc)?;
     Ok(file)
 }

@@ -3,17 +3,20 @@
 use og_cond::Condition;
 use og_draws::Numbered;
 use og_find::{Verdict, examine};
+use og_pool::Gate;
 use std::alloc::{AllocError, Global};
 
-/// The condition at each of these indices is searched.
+/// The condition at each of these indices is searched, and a gate is told of each search by the
+/// number of its place.
 #[derive(Clone, Copy)]
-pub(crate) struct Searching<'a, 'c> {
+pub(crate) struct Searching<'a, 'c, G> {
     pub(crate) conditions: &'a [Condition<'c>],
     pub(crate) indices: &'a [usize],
     pub(crate) budget: u64,
+    pub(crate) gate: &'a G,
 }
 
-impl<'a, 'c> Numbered for Searching<'a, 'c> {
+impl<'a, 'c, G: Gate> Numbered for Searching<'a, 'c, G> {
     ghost use Rattle.std.specs.Prelude.{length, map, ⊤};
     ghost use Rattle.og_cond.specs.Seen.{seen};
     ghost use Rattle.og_finder.specs.Findings.{IsSearched};
@@ -35,7 +38,9 @@ impl<'a, 'c> Numbered for Searching<'a, 'c> {
         if index >= self.conditions.len() {
             return Ok(Verdict::Open);
         }
+        self.gate.before(number);
         let verdict = examine(alloc, &self.conditions[index], self.budget)?;
+        self.gate.after(number);
         Ok(verdict)
     }
 }

@@ -7,8 +7,10 @@ use Rattle.og_text.specs.declared.token.TokenKind.{TokenKind}
 use Rattle.og_text.specs.declared.token.Token.{Token}
 use Rattle.og_text.specs.declared.place.Span.{Span}
 use Rattle.og_grammar.specs.declared.fault.FaultKind.TheVariants.{Expected, TooDeep}
-use Rattle.og_grammar.specs.Language.{Language, Begins, Symbol, One, Gives, Never, Then, Either, Allowed, Many, After, Separated, IfSymbol, Placed, first_place, WithPlace}
+use Rattle.og_grammar.specs.Language.{Language, Symbol, One, Gives, Never, Then, Either, Allowed, Many, After, Separated, IfSymbol, Placed, first_place, WithPlace}
+use Rattle.og_grammar.specs.Fronts.{Begins}
 use Rattle.og_grammar.specs.Reading.{Stop, Outcome, Reader, ◌>>=◌, nothing, is_a, or, starts, symbol_at, taken, token_at, shut_at, many_at, after_at, separated_at, if_symbol_at, with_place_at}
+use Rattle.og_grammar.proofs.Numbered.{is_symbol, same_kind}
 use Rattle.og_grammar.proofs.Laws.{Took, Stopped, Laws, Starts, Avoids, Apart, many_avoids, bind_ok, bind_err, ok_is, err_is, done, failed, stop_at, chosen, chosen_err, gives_laws, then_laws, map_laws, symbol_laws, symbol_some, either_laws, many_laws}
 use Rattle.og_grammar.proofs.More.{starts_nothing, starts_or, starts_neither, gives_avoids, apart, symbol_starts, then_starts, then_some, gives_some, map_some, many_some, one_laws, IsClosed, closed_laws}
 use Rattle.og_grammar.proofs.Wider.{GoesOn, Faults, Widens, plain_widens, gives_widens, map_widens, then_widens, either_widens, many_widens}
@@ -153,8 +155,8 @@ token_plain {X} value (t ∷ ts) s e = go (value t) e where
 pub gives_reads : {More : Type 0} {X : Type 0} (x : X) (longer : ℕ → Bool) → Reads More (λ tokens. Ok (x, tokens)) (λ tokens. Ok (x, tokens)) (Gives x) (Gives x) longer
 gives_reads x longer = record { laws = gives_laws x longer; wide_laws = gives_laws x longer; widens = gives_widens x; some = gives_some x }
 
-pub symbol_reads : {More : Type 0} (kind : TokenKind) (longer : ℕ → Bool) → Reads More (symbol_at kind) (symbol_at kind) (Symbol kind) (Symbol kind) longer
-symbol_reads kind longer = record { laws = symbol_laws kind longer; wide_laws = symbol_laws kind longer; widens = plain_widens (symbol_at kind) (Symbol kind) (symbol_plain kind); some = symbol_some kind }
+pub symbol_reads : {More : Type 0} (kind : TokenKind) → is_symbol kind ≡ true → (longer : ℕ → Bool) → Reads More (symbol_at kind) (symbol_at kind) (Symbol kind) (Symbol kind) longer
+symbol_reads kind symbolic longer = record { laws = symbol_laws kind symbolic longer; wide_laws = symbol_laws kind symbolic longer; widens = plain_widens (symbol_at kind) (Symbol kind) (symbol_plain kind); some = symbol_some kind }
 
 pub one_reads : {More : Type 0} {X : Type 0} (value : Token → Option X) (longer : ℕ → Bool) → Begins (One value) [] → Reads More (token_at value) (token_at value) (One value) (One value) longer
 one_reads value longer some = record { laws = one_laws value longer some; wide_laws = one_laws value longer some; widens = plain_widens (token_at value) (One value) (token_plain value); some = some }
@@ -304,26 +306,26 @@ many_reads test {is = is} {after = after} each first apart_is = record {
 }
 
 pub after_reads : {More : Type 0} {X : Type 0} (kind : TokenKind) {read wide : Reader X} {is all : Language X} {longer : ℕ → Bool}
-    → Reads More read wide is all longer → Reads More (after_at kind read) (after_at kind wide) (After kind is) (After kind all) longer
-after_reads kind part = next_reads (symbol_reads kind nothing) (λ at. part)
+    → is_symbol kind ≡ true → Reads More read wide is all longer → Reads More (after_at kind read) (after_at kind wide) (After kind is) (After kind all) longer
+after_reads kind symbolic part = next_reads (symbol_reads kind symbolic nothing) (λ at. part)
 
 symbol_apart : (kind : TokenKind) (longer : ℕ → Bool) → longer (number_of kind) ≡ false → Apart (is_a kind) longer (or (is_a kind) longer)
 symbol_apart kind longer fails = record { opens = apart kind longer fails; follows = starts_or (is_a kind) longer }
 
 pub separated_reads : {More : Type 0} {X : Type 0} (kind : TokenKind) {read wide : Reader X} {is all : Language X} {longer : ℕ → Bool}
-    → Reads More read wide is all longer → longer (number_of kind) ≡ false → Reads More (separated_at kind read) (separated_at kind wide) (Separated kind is) (Separated kind all) (or (is_a kind) longer)
-separated_reads kind {longer = longer} each fails =
+    → is_symbol kind ≡ true → Reads More read wide is all longer → longer (number_of kind) ≡ false → Reads More (separated_at kind read) (separated_at kind wide) (Separated kind is) (Separated kind all) (or (is_a kind) longer)
+separated_reads kind {longer = longer} symbolic each fails =
     let between = symbol_apart kind longer fails in
     then_reads each
-    (λ first_part. map_reads (λ others. first_part ∷ others) (many_reads (is_a kind) (after_reads kind each) (then_starts (symbol_starts kind)) between))
+    (λ first_part. map_reads (λ others. first_part ∷ others) (many_reads (is_a kind) (after_reads kind symbolic each) (then_starts (symbol_starts kind)) between))
     (λ first_part. map_avoids (many_avoids (then_starts (symbol_starts kind)) between))
 
 pub if_symbol_reads : {More : Type 0} {X : Type 0} (kind : TokenKind) {read wide : Reader X} {is all : Language X} {longer : ℕ → Bool}
-    → Reads More read wide is all longer → Reads More (if_symbol_at kind read) (if_symbol_at kind wide) (IfSymbol kind is) (IfSymbol kind all) (or (is_a kind) longer)
-if_symbol_reads {X} kind {longer = longer} part =
+    → is_symbol kind ≡ true → Reads More read wide is all longer → Reads More (if_symbol_at kind read) (if_symbol_at kind wide) (IfSymbol kind is) (IfSymbol kind all) (or (is_a kind) longer)
+if_symbol_reads {X} kind {longer = longer} symbolic part =
     let nobody : Option X = None in
     either_reads (is_a kind)
-    (weaken (λ rest ends. (starts_or (is_a kind) longer rest ends).1) (map_reads Some (after_reads kind part)))
+    (weaken (λ rest ends. (starts_or (is_a kind) longer rest ends).1) (map_reads Some (after_reads kind symbolic part)))
     (then_starts (then_starts (symbol_starts kind)))
     (gives_reads nobody (or (is_a kind) longer))
     (gives_avoids nobody (is_a kind) longer)
@@ -409,10 +411,10 @@ with_place_reads first r = record {
 }
 
 -- ---- a symbol that opens a level, before what follows it
-pub symbol_goes : {X : Type 0} (kind : TokenKind) {is : Span → Language X} → ((at : Span) → Begins (is at) []) → (token : Token) → is_a kind (number_of token.kind) ≡ true → Begins (Then (Symbol kind) is) (token ∷ [])
-symbol_goes kind some token h =
+pub symbol_goes : {X : Type 0} (kind : TokenKind) {is : Span → Language X} → is_symbol kind ≡ true → ((at : Span) → Begins (is at) []) → (token : Token) → is_a kind (number_of token.kind) ≡ true → Begins (Then (Symbol kind) is) (token ∷ [])
+symbol_goes kind symbolic some token h =
     let b = some token.span in
-    record { value = b.value; tail = b.tail; whole = record { head = token.span; front = token ∷ []; back = b.tail; parts = refl; is_first = (token, refl, eqb-true (number_of token.kind) (number_of kind) h, refl); is_second = b.whole } }
+    record { value = b.value; tail = b.tail; whole = record { head = token.span; front = token ∷ []; back = b.tail; parts = refl; is_first = (token, refl, same_kind kind token.kind symbolic (eqb-true (number_of token.kind) (number_of kind) h), refl); is_second = b.whole } }
 
 pub either_goes : {X : Type 0} {is is' : Language X} (a b : ℕ → Bool) → ((token : Token) → a (number_of token.kind) ≡ true → Begins is (token ∷ [])) → ((token : Token) → b (number_of token.kind) ≡ true → Begins is' (token ∷ []))
     → (token : Token) → or a b (number_of token.kind) ≡ true → Begins (Either is is') (token ∷ [])

@@ -3,12 +3,14 @@ use Rattle.std.proofs.Common.{◌≡◌, ℕ, zero, suc, ◌≤◌, Bool, true, 
 use Rattle.std.proofs.lemmas.List.{append-nil}
 use Rattle.std.proofs.lemmas.Bool.{eqb-true, eq-eqb, false≢true}
 use Rattle.og_text.specs.Kinds.{number_of}
+use Rattle.og_grammar.proofs.Numbered.{is_symbol, same_kind}
 use Rattle.og_text.specs.declared.token.TokenKind.{TokenKind}
 use Rattle.og_text.specs.declared.token.Token.{Token}
 use Rattle.og_text.specs.declared.place.Span.{Span}
 use Rattle.og_grammar.specs.declared.fault.FaultKind.{FaultKind}
 use Rattle.og_grammar.specs.declared.fault.FaultKind.TheVariants.{Expected}
-use Rattle.og_grammar.specs.Language.{Language, Begins, Symbol, Gives, Then, Either, Many}
+use Rattle.og_grammar.specs.Language.{Language, Symbol, Gives, Then, Either, Many}
+use Rattle.og_grammar.specs.Fronts.{Begins}
 use Rattle.og_grammar.specs.Reading.{Stop, Outcome, Reader, ◌>>=◌, starts, symbol_at, some_at, many_at}
 
 -- both begin with the same token, or both are empty
@@ -209,7 +211,7 @@ pub chosen_err : (b : Bool) (token : Token) (tokens : List Token) (s : Stop) →
 chosen_err true token tokens s e = absurd cc
 chosen_err false token tokens s e = (refl, err_is {A = Span × List Token} (stop_at (token ∷ tokens)) s e)
 
-module _ (kind : TokenKind) where
+module _ (kind : TokenKind) (symbolic : is_symbol kind ≡ true) where
   symbol_takes : (tokens : List Token) (x : Span) (rest : List Token) → symbol_at kind tokens ≡ Ok (x, rest) → Took (symbol_at kind) (Symbol kind) tokens x rest
   symbol_takes [] x rest e = absurd cc
   symbol_takes (t ∷ ts) x rest e =
@@ -217,10 +219,11 @@ module _ (kind : TokenKind) where
       record {
         front = t ∷ [];
         parts = ap (λ (r : List Token). t ∷ r) c.2;
-        is_read = (t, refl, eqb-true _ _ c.0, sym c.1);
+        is_read = (t, refl, same_kind kind t.kind symbolic (eqb-true _ _ c.0), sym c.1);
         fixed = λ other h. rw c.0 (ap (λ (z : Span). done (z, other)) c.1);
       }
 
+module _ (kind : TokenKind) where
   missed_nil : (other : List Token) → SameHead [] other → symbol_at kind other ≡ Err (stop_at other)
   missed_nil [] h = refl
   missed_nil (u ∷ us) h = absurd h
@@ -236,7 +239,7 @@ module _ (kind : TokenKind) where
       subst (λ (z : Stop). Stopped (symbol_at kind) (Symbol kind) (t ∷ ts) z.0 z.1) c.1 (stops_here (symbol_at kind) (Symbol kind) Expected (t ∷ ts) some (λ other h. missed_cons t ts other c.0 h))
 
   symbol_again : (x : Span) (front rest : List Token) → Symbol kind x front → symbol_at kind (front ++ rest) ≡ Ok (x, rest)
-  symbol_again x front rest is = rw (is.1, is.3) (read_one is.0 is.2) where
+  symbol_again x front rest is = rw (is.1, is.3) (read_one is.0 (ap number_of is.2)) where
     read_one : (token : Token) → number_of token.kind ≡ number_of kind → symbol_at kind (token ∷ rest) ≡ Ok (token.span, rest)
     read_one token same = rw (eq-eqb _ _ same) refl
 
@@ -247,9 +250,9 @@ sample kind = record { kind = kind; span = record { start = 0; end = 0 } }
 pub symbol_some : (kind : TokenKind) → Begins (Symbol kind) []
 symbol_some kind = record { value = record { start = 0; end = 0 }; tail = sample kind ∷ []; whole = (sample kind, refl, refl, refl) }
 
-pub symbol_laws : (kind : TokenKind) (longer : ℕ → Bool) → Laws (symbol_at kind) (Symbol kind) longer
-symbol_laws kind longer = record {
-  takes = symbol_takes kind;
+pub symbol_laws : (kind : TokenKind) → is_symbol kind ≡ true → (longer : ℕ → Bool) → Laws (symbol_at kind) (Symbol kind) longer
+symbol_laws kind symbolic longer = record {
+  takes = symbol_takes kind symbolic;
   stops = λ tokens fault rest e. symbol_stops kind (symbol_some kind) tokens (fault, rest) e;
   again = λ x front rest is ends. symbol_again kind x front rest is;
 }

@@ -1,3 +1,4 @@
+pub mod Numbered
 pub mod Symbols
 pub mod Laws
 pub mod More

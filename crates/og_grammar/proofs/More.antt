@@ -6,7 +6,8 @@ use Rattle.og_text.specs.declared.token.TokenKind.{TokenKind}
 use Rattle.og_text.specs.declared.token.Token.{Token}
 use Rattle.og_grammar.specs.declared.fault.FaultKind.{FaultKind}
 use Rattle.og_grammar.specs.declared.fault.FaultKind.TheVariants.{Expected}
-use Rattle.og_grammar.specs.Language.{Language, Begins, Symbol, One, Gives, Then, Either, Many, After, Separated}
+use Rattle.og_grammar.specs.Language.{Language, Symbol, One, Gives, Then, Either, Many, After, Separated}
+use Rattle.og_grammar.specs.Fronts.{Begins}
 use Rattle.og_grammar.specs.Reading.{Stop, Reader, is_a, nothing, or, starts, taken, token_at}
 use Rattle.og_grammar.proofs.Laws.{SameHead, starts-same, SameHead-front, Took, Stopped, Laws, Starts, Avoids, ok_is, err_is, done, failed, stops_here, chosen}
 
@@ -37,7 +38,7 @@ apart kind test fails (t ∷ ts) h = rw (eqb-true (number_of t.kind) (number_of 
 -- ---- first tokens
 
 pub symbol_starts : (kind : TokenKind) → Starts (Symbol kind) (is_a kind)
-symbol_starts kind = record { starting = λ x front rest is. rw is.1 (eq-eqb (number_of is.0.kind) (number_of kind) is.2) }
+symbol_starts kind = record { starting = λ x front rest is. rw is.1 (eq-eqb (number_of is.0.kind) (number_of kind) (ap number_of is.2)) }
 
 pub then_starts : {A B : Type 0} {is : Language A} {is' : A → Language B} {test : ℕ → Bool} → Starts is test → Starts (Then is is') test
 then_starts first = record { starting = λ x front rest h. rw (h.parts, append_assoc h.front h.back rest) (first.starting h.head h.front (h.back ++ rest) h.is_first) }

@@ -5,7 +5,8 @@ use Rattle.std.proofs.lemmas.Bool.{false≢true}
 use Rattle.og_text.specs.declared.token.Token.{Token}
 use Rattle.og_grammar.specs.declared.fault.FaultKind.{FaultKind}
 use Rattle.og_grammar.specs.declared.fault.FaultKind.TheVariants.{Expected, TooDeep}
-use Rattle.og_grammar.specs.Language.{Language, Begins, Gives, Then}
+use Rattle.og_grammar.specs.Language.{Language, Gives, Then}
+use Rattle.og_grammar.specs.Fronts.{Begins}
 use Rattle.og_grammar.specs.Reading.{Stop, Reader, starts, end_at, whole_at}
 use Rattle.og_grammar.proofs.Laws.{SameHead, Took, Stopped, Laws, Avoids, stops_here, bind_ok, ok_is, err_is, done, failed}
 use Rattle.og_grammar.proofs.More.{gives_some}

@@ -4,7 +4,8 @@ use Rattle.std.proofs.lemmas.List.{append-nil}
 use Rattle.og_text.specs.declared.token.Token.{Token}
 use Rattle.og_grammar.specs.declared.fault.FaultKind.{FaultKind}
 use Rattle.og_grammar.specs.declared.fault.FaultKind.TheVariants.{Expected, TooDeep}
-use Rattle.og_grammar.specs.Language.{Language, Begins, Gives, Then, Either, Many}
+use Rattle.og_grammar.specs.Language.{Language, Gives, Then, Either, Many}
+use Rattle.og_grammar.specs.Fronts.{Begins}
 use Rattle.og_grammar.specs.Reading.{Stop, Reader, ◌>>=◌, starts, some_at, many_at}
 use Rattle.og_grammar.proofs.Laws.{Laws, bind_ok, bind_err, chosen}
 

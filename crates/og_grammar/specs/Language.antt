@@ -1,6 +1,5 @@
 -- Relations between values and the lists of tokens that stand for them.
 use Rattle.std.specs.Prelude.{◌≡◌, Bool, true, false, List, [], ◌∷◌, ◌++◌, ◌⊎◌, Option, Some, None}
-use Rattle.og_text.specs.Kinds.{number_of}
 use Rattle.og_text.specs.declared.token.TokenKind.{TokenKind}
 use Rattle.og_text.specs.declared.token.Token.{Token}
 use Rattle.og_text.specs.declared.place.Span.{Span}
@@ -10,7 +9,7 @@ Language X = X → List Token → Type 0
 
 -- one keyword or symbol, which gives its place
 abbrev pub Symbol : TokenKind → Language Span
-Symbol kind span tokens = (token : Token) × (tokens ≡ token ∷ []) × (number_of token.kind ≡ number_of kind) × (span ≡ token.span)
+Symbol kind span tokens = (token : Token) × (tokens ≡ token ∷ []) × (token.kind ≡ kind) × (span ≡ token.span)
 
 -- one token, with the value that it has
 abbrev pub One : {X : Type 0} → (Token → Option X) → Language X
@@ -57,6 +56,22 @@ After kind each = do
   at ← Symbol kind
   each
 
+-- a keyword or symbol that stands for a value
+abbrev pub Word : {X : Type 0} → TokenKind → X → Language X
+Word kind x = After kind (Gives x)
+
+-- a part, with another value made of its value
+abbrev pub Map : {A B : Type 0} → (A → B) → Language A → Language B
+Map f each = each >>= λ x. Gives (f x)
+
+-- a part, and then a symbol
+abbrev pub Before : {X : Type 0} → Language X → TokenKind → Language X
+Before each kind = each >>= λ x. Word kind x
+
+-- a part between two symbols
+abbrev pub Between : {X : Type 0} → TokenKind → Language X → TokenKind → Language X
+Between left each right = After left (Before each right)
+
 -- one part or more, with a symbol between any two
 abbrev pub Separated : {X : Type 0} → TokenKind → Language X → Language (List X)
 Separated kind each = do
@@ -66,7 +81,7 @@ Separated kind each = do
 
 -- a part after a symbol, which gives Some, or no token, which gives None
 abbrev pub IfSymbol : {X : Type 0} → TokenKind → Language X → Language (Option X)
-IfSymbol kind part = Either (After kind part >>= λ x. Gives (Some x)) (Gives None)
+IfSymbol kind part = Either (Map Some (After kind part)) (Gives None)
 
 -- a value, and the place of the first token that stands for it
 pub record Placed (X : Type 0) : Type 0 where
@@ -79,9 +94,3 @@ first_place (token ∷ tokens) = token.span
 
 abbrev pub WithPlace : {X : Type 0} → Language X → Language (Placed X)
 WithPlace is x tokens = is x.value tokens × (x.place ≡ first_place tokens)
-
--- some list of the language begins so
-pub record Begins {X : Type 0} (is : Language X) (front : List Token) : Type 0 where
-  pub value : X
-  pub tail : List Token
-  pub whole : is value (front ++ tail)

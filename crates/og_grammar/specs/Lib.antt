@@ -1,3 +1,4 @@
 pub mod Language
+pub mod Fronts
 pub mod Reading
 pub mod Gives

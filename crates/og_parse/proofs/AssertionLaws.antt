@@ -3,13 +3,14 @@ use Rattle.std.proofs.Common.{◌≡◌, ℕ, zero, suc, ◌≤◌, ◌<◌, Boo
 use Rattle.og_text.specs.Kinds.{number_of}
 use Rattle.og_text.specs.declared.token.TokenKind.TheVariants as kinds
 use Rattle.og_text.specs.declared.token.Token.{Token}
-use Rattle.og_grammar.specs.Language.{Begins}
+use Rattle.og_grammar.specs.Fronts.{Begins}
 use Rattle.og_grammar.specs.Reading.{Reader, ◌>>=◌, nothing, is_a, or, symbol_at}
 use Rattle.og_grammar.proofs.Laws.{Laws, Starts, Avoids, symbol_some}
 use Rattle.og_grammar.proofs.More.{gives_avoids, symbol_starts, then_starts, either_avoids, map_some, then_some}
 use Rattle.og_grammar.proofs.Bundle.{Reads, Way, open_way, shut_way, no_way, way_reads, way_starts, optional_avoids, shut_closed, starts_also, or_left, or_right, either_starts, with_place_starts, avoids_by, symbol_avoids, gives_reads, symbol_reads, then_reads, next_reads, map_reads, either_reads, separated_reads, with_place_reads, symbol_goes, either_goes}
 use Rattle.og_parse.specs.Trees.{Assertion, Truth, Falsity, Negation, Implication, conjunction, disjunction}
-use Rattle.og_parse.specs.Grammar.{IsTruth, IsFalsity, IsComparison, IsNegation, IsInParens, IsImplied, IsUnitWith, IsConjunctionWith, IsDisjunctionWith, IsAssertionWith, openings, IsAssertion, IsBraced, IsNote}
+use Rattle.og_parse.specs.Grammar.{IsComparison, IsUnitWith, IsConjunctionWith, IsDisjunctionWith, IsAssertionWith, openings, IsAssertion, IsNote}
+use Rattle.og_parse.proofs.Productions.{IsTruth, IsFalsity, IsNegation, IsInParens, IsImplied, IsBraced}
 use Rattle.og_parse.specs.Reads.{a_prefix, truth_at, falsity_at, negation_by, in_parens_by, implied_by, unit_by, units_by, conjunction_by, conjunctions_by, disjunction_by, assertion_by, prefix_by, opens, assertion_at, test_at, braced_at, note_at}
 use Rattle.og_parse.proofs.Same.{nested, same_reads}
 use Rattle.og_parse.proofs.TermLaws.{a_sum_fails, after_sum, comparison_reads, comparison_starts}
@@ -26,11 +27,11 @@ after_assertion = or (is_a kinds.Arrow) after_disjunction
 
 truth_reads : {More : Type 0} → Reads More truth_at truth_at IsTruth IsTruth after_sum
 unfolding truth_at
-truth_reads = map_reads (λ word. Truth) (symbol_reads kinds.True after_sum)
+truth_reads = map_reads (λ word. Truth) (symbol_reads kinds.True refl after_sum)
 
 falsity_reads : {More : Type 0} → Reads More falsity_at falsity_at IsFalsity IsFalsity after_sum
 unfolding falsity_at
-falsity_reads = map_reads (λ word. Falsity) (symbol_reads kinds.False after_sum)
+falsity_reads = map_reads (λ word. Falsity) (symbol_reads kinds.False refl after_sum)
 
 -- an implication, one part after the other
 unfoldable implied_steps : Reader Assertion → Assertion → Reader Assertion
@@ -65,11 +66,11 @@ module _ {More : Type 0} {n m : ℕ} (ways : Ways More n m) where
 
   conjunction_reads : Reads More (conjunction_by (opens n)) (conjunction_by (opens m)) (IsConjunctionWith (openings n)) (IsConjunctionWith (openings m)) after_conjunction
   unfolding conjunction_by units_by
-  conjunction_reads = map_reads conjunction (separated_reads kinds.And unit_reads refl)
+  conjunction_reads = map_reads conjunction (separated_reads kinds.And refl unit_reads refl)
 
   disjunction_reads : Reads More (disjunction_by (opens n)) (disjunction_by (opens m)) (IsDisjunctionWith (openings n)) (IsDisjunctionWith (openings m)) after_disjunction
   unfolding disjunction_by conjunctions_by
-  disjunction_reads = map_reads disjunction (separated_reads kinds.Or conjunction_reads refl)
+  disjunction_reads = map_reads disjunction (separated_reads kinds.Or refl conjunction_reads refl)
 
   assertion_reads : Reads More (assertion_by (opens n)) (assertion_by (opens m)) (IsAssertionWith (openings n)) (IsAssertionWith (openings m)) after_assertion
   unfolding assertion_by
@@ -82,13 +83,13 @@ module _ {More : Type 0} {n m : ℕ} (ways : Ways More n m) where
 
   negation_reads : Reads More (negation_by (unit_by (opens n))) (negation_by (unit_by (opens m))) (IsNegation (IsUnitWith (openings n))) (IsNegation (IsUnitWith (openings m))) after_sum
   unfolding negation_by
-  negation_reads = next_reads (symbol_reads kinds.Not nothing) (λ at. map_reads Negation unit_reads)
+  negation_reads = next_reads (symbol_reads kinds.Not refl nothing) (λ at. map_reads Negation unit_reads)
 
   in_parens_reads : Reads More (in_parens_by (assertion_by (opens n))) (in_parens_by (assertion_by (opens m))) (IsInParens (IsAssertionWith (openings n))) (IsInParens (IsAssertionWith (openings m))) after_sum
   unfolding in_parens_by
   in_parens_reads =
-      next_reads (symbol_reads kinds.OpenParen nothing)
-      (λ at. then_reads assertion_reads (λ a. map_reads (λ at. a) (symbol_reads kinds.CloseParen after_sum)) (λ a. symbol_avoids kinds.CloseParen after_assertion refl))
+      next_reads (symbol_reads kinds.OpenParen refl nothing)
+      (λ at. then_reads assertion_reads (λ a. map_reads (λ at. a) (symbol_reads kinds.CloseParen refl after_sum)) (λ a. symbol_avoids kinds.CloseParen after_assertion refl))
 
   prefix_reads : Reads More (prefix_by (opens n)) (prefix_by (opens m)) (openings (suc n)).prefix (openings (suc m)).prefix after_sum
   unfolding prefix_by
@@ -96,7 +97,7 @@ module _ {More : Type 0} {n m : ℕ} (ways : Ways More n m) where
 
   implied_step_reads : (left : Assertion) → Reads More (implied_steps (assertion_by (opens n)) left) (implied_steps (assertion_by (opens m)) left) (IsImplied (IsAssertionWith (openings n)) left) (IsImplied (IsAssertionWith (openings m)) left) after_assertion
   unfolding implied_steps
-  implied_step_reads left = next_reads (symbol_reads kinds.Arrow nothing) (λ at. map_reads (λ right. Implication left right) assertion_reads)
+  implied_step_reads left = next_reads (symbol_reads kinds.Arrow refl nothing) (λ at. map_reads (λ right. Implication left right) assertion_reads)
 
   implied_reads : (left : Assertion) → Reads More (implied_by (assertion_by (opens n)) left) (implied_by (assertion_by (opens m)) left) (IsImplied (IsAssertionWith (openings n)) left) (IsImplied (IsAssertionWith (openings m)) left) after_assertion
   implied_reads left = same_reads (implied_same (assertion_by (opens n)) left) (implied_same (assertion_by (opens m)) left) (implied_step_reads left)
@@ -105,10 +106,10 @@ module _ {More : Type 0} {n m : ℕ} (ways : Ways More n m) where
   prefix_goes =
       let unit_some = map_some Negation unit_reads.some in
       let inner_some = then_some assertion_reads.some (λ a. map_some (λ at. a) (symbol_some kinds.CloseParen)) in
-      either_goes (is_a kinds.Not) (is_a kinds.OpenParen) (symbol_goes kinds.Not (λ at. unit_some)) (symbol_goes kinds.OpenParen (λ at. inner_some))
+      either_goes (is_a kinds.Not) (is_a kinds.OpenParen) (symbol_goes kinds.Not refl (λ at. unit_some)) (symbol_goes kinds.OpenParen refl (λ at. inner_some))
 
   implied_goes : (left : Assertion) (token : Token) → is_a kinds.Arrow (number_of token.kind) ≡ true → Begins (IsImplied (IsAssertionWith (openings n)) left) (token ∷ [])
-  implied_goes left = symbol_goes kinds.Arrow (λ at. map_some (λ right. Implication left right) assertion_reads.some)
+  implied_goes left = symbol_goes kinds.Arrow refl (λ at. map_some (λ right. Implication left right) assertion_reads.some)
 
 prefix_starts : (n : ℕ) → Starts (openings (suc n)).prefix a_prefix
 prefix_starts n = either_starts (starts_also (or_left (is_a kinds.Not) (is_a kinds.OpenParen)) (then_starts (symbol_starts kinds.Not))) (starts_also (or_right (is_a kinds.Not) (is_a kinds.OpenParen)) (then_starts (symbol_starts kinds.OpenParen)))
@@ -144,8 +145,8 @@ module _ {More : Type 0} (n m : ℕ) (le : n ≤ m) (more : More → n < m) wher
   braced_level : Reads More (braced_at n) (braced_at m) (IsBraced n) (IsBraced m) nothing
   unfolding braced_at test_at
   braced_level =
-      next_reads (symbol_reads kinds.OpenBrace nothing)
-      (λ at. then_reads assertion_level (λ a. map_reads (λ at. a) (symbol_reads kinds.CloseBrace nothing)) (λ a. symbol_avoids kinds.CloseBrace after_assertion refl))
+      next_reads (symbol_reads kinds.OpenBrace refl nothing)
+      (λ at. then_reads assertion_level (λ a. map_reads (λ at. a) (symbol_reads kinds.CloseBrace refl nothing)) (λ a. symbol_avoids kinds.CloseBrace after_assertion refl))
 
   pub note_level : Reads More (note_at n) (note_at m) (IsNote n) (IsNote m) nothing
   unfolding note_at

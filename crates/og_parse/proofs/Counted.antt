@@ -53,19 +53,13 @@ closes_number : (kind : TokenKind) → closes_note kind ≡ is_a kinds.CloseBrac
 closes_number kinds.CloseBrace = refl
 closes_number kind = refl
 
-symbol_begins : (kind : TokenKind) (token : Token) → number_of token.kind ≡ number_of kind → begins_statement token.kind ≡ begins_statement kind
-symbol_begins kind token same = begins_number token.kind ∙ ap a_stmt same ∙ sym (begins_number kind)
-
-symbol_closes : (kind : TokenKind) (token : Token) → number_of token.kind ≡ number_of kind → closes_note token.kind ≡ closes_note kind
-symbol_closes kind token same = closes_number token.kind ∙ ap (is_a kinds.CloseBrace) same ∙ sym (closes_number kind)
-
 pub symbol_counts : (enter : Bool) (kind : TokenKind) → Counts enter 0 (Symbol kind) (λ at. one_if (enter && begins_statement kind)) (closes_note kind)
 symbol_counts enter kind = record {
   counts = λ at front h.
       let one : statements_after enter (h.0 ∷ []) ≡ one_if (enter && begins_statement h.0.kind) = (let plus : one_if (enter && begins_statement h.0.kind) + 0 ≡ one_if (enter && begins_statement h.0.kind) = omega arith in plus) in
-      let whole : statements_after enter front ≡ one_if (enter && begins_statement kind) = ap (statements_after enter) h.1 ∙ one ∙ ap (λ (b : Bool). one_if (enter && b)) (symbol_begins kind h.0 h.2) in
+      let whole : statements_after enter front ≡ one_if (enter && begins_statement kind) = ap (statements_after enter) h.1 ∙ one ∙ ap (λ (b : Bool). one_if (enter && b)) (ap begins_statement h.2) in
       omega (arith, whole);
-  leaves = λ at front h. ap (closed_after enter) h.1 ∙ symbol_closes kind h.0 h.2;
+  leaves = λ at front h. ap (closed_after enter) h.1 ∙ ap closes_note h.2;
 }
 
 -- a token with a value, whose kind begins a statement or not, and closes nothing

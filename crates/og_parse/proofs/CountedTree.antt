@@ -16,7 +16,9 @@ use Rattle.og_parse.specs.declared.raw.RawFactor.TheVariants.{Variable}
 use Rattle.og_parse.specs.Trees.{Assertion, Truth, Falsity, Comparison, Negation, Implication, conjunction, disjunction, Note, Skip, Assign, Stmt, Simple, While, Await, choice, Step, sequence, Seq, Outline}
 use Rattle.og_parse.specs.Counts.{inner_count, seq_count, main_count, outline_count}
 use Rattle.og_parse.specs.Words.{name_kind, name_of, number_kind, value_of, sign_kind, sign_of, relation_kind, relation_of}
-use Rattle.og_parse.specs.Grammar.{IsLeading, product, IsFactor, term, IsTerms, IsSum, IsInt, IsComparison, Openings, IsUnitWith, IsConjunctionWith, IsDisjunctionWith, IsAssertionWith, openings, IsAssertion, IsNote, IsBasic, IsElement, IsBody, IsSimple, IsAwait, IsRestOfBlock, IsBlock, IsIf, IsWhile, IsStmtWith, IsStepWith, IsSeqWith, compounds, IsSeq, IsAux, IsListed, IsMain, IsOutline, IsAnyOutline}
+use Rattle.og_parse.specs.Grammar.{IsLeading, product, IsFactor, term, IsTerms, IsSum, IsInt, IsComparison, Openings, IsUnitWith, IsConjunctionWith, IsDisjunctionWith, IsAssertionWith, openings, IsAssertion, IsNote, IsBasic, IsElement, IsBody, IsAwait, IsBlock, IsIf, IsWhile, IsStmtWith, IsStepWith, IsSeqWith, compounds, IsSeq, IsAux, IsListed, IsMain, IsOutline}
+use Rattle.og_parse.proofs.Productions.{IsSimple, IsRestOfBlock}
+use Rattle.og_parse.specs.Faults.{IsAnyOutline}
 use Rattle.og_parse.specs.Limits.{begins_statement, closes_note, statement_count}
 use Rattle.og_parse.proofs.Counts.{one_if}
 use Rattle.og_parse.proofs.Counted.{Counts, Quiet, then_counts, gives_counts, symbol_counts, one_counts, plain_symbol, either_counts, never_counts, allowed_counts, with_place_counts, many_counts, either_then_counts, quiet_symbol, quiet_then, quiet_gives, quiet_many, quiet_separated, quiet_if_symbol}

@@ -1,4 +1,5 @@
 pub mod Same
+pub mod Productions
 pub mod TermLaws
 pub mod AssertionLaws
 pub mod StatementLaws

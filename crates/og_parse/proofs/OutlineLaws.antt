@@ -19,7 +19,7 @@ use Rattle.og_parse.proofs.StatementLaws.{after_seq, rest_of_block_reads, seq_le
 
 aux_reads : {More : Type 0} → Reads More aux_at aux_at IsAux IsAux nothing
 unfolding aux_at
-aux_reads = next_reads (name_reads nothing) (λ name. next_reads (symbol_reads kinds.Equal nothing) (λ at. map_reads (λ value. record { name = name; value = value }) int_reads))
+aux_reads = next_reads (name_reads nothing) (λ name. next_reads (symbol_reads kinds.Equal refl nothing) (λ at. map_reads (λ value. record { name = name; value = value }) int_reads))
 
 -- what goes on with a list
 abbrev after_list : ℕ → Bool
@@ -27,15 +27,15 @@ after_list = or (is_a kinds.Comma) nothing
 
 names_reads : {More : Type 0} → Reads More names_at names_at (Separated kinds.Comma (One name_of)) (Separated kinds.Comma (One name_of)) after_list
 unfolding names_at
-names_reads = separated_reads kinds.Comma (name_reads nothing) refl
+names_reads = separated_reads kinds.Comma refl (name_reads nothing) refl
 
 auxes_reads : {More : Type 0} → Reads More auxes_at auxes_at (Separated kinds.Comma IsAux) (Separated kinds.Comma IsAux) after_list
 unfolding auxes_at
-auxes_reads = separated_reads kinds.Comma aux_reads refl
+auxes_reads = separated_reads kinds.Comma refl aux_reads refl
 
 listed_reads : {More : Type 0} {X : Type 0} {list : Reader (List X)} {each : Language X} → Reads More list list (Separated kinds.Comma each) (Separated kinds.Comma each) after_list → Reads More (listed_by list) (listed_by list) (IsListed each) (IsListed each) nothing
 unfolding listed_by
-listed_reads all = then_reads all (λ all. map_reads (λ at. all) (symbol_reads kinds.Semicolon nothing)) (λ all. symbol_avoids kinds.Semicolon after_list refl)
+listed_reads all = then_reads all (λ all. map_reads (λ at. all) (symbol_reads kinds.Semicolon refl nothing)) (λ all. symbol_avoids kinds.Semicolon after_list refl)
 
 -- ---- an outline, one part after the other
 
@@ -59,22 +59,22 @@ steps_same n tokens = simp nested
 module _ {More : Type 0} (n m : ℕ) (le : n ≤ m) (more : More → n < m) where
   main_reads : Reads More (main_at n) (main_at m) (IsMain n) (IsMain m) (or (is_a kinds.Begin) nothing)
   unfolding main_at
-  main_reads = if_symbol_reads kinds.Begin (rest_of_block_reads n m le more (seq_level false n m le more))
+  main_reads = if_symbol_reads kinds.Begin refl (rest_of_block_reads n m le more (seq_level false n m le more))
 
   processes_reads : Reads More (processes_at n) (processes_at m) (Separated kinds.Parallel (IsSeq n true n)) (Separated kinds.Parallel (IsSeq m true m)) (or (is_a kinds.Parallel) after_seq)
   unfolding processes_at
-  processes_reads = separated_reads kinds.Parallel (seq_level true n m le more) refl
+  processes_reads = separated_reads kinds.Parallel refl (seq_level true n m le more) refl
 
   steps_level : Reads More (by_steps n) (by_steps m) (IsOutline n) (IsOutline m) nothing
   unfolding by_steps
   steps_level =
-      then_reads (if_symbol_reads kinds.Var (listed_reads names_reads))
-      (λ vars. then_reads (if_symbol_reads kinds.Aux (listed_reads auxes_reads))
+      then_reads (if_symbol_reads kinds.Var refl (listed_reads names_reads))
+      (λ vars. then_reads (if_symbol_reads kinds.Aux refl (listed_reads auxes_reads))
       (λ auxes. next_reads (note_level n m le more)
       (λ pre. then_reads main_reads
-      (λ prologue. next_reads (symbol_reads kinds.Cobegin nothing)
+      (λ prologue. next_reads (symbol_reads kinds.Cobegin refl nothing)
       (λ cobegin. then_reads processes_reads
-      (λ processes. next_reads (symbol_reads kinds.Coend nothing)
+      (λ processes. next_reads (symbol_reads kinds.Coend refl nothing)
       (λ coend. then_reads main_reads
       (λ epilogue. map_reads (λ post. record { vars = unwrap_or vars []; auxes = unwrap_or auxes []; pre = pre; prologue = prologue; cobegin = cobegin; processes = processes; epilogue = epilogue; post = post }) (note_level n m le more))
       (λ epilogue. then_avoids (avoids_by (is_a_fails kinds.OpenBrace (or (is_a kinds.Begin) nothing) refl) (note_starts m)))))

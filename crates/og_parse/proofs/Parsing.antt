@@ -7,7 +7,7 @@ use Rattle.og_grammar.specs.declared.fault.FaultKind.{FaultKind}
 use Rattle.og_grammar.specs.declared.fault.FaultKind.TheVariants as stops
 use Rattle.og_grammar.specs.declared.fault.Refusal.{Refusal}
 use Rattle.og_grammar.specs.declared.fault.Refusal.TheVariants as refusals
-use Rattle.og_grammar.specs.Language.{Begins}
+use Rattle.og_grammar.specs.Fronts.{Begins}
 use Rattle.og_grammar.specs.Gives.{Fails}
 use Rattle.og_grammar.specs.Reading.{whole_at}
 use Rattle.og_grammar.proofs.Whole.{IsStop, whole_found, whole_fault, one_value}
@@ -16,9 +16,9 @@ use Rattle.og_parse.specs.declared.fault.ParseFault.TheVariants as faults
 use Rattle.og_parse.specs.declared.fault.ParseError.TheVariants as errors
 use Rattle.og_parse.specs.Trees.{Outline}
 use Rattle.og_parse.specs.TreeOf.{tree_of}
-use Rattle.og_parse.specs.Grammar.{IsOutline, IsAnyOutline}
+use Rattle.og_parse.specs.Grammar.{IsOutline}
 use Rattle.og_parse.specs.Reads.{outline_at}
-use Rattle.og_parse.specs.Faults.{place_of, ComesTo, IsFault}
+use Rattle.og_parse.specs.Faults.{IsAnyOutline, place_of, ComesTo, IsFault}
 use Rattle.og_parse.specs.Parsed.{IsParsed}
 use Rattle.og_parse.specs.Limits.{statement_count}
 use Rattle.og_parse.specs.Answers.{error_of, IsExcess, expected_at, too_deep_at, excess_error}

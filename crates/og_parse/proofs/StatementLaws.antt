@@ -3,14 +3,16 @@ use Rattle.std.proofs.Common.{◌≡◌, ℕ, zero, suc, ◌≤◌, ◌<◌, Boo
 use Rattle.og_text.specs.Kinds.{number_of}
 use Rattle.og_text.specs.declared.token.TokenKind.TheVariants as kinds
 use Rattle.og_text.specs.declared.token.Token.{Token}
-use Rattle.og_grammar.specs.Language.{Language, Begins, Either, Separated, IfSymbol}
+use Rattle.og_grammar.specs.Language.{Language, Either, Separated, IfSymbol}
+use Rattle.og_grammar.specs.Fronts.{Begins}
 use Rattle.og_grammar.specs.Reading.{Reader, ◌>>=◌, nothing, is_a, or, symbol_at, if_symbol_at}
 use Rattle.og_grammar.proofs.Laws.{Laws, Starts, symbol_some}
 use Rattle.og_grammar.proofs.More.{starts_nothing, starts_or, starts_neither, symbol_starts, then_starts, then_avoids, either_avoids, map_some, then_some}
 use Rattle.og_grammar.proofs.Bundle.{Reads, Way, open_way, shut_way, no_way, way_reads, way_starts, shut_closed, weaken, starts_also, or_left, or_right, or_fails, or_apart, is_a_fails, either_starts, allowed_starts, with_place_starts, avoids_by, symbol_avoids, symbol_reads, then_reads, next_reads, map_reads, either_reads, allowed_reads, many_reads, separated_reads, if_symbol_reads, with_place_reads, symbol_goes, either_goes}
 use Rattle.og_grammar.proofs.Loops.{Shortens, shortens_by}
 use Rattle.og_parse.specs.Trees.{Skip, Assign, Stmt, Simple, While, Await, choice, sequence, Seq}
-use Rattle.og_parse.specs.Grammar.{IsSkip, IsAssignment, IsBasic, IsElement, IsElements, IsBody, IsSimple, IsAwait, IsRestOfBlock, IsBlock, IsIf, IsWhile, IsStmtWith, IsStepWith, IsSeqWith, compounds, IsSeq}
+use Rattle.og_parse.specs.Grammar.{IsAssignment, IsBasic, IsElement, IsBody, IsAwait, IsBlock, IsIf, IsWhile, IsStmtWith, IsStepWith, IsSeqWith, compounds, IsSeq}
+use Rattle.og_parse.proofs.Productions.{IsSkip, IsSimple, IsRestOfBlock, IsElements}
 use Rattle.og_parse.specs.Reads.{a_name, a_compound, a_stmt, skip_at, assignment_at, basic_at, element_at, separated_elements_at, elements_at, body_at, assertion_at, test_at, await_at, rest_of_block_by, block_by, tested_by, if_by, while_by, stmt_by, step_by, seq_by, compound_by, compound_at, seq_at}
 use Rattle.og_parse.proofs.Same.{nested, same_reads}
 use Rattle.og_parse.proofs.TermLaws.{name_reads, name_starts, sum_reads, after_sum}
@@ -20,11 +22,11 @@ use Rattle.og_parse.proofs.AssertionLaws.{after_assertion, assertion_level, note
 
 skip_reads : {More : Type 0} → Reads More skip_at skip_at IsSkip IsSkip after_sum
 unfolding skip_at
-skip_reads = map_reads (λ word. Skip) (symbol_reads kinds.Skip after_sum)
+skip_reads = map_reads (λ word. Skip) (symbol_reads kinds.Skip refl after_sum)
 
 assignment_reads : {More : Type 0} → Reads More assignment_at assignment_at IsAssignment IsAssignment after_sum
 unfolding assignment_at
-assignment_reads = next_reads (name_reads nothing) (λ name. next_reads (symbol_reads kinds.Assign nothing) (λ at. map_reads (Assign name) sum_reads))
+assignment_reads = next_reads (name_reads nothing) (λ name. next_reads (symbol_reads kinds.Assign refl nothing) (λ at. map_reads (Assign name) sum_reads))
 
 basic_reads : {More : Type 0} → Reads More basic_at basic_at IsBasic IsBasic after_sum
 unfolding basic_at
@@ -45,13 +47,13 @@ element_reads = with_place_reads basic_starts basic_reads
 
 separated_elements_reads : {More : Type 0} → Reads More separated_elements_at separated_elements_at (Separated kinds.Semicolon IsElement) (Separated kinds.Semicolon IsElement) (or (is_a kinds.Semicolon) after_sum)
 unfolding separated_elements_at
-separated_elements_reads = separated_reads kinds.Semicolon element_reads refl
+separated_elements_reads = separated_reads kinds.Semicolon refl element_reads refl
 
 elements_reads : {More : Type 0} → Reads More elements_at elements_at IsElements IsElements after_sum
 unfolding elements_at
 elements_reads =
-    next_reads (symbol_reads kinds.Begin nothing)
-    (λ at. then_reads separated_elements_reads (λ all. map_reads (λ at. all) (symbol_reads kinds.End after_sum)) (λ all. symbol_avoids kinds.End (or (is_a kinds.Semicolon) after_sum) refl))
+    next_reads (symbol_reads kinds.Begin refl nothing)
+    (λ at. then_reads separated_elements_reads (λ all. map_reads (λ at. all) (symbol_reads kinds.End refl after_sum)) (λ all. symbol_avoids kinds.End (or (is_a kinds.Semicolon) after_sum) refl))
 
 body_reads : {More : Type 0} → Reads More body_at body_at IsBody IsBody after_sum
 unfolding body_at
@@ -121,8 +123,8 @@ module _ {More : Type 0} (n m : ℕ) (le : n ≤ m) (more : More → n < m) wher
   unfolding await_steps
   await_step_reads =
       weaken (λ rest ends. (starts_or (is_a kinds.Else) after_sum rest ends).1)
-      (next_reads (symbol_reads kinds.Await nothing)
-      (λ at. then_reads (assertion_level n m le more) (λ guard. next_reads (symbol_reads kinds.Then nothing) (λ at. map_reads (Await guard) body_reads)) (λ guard. symbol_avoids kinds.Then after_assertion refl)))
+      (next_reads (symbol_reads kinds.Await refl nothing)
+      (λ at. then_reads (assertion_level n m le more) (λ guard. next_reads (symbol_reads kinds.Then refl nothing) (λ at. map_reads (Await guard) body_reads)) (λ guard. symbol_avoids kinds.Then after_assertion refl)))
 
   await_reads : Reads More (await_at n) (await_at m) (IsAwait n) (IsAwait m) after_stmt
   await_reads = same_reads (await_same n) (await_same m) await_step_reads
@@ -130,21 +132,21 @@ module _ {More : Type 0} (n m : ℕ) (le : n ≤ m) (more : More → n < m) wher
   module _ {seq wide_seq : Reader Seq} {is all : Language Seq} (inner : Reads More seq wide_seq is all after_seq) where
     pub rest_of_block_reads : Reads More (rest_of_block_by seq) (rest_of_block_by wide_seq) (IsRestOfBlock is) (IsRestOfBlock all) nothing
     unfolding rest_of_block_by
-    rest_of_block_reads = then_reads inner (λ s. map_reads (λ at. s) (symbol_reads kinds.End nothing)) (λ s. symbol_avoids kinds.End after_seq refl)
+    rest_of_block_reads = then_reads inner (λ s. map_reads (λ at. s) (symbol_reads kinds.End refl nothing)) (λ s. symbol_avoids kinds.End after_seq refl)
 
     block_reads : Reads More (block_by seq) (block_by wide_seq) (IsBlock is) (IsBlock all) nothing
     unfolding block_by
-    block_reads = next_reads (symbol_reads kinds.Begin nothing) (λ at. rest_of_block_reads)
+    block_reads = next_reads (symbol_reads kinds.Begin refl nothing) (λ at. rest_of_block_reads)
 
     else_reads : Reads More (if_symbol_at kinds.Else (block_by seq)) (if_symbol_at kinds.Else (block_by wide_seq)) (IfSymbol kinds.Else (IsBlock is)) (IfSymbol kinds.Else (IsBlock all)) after_stmt
-    else_reads = weaken (λ rest ends. starts_neither (is_a kinds.Else) nothing rest (starts_or (is_a kinds.Else) after_sum rest ends).0 (starts_nothing rest)) (if_symbol_reads kinds.Else block_reads)
+    else_reads = weaken (λ rest ends. starts_neither (is_a kinds.Else) nothing rest (starts_or (is_a kinds.Else) after_sum rest ends).0 (starts_nothing rest)) (if_symbol_reads kinds.Else refl block_reads)
 
     if_step_reads : Reads More (if_steps n seq) (if_steps m wide_seq) (IsIf n is) (IsIf m all) after_stmt
     unfolding if_steps
     if_step_reads =
-        next_reads (symbol_reads kinds.If nothing)
+        next_reads (symbol_reads kinds.If refl nothing)
         (λ at. then_reads (assertion_level n m le more)
-        (λ test. next_reads (symbol_reads kinds.Then nothing) (λ at. next_reads block_reads (λ branch. map_reads (choice test branch) else_reads)))
+        (λ test. next_reads (symbol_reads kinds.Then refl nothing) (λ at. next_reads block_reads (λ branch. map_reads (choice test branch) else_reads)))
         (λ test. symbol_avoids kinds.Then after_assertion refl))
 
     if_reads : Reads More (if_by n seq) (if_by m wide_seq) (IsIf n is) (IsIf m all) after_stmt
@@ -153,9 +155,9 @@ module _ {More : Type 0} (n m : ℕ) (le : n ≤ m) (more : More → n < m) wher
     while_step_reads : Reads More (while_steps n seq) (while_steps m wide_seq) (IsWhile n is) (IsWhile m all) after_stmt
     unfolding while_steps
     while_step_reads =
-        next_reads (symbol_reads kinds.While nothing)
+        next_reads (symbol_reads kinds.While refl nothing)
         (λ at. then_reads (assertion_level n m le more)
-        (λ test. next_reads (symbol_reads kinds.Do nothing) (λ at. map_reads (While test) (finished after_stmt block_reads)))
+        (λ test. next_reads (symbol_reads kinds.Do refl nothing) (λ at. map_reads (While test) (finished after_stmt block_reads)))
         (λ test. symbol_avoids kinds.Do after_assertion refl))
 
     while_reads : Reads More (while_by n seq) (while_by m wide_seq) (IsWhile n is) (IsWhile m all) after_stmt
@@ -168,12 +170,12 @@ module _ {More : Type 0} (n m : ℕ) (le : n ≤ m) (more : More → n < m) wher
     if_goes : (token : Token) → is_a kinds.If (number_of token.kind) ≡ true → Begins (IsIf n is) (token ∷ [])
     if_goes =
         let test_some = (assertion_level n m le more).some in
-        symbol_goes kinds.If (λ at. then_some test_some (λ test. then_some (symbol_some kinds.Then) (λ at. then_some block_reads.some (λ branch. map_some (choice test branch) else_reads.some))))
+        symbol_goes kinds.If refl (λ at. then_some test_some (λ test. then_some (symbol_some kinds.Then) (λ at. then_some block_reads.some (λ branch. map_some (choice test branch) else_reads.some))))
 
     while_goes : (token : Token) → is_a kinds.While (number_of token.kind) ≡ true → Begins (IsWhile n is) (token ∷ [])
     while_goes =
         let test_some = (assertion_level n m le more).some in
-        symbol_goes kinds.While (λ at. then_some test_some (λ test. then_some (symbol_some kinds.Do) (λ at. map_some (While test) block_reads.some)))
+        symbol_goes kinds.While refl (λ at. then_some test_some (λ test. then_some (symbol_some kinds.Do) (λ at. map_some (While test) block_reads.some)))
 
     compound_goes : (token : Token) → a_compound (number_of token.kind) ≡ true → Begins (Either (IsIf n is) (IsWhile n is)) (token ∷ [])
     compound_goes = either_goes (is_a kinds.If) (is_a kinds.While) if_goes while_goes

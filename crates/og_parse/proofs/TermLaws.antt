@@ -4,7 +4,8 @@ use Rattle.og_text.specs.Kinds.{number_of}
 use Rattle.og_text.specs.declared.token.TokenKind.{TokenKind}
 use Rattle.og_text.specs.declared.token.TokenKind.TheVariants as kinds
 use Rattle.og_text.specs.declared.place.Span.{Span}
-use Rattle.og_grammar.specs.Language.{Begins, One}
+use Rattle.og_grammar.specs.Language.{One}
+use Rattle.og_grammar.specs.Fronts.{Begins}
 use Rattle.og_grammar.specs.Reading.{nothing, is_a, or, token_at}
 use Rattle.og_grammar.proofs.Laws.{Starts, Apart, many_avoids}
 use Rattle.og_grammar.proofs.More.{symbol_starts, then_starts, then_avoids, gives_avoids, one_some, one_avoids}
@@ -91,11 +92,11 @@ name_reads longer = one_reads name_of longer name_some
 
 leading_reads : {More : Type 0} → Reads More leading_at leading_at IsLeading IsLeading after_leading
 unfolding leading_at
-leading_reads = either_reads (is_a kinds.Minus) (map_reads (λ at. Minus) (symbol_reads kinds.Minus after_leading)) (then_starts (symbol_starts kinds.Minus)) (gives_reads Plus after_leading) (gives_avoids Plus (is_a kinds.Minus) nothing)
+leading_reads = either_reads (is_a kinds.Minus) (map_reads (λ at. Minus) (symbol_reads kinds.Minus refl after_leading)) (then_starts (symbol_starts kinds.Minus)) (gives_reads Plus after_leading) (gives_avoids Plus (is_a kinds.Minus) nothing)
 
 product_reads : {More : Type 0} → Reads More product_at product_at IsProduct IsProduct after_factor
 unfolding product_at
-product_reads = next_reads (one_reads value_of nothing value_some) (λ n. map_reads (product n) (if_symbol_reads kinds.Star (name_reads nothing)))
+product_reads = next_reads (one_reads value_of nothing value_some) (λ n. map_reads (product n) (if_symbol_reads kinds.Star refl (name_reads nothing)))
 
 factor_reads : {More : Type 0} → Reads More factor_at factor_at IsFactor IsFactor after_factor
 unfolding factor_at

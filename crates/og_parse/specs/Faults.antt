@@ -2,11 +2,12 @@
 use Rattle.std.specs.Prelude.{◌≡◌, ℕ, ◌+◌, ◌<◌, ◌≤◌, List, [], ◌∷◌, ◌++◌, codes}
 use Rattle.og_text.specs.declared.place.Span.{Span}
 use Rattle.og_text.specs.declared.token.Token.{Token}
-use Rattle.og_grammar.specs.Language.{Begins}
+use Rattle.og_grammar.specs.Language.{Language}
+use Rattle.og_grammar.specs.Fronts.{Begins}
 use Rattle.og_parse.specs.declared.fault.ParseFault.{ParseFault}
 use Rattle.og_parse.specs.declared.fault.ParseFault.TheVariants as faults
 use Rattle.og_parse.specs.Trees.{Outline}
-use Rattle.og_parse.specs.Grammar.{IsOutline, IsAnyOutline}
+use Rattle.og_parse.specs.Grammar.{IsOutline}
 use Rattle.og_parse.specs.Limits.{statement_count}
 
 -- ---- the place of a fault: the next token, or the end of the last one
@@ -30,6 +31,10 @@ pub record ComesTo (levels statements : ℕ) (tokens before rest : List Token) :
   pub parts : tokens ≡ before ++ rest
   pub begins : Begins (IsOutline levels) before
   pub few : statement_count before ≤ statements
+
+-- an outline with any number of levels
+abbrev pub IsAnyOutline : Language Outline
+IsAnyOutline outline tokens = (n : ℕ) × IsOutline n outline tokens
 
 -- no outline goes on with the next token, or ends here where there is none
 abbrev pub GoesNowhere : List Token → List Token → Type 0

@@ -2,10 +2,14 @@
 use Rattle.std.specs.Prelude.{List, [], ◌∷◌, Option, Some, None}
 use Rattle.og_text.specs.declared.place.Span.{Span}
 use Rattle.og_grammar.specs.Language.{Placed}
-use Rattle.og_parse.specs.declared.raw.RawName.{RawName}
-use Rattle.og_parse.specs.declared.raw.RawAux.{RawAux}
-use Rattle.og_parse.specs.declared.raw.RawTerm.{RawTerm}
-use Rattle.og_parse.specs.declared.raw.Relation.{Relation}
+pub use Rattle.og_parse.specs.declared.raw.RawName.{RawName}
+pub use Rattle.og_parse.specs.declared.raw.RawAux.{RawAux}
+pub use Rattle.og_parse.specs.declared.raw.RawInt.{RawInt}
+pub use Rattle.og_parse.specs.declared.raw.RawTerm.{RawTerm}
+pub use Rattle.og_parse.specs.declared.raw.RawFactor.{RawFactor}
+pub use Rattle.og_parse.specs.declared.raw.Sign.{Sign}
+pub use Rattle.og_parse.specs.declared.raw.Sign.TheVariants.{Plus, Minus}
+pub use Rattle.og_parse.specs.declared.raw.Relation.{Relation}
 
 -- ---- sums and assertions
 

@@ -4,10 +4,7 @@ use Rattle.og_text.specs.declared.place.Span.{Span}
 use Rattle.og_text.specs.declared.token.TokenKind.{TokenKind}
 use Rattle.og_text.specs.declared.token.TokenKind.TheVariants as kinds
 use Rattle.og_text.specs.declared.token.Token.{Token}
-use Rattle.og_parse.specs.declared.raw.RawName.{RawName}
-use Rattle.og_parse.specs.declared.raw.Sign.{Sign}
-use Rattle.og_parse.specs.declared.raw.Sign.TheVariants as signs
-use Rattle.og_parse.specs.declared.raw.Relation.{Relation}
+use Rattle.og_parse.specs.Trees.{RawName, Sign, Plus, Minus, Relation}
 use Rattle.og_parse.specs.declared.raw.Relation.TheVariants as relations
 
 -- a name, with its place
@@ -27,8 +24,8 @@ value_of token = number_kind token.kind
 
 -- the sign between two terms
 abbrev pub sign_kind : TokenKind → Option Sign
-sign_kind kinds.Plus = Some signs.Plus
-sign_kind kinds.Minus = Some signs.Minus
+sign_kind kinds.Plus = Some Plus
+sign_kind kinds.Minus = Some Minus
 sign_kind _ = None
 
 abbrev pub sign_of : Token → Option Sign

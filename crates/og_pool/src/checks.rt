@@ -167,8 +167,8 @@ impl<'a, 'c, G: Gate> Numbered for Checks<'a, 'c, G> {
 /// number of workers: a function of the condition and of its certificate.
 ///
 /// The workers draw the conditions one after another, each in a thread of its own; the calling
-/// thread is one of them. `before(n)` is told before condition n is looked at, `after(n)` when its
-/// status is known.
+/// thread is one of them. `begin` is told how many conditions there are, `before(n)` before condition
+/// n is looked at, `after(n)` when its status is known.
 ///
 /// # Errors
 ///
@@ -193,6 +193,8 @@ pub fn check_all<G: Gate, R: Threads + Wait + Sync>(
         certs,
         gate,
     };
-    let statuses = answers(rt, alloc, &checks, conditions.len() as u32, workers)?;
+    let count = conditions.len() as u32;
+    gate.begin(count);
+    let statuses = answers(rt, alloc, &checks, count, workers)?;
     Ok(statuses)
 }

@@ -2,6 +2,9 @@
 
 /// Is told before and after each condition. What it does has no part in the answers.
 pub trait Gate: Sync {
+    /// So many conditions are to be looked at.
+    fn begin(&self, _count: u32) {}
+
     /// A worker is about to look at the condition of this number, counted from 1.
     fn before(&self, task: u32);
 

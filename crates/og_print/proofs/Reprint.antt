@@ -126,7 +126,7 @@ plain_span s = nowhere
 
 pub prints_symbol : {tokens : List Token} {at : Span} (kind : TokenKind) → IsGood kind → Prints (Symbol kind) plain_span tokens (kind ∷ []) at
 prints_symbol kind is = record {
-  again = λ others k. let s = single kind others k in record { value = s.token.span; is_read = (s.token, s.parts, ap number_of s.is_kind, refl); same = refl };
+  again = λ others k. let s = single kind others k in record { value = s.token.span; is_read = (s.token, s.parts, s.is_kind, refl); same = refl };
   good = λ h. (is, tt);
 }
 
@@ -139,7 +139,7 @@ prints_word {A} {B} {first'} {second'} {v} {tokens} d {second} {plain} {b} kind 
       let s = split (kind ∷ []) q others k in
       let t = single kind s.front s.first in
       let y = (rest t.token.span).again s.back s.second in
-      record { value = y.value; is_read = record { head = t.token.span; front = s.front; back = s.back; parts = s.parts; is_first = (t.token, t.parts, ap number_of t.is_kind, refl); is_second = y.is_read }; same = y.same };
+      record { value = y.value; is_read = record { head = t.token.span; front = s.front; back = s.back; parts = s.parts; is_first = (t.token, t.parts, t.is_kind, refl); is_second = y.is_read }; same = y.same };
   good = λ h.
       let g = subst (λ (z : List Token). AreGood (kinds_of z)) d.parts h in
       (is, (rest nowhere).good (good_back d.front d.back g));
@@ -150,7 +150,7 @@ pub prints_end : {B : Type 0} {plain : B → B} {tokens : List Token} {b : B} (f
 prints_end {B} {plain} {tokens} {b} f kind is same = record {
   again = λ others k.
       let t = single kind others k in
-      record { value = f t.token.span; is_read = record { head = t.token.span; front = others; back = []; parts = sym (append-nil others); is_first = (t.token, t.parts, ap number_of t.is_kind, refl); is_second = (refl, refl) }; same = same t.token.span };
+      record { value = f t.token.span; is_read = record { head = t.token.span; front = others; back = []; parts = sym (append-nil others); is_first = (t.token, t.parts, t.is_kind, refl); is_second = (refl, refl) }; same = same t.token.span };
   good = λ h. (is, tt);
 }
 

@@ -11,7 +11,8 @@ use Rattle.og_parse.specs.declared.raw.RawInt.{RawInt}
 use Rattle.og_parse.specs.declared.raw.RawAux.{RawAux}
 use Rattle.og_parse.specs.Trees.{Note, Seq, Outline}
 use Rattle.og_parse.specs.Words.{name_of}
-use Rattle.og_parse.specs.Grammar.{IsAux, IsListed, IsMain, IsRestOfBlock, IsSeq, IsOutline}
+use Rattle.og_parse.specs.Grammar.{IsAux, IsListed, IsMain, IsSeq, IsOutline}
+use Rattle.og_parse.proofs.Productions.{IsRestOfBlock}
 use Rattle.og_print.specs.Plain.{nowhere, plain_name, plain_int, plain_aux, plain_note, plain_seq, plain}
 use Rattle.og_print.specs.Print.{name_in, later_names_in, vars_in, aux_in, later_auxes_in, auxes_in, main_in, later_processes_in, processes_in, cobegin_in, outline_in, alone}
 use Rattle.og_print.proofs.Reprint.{IsGood, Prints, prints_same, prints_as, prints_then, prints_last, prints_word, prints_end, prints_if_symbol, prints_separated, joined, behind, behind_some}

@@ -6,7 +6,8 @@ use Rattle.og_text.specs.declared.token.Token.{Token}
 use Rattle.og_grammar.specs.Language.{Language, Placed, Allowed}
 use Rattle.og_parse.specs.declared.raw.RawName.{RawName}
 use Rattle.og_parse.specs.Trees.{Sum, Assertion, Note, Basic, Skip, Assign, Stmt, Simple, While, Await, choice, Step, sequence, Seq, item}
-use Rattle.og_parse.specs.Grammar.{IsBraced, IsNote, IsBasic, IsElement, IsElements, IsBareElement, IsBody, IsSimple, IsAwait, IsRestOfBlock, IsBlock, IsIf, IsWhile, IsStmtWith, IsStepWith, IsSeqWith, compounds, IsSeq}
+use Rattle.og_parse.specs.Grammar.{IsNote, IsBasic, IsElement, IsBody, IsAwait, IsBlock, IsIf, IsWhile, IsStmtWith, IsStepWith, IsSeqWith, compounds, IsSeq}
+use Rattle.og_parse.proofs.Productions.{IsBraced, IsBareElement, IsSimple, IsRestOfBlock, IsElements}
 use Rattle.og_print.specs.Plain.{placed, plain_name, plain_sum, plain_assertion, plain_note, plain_basic, plain_stmt, plain_seq}
 use Rattle.og_print.specs.Print.{terms_in, basic_in, later_elements_in, body_in, note_in, stmt_in, seq_in, alone}
 use Rattle.og_print.proofs.Reprint.{Prints, prints_same, prints_as, prints_within, front_good, back_good, prints_then, prints_last, prints_word, prints_end, prints_inl, prints_inr, prints_placed, prints_many, prints_if_symbol, prints_separated, joined, behind_some}

@@ -1,63 +1,76 @@
 -- What status 0 of the program says.
-use Rattle.std.proofs.Common.{◌≡◌, inl, inr, ℕ, List, false, None, Some, Option, map, sym, arith, ◌∙◌}
+use Rattle.std.proofs.Common.{◌≡◌, inl, inr, ℕ, List, false, None, Some, Option, map, sym, ap, arith, ◌∙◌}
 use Rattle.og_engine.proofs.Promised.{wrote_unblocked}
-use Rattle.og_engine.specs.declared.fault.EngineFault.{EngineFault}
 use Rattle.og_running.proofs.Answering.{run_proven}
+use Rattle.og_running.specs.declared.reply.Reply.{Reply}
 use Rattle.og_running.specs.declared.reply.Reply.TheVariants as replies
+use Rattle.og_running.specs.Running.{IsRanProved}
+use Rattle.og_judge.specs.Proven.{IsProvenSource}
+use Rattle.og_remark.specs.Starting.{IsProvedRunRemark}
 use Rattle.og_words.specs.declared.job.Job.{Job}
 use Rattle.og_words.specs.declared.job.Job.TheVariants as jobs
-use Rattle.og_program.specs.Served.{Does, EndsJob, IsProvenIn, IsNeverStuckIn}
-use Rattle.og_program.specs.Told.{Fails}
+use Rattle.og_program.specs.Served.{Does, EndsJob, IsWordRemark, Follows, IsProvenIn, IsNeverStuckIn}
+use Rattle.og_program.specs.Told.{Says}
 use Rattle.og_program.specs.declared.ended.Ended.{Ended}
+use Rattle.og_program.specs.declared.outcome.Outcome.TheVariants as outcomes
+use Rattle.og_program.specs.declared.outcome.Told.{Told}
 
 -- ---- of an answer
+
+-- a run by certificates that ended with status 0
+proven_run : (limit : ℕ) (source certs : List ℕ) (words : List (List ℕ)) (R : Option (List ℕ) → Type 0) (V : List ℕ → List ℕ → Type 0) (reply : Reply) (t : Told) → IsRanProved limit source certs words reply
+    → Follows R V reply (outcomes.Told t) → t.answer.status ≡ 0 → IsProvenSource source
+proven_run limit source certs words R V (replies.Told ran) t is follows zero =
+    run_proven limit source certs words (replies.Told ran) is (inl (ap (λ a. a.status) (sym follows.0) ∙ zero))
+proven_run limit source certs words R V (replies.BadValue word) t is follows zero = absurd follows
+proven_run limit source certs words R V (replies.NotMade line) t is follows zero = let never : outcomes.Told t ≡ outcomes.NotMade line = follows in absurd (cc)
 
 sound_answer : (files : List ℕ → Option (List ℕ)) (input : Option (List ℕ)) (job : Job) (before after err err_after : Option (List ℕ)) (ended : Ended) → Does files input job before after err err_after ended
     → ended.status ≡ 0 → IsProvenIn files input job
 sound_answer files input jobs.Joined before after err err_after ended h zero =
-    let w = h.2 in let c = w.3 in (h.0, h.1, (w.0, w.1, w.2, c.3.0 (sym c.4.1 ∙ zero)))
-sound_answer files input (jobs.Prove source budget workers json) before after err err_after ended h zero =
-    let w = h.1 in (w.0, w.1, w.2.1.0 (sym h.2.1 ∙ zero))
-sound_answer files input (jobs.Check source certs workers json) before after err err_after ended h zero =
-    let c = h.2.2 in (h.0, h.1, c.3.0 (sym c.4.1 ∙ zero))
-sound_answer files input (jobs.Conditions source) before after err err_after ended h zero = tt
-sound_answer files input (jobs.Find source budget workers) before after err err_after ended h zero = tt
-sound_answer files input (jobs.Erase source) before after err err_after ended h zero = tt
+    let w = h.1.2 in (h.1.0, h.1.1, (w.0, w.1, w.2, w.3.1.0 (sym h.2.1 ∙ zero)))
+sound_answer files input (jobs.Prove source budget workers json) before after err err_after ended h zero = (h.1.0, h.1.1, h.1.2.1.0 (sym h.2.1 ∙ zero))
+sound_answer files input (jobs.Check source certs workers json) before after err err_after ended h zero = (h.1.0, h.1.1, h.1.2.2.1.0 (sym h.2.1 ∙ zero))
+sound_answer files input (jobs.Conditions source triples smt2) before after err err_after ended h zero = tt
+sound_answer files input (jobs.Find source budget workers version) before after err err_after ended h zero = tt
+sound_answer files input (jobs.Erase source readable) before after err err_after ended h zero = tt
 sound_answer files input (jobs.Run source limit erased None schedule values) before after err err_after ended h zero = tt
 sound_answer files input (jobs.Run source limit erased (Some certs) schedule values) before after err err_after ended h zero =
-    let w = h.1 in let v = w.2 in
-    (w.0, w.1, run_proven limit w.0 v.0 (map (λ x. x.now) values.items) (replies.Told h.0) v.2 (inl (sym h.2.1 ∙ zero)))
+    let r = h.1.2.2 in (h.1.0, h.1.1, proven_run limit h.1.0 h.1.2.0 (map (λ x. x.now) values.items) (IsProvedRunRemark source.now certs.now h.1.0 h.1.2.0 (map (λ x. x.now) values.items)) (IsWordRemark h.1.0 None) r.0 h.0 r.1 r.2 (sym h.2.1 ∙ zero))
 sound_answer files input (jobs.Explore source limit erased json ranges) before after err err_after ended h zero = tt
+sound_answer files input (jobs.Expand template as_map values) before after err err_after ended h zero = tt
 sound_answer files input (jobs.Migrate certs) before after err err_after ended h zero = tt
 
 unblocked_answer : (files : List ℕ → Option (List ℕ)) (input : Option (List ℕ)) (job : Job) (before after err err_after : Option (List ℕ)) (ended : Ended) → Does files input job before after err err_after ended
     → ended.status ≡ 0 → IsNeverStuckIn files input before after job
 unblocked_answer files input jobs.Joined before after err err_after ended h zero = λ wrote.
-    let w = h.2 in let c = w.3 in (h.0, h.1, (w.0, w.1, w.2, wrote_unblocked false w.0 c.0 before after c.1 c.3 c.4.0 (sym c.4.1 ∙ zero) wrote))
+    let w = h.1.2 in (h.1.0, h.1.1, (w.0, w.1, w.2, wrote_unblocked false w.0 h.0.answer.text.items before after h.0.answer.status w.3.1 h.2.0 (sym h.2.1 ∙ zero) wrote))
 unblocked_answer files input (jobs.Prove source budget workers json) before after err err_after ended h zero = λ wrote.
-    let w = h.1 in (w.0, w.1, wrote_unblocked json w.0 h.0.text.items before after h.0.status w.2.1 h.2.0 (sym h.2.1 ∙ zero) wrote)
+    (h.1.0, h.1.1, wrote_unblocked json h.1.0 h.0.answer.text.items before after h.0.answer.status h.1.2.1 h.2.0 (sym h.2.1 ∙ zero) wrote)
 unblocked_answer files input (jobs.Check source certs workers json) before after err err_after ended h zero = λ wrote.
-    let c = h.2.2 in (h.0, h.1, wrote_unblocked json h.0 c.0 before after c.1 c.3 c.4.0 (sym c.4.1 ∙ zero) wrote)
-unblocked_answer files input (jobs.Conditions source) before after err err_after ended h zero = tt
-unblocked_answer files input (jobs.Find source budget workers) before after err err_after ended h zero = tt
-unblocked_answer files input (jobs.Erase source) before after err err_after ended h zero = tt
+    (h.1.0, h.1.1, wrote_unblocked json h.1.0 h.0.answer.text.items before after h.0.answer.status h.1.2.2.1 h.2.0 (sym h.2.1 ∙ zero) wrote)
+unblocked_answer files input (jobs.Conditions source triples smt2) before after err err_after ended h zero = tt
+unblocked_answer files input (jobs.Find source budget workers version) before after err err_after ended h zero = tt
+unblocked_answer files input (jobs.Erase source readable) before after err err_after ended h zero = tt
 unblocked_answer files input (jobs.Run source limit erased certs schedule values) before after err err_after ended h zero = tt
 unblocked_answer files input (jobs.Explore source limit erased json ranges) before after err err_after ended h zero = tt
+unblocked_answer files input (jobs.Expand template as_map values) before after err err_after ended h zero = tt
 unblocked_answer files input (jobs.Migrate certs) before after err err_after ended h zero = tt
 
 -- ---- of the program
 
-fails_not_0 : (fault : EngineFault) (out out_after err err_after : Option (List ℕ)) (ended : Ended) → Fails fault out out_after err err_after ended → ended.status ≡ 0 → ⊥
-fails_not_0 fault out out_after err err_after ended fails zero = let four = fails.1.0 in omega (arith, four, zero)
+four_not_0 : (text : List ℕ) (err err_after : Option (List ℕ)) (ended : Ended) → Says text 4 err err_after ended → ended.status ≡ 0 → ⊥
+four_not_0 text err err_after ended (inl told) zero = let four = told.0 in omega (arith, four, zero)
+four_not_0 text err err_after ended (inr told) zero = let four = told.0 in omega (arith, four, zero)
 
 pub sound_job : (files : List ℕ → Option (List ℕ)) (input : Option (List ℕ)) (job : Job) (out out_after err err_after : Option (List ℕ)) (ended : Ended)
     → EndsJob files input job out out_after err err_after ended → ended.status ≡ 0 → IsProvenIn files input job
 sound_job files input job out out_after err err_after ended (inl done) zero = sound_answer files input job out out_after err err_after ended done zero
 sound_job files input job out out_after err err_after ended (inr (inl refused)) zero = let three = refused.3.0 in absurd (omega (arith, three, zero))
-sound_job files input job out out_after err err_after ended (inr (inr failed)) zero = absurd (fails_not_0 failed.0 out out_after err err_after ended failed.3 zero)
+sound_job files input job out out_after err err_after ended (inr (inr failed)) zero = absurd (four_not_0 _ err err_after ended failed.2.1 zero)
 
 pub unblocked_job : (files : List ℕ → Option (List ℕ)) (input : Option (List ℕ)) (job : Job) (out out_after err err_after : Option (List ℕ)) (ended : Ended)
     → EndsJob files input job out out_after err err_after ended → ended.status ≡ 0 → IsNeverStuckIn files input out out_after job
 unblocked_job files input job out out_after err err_after ended (inl done) zero = unblocked_answer files input job out out_after err err_after ended done zero
 unblocked_job files input job out out_after err err_after ended (inr (inl refused)) zero = let three = refused.3.0 in absurd (omega (arith, three, zero))
-unblocked_job files input job out out_after err err_after ended (inr (inr failed)) zero = absurd (fails_not_0 failed.0 out out_after err err_after ended failed.3 zero)
+unblocked_job files input job out out_after err err_after ended (inr (inr failed)) zero = absurd (four_not_0 _ err err_after ended failed.2.1 zero)

@@ -1,28 +1,39 @@
 -- What the program does for a job, by its files and its input.
-use Rattle.std.specs.Prelude.{◌≡◌, ◌⊎◌, ◌<◌, ℕ, Bool, true, false, not, ◌||◌, List, Option, None, Some, Result, Ok, Err, IfOk, IfErr, map, string_bytes, ⊤}
+use Rattle.std.specs.Prelude.{◌≡◌, ◌≢◌, ◌⊎◌, ◌<◌, ℕ, Bool, true, false, not, ◌||◌, List, Option, None, Some, IfSome, Result, Ok, Err, IfOk, IfErr, map, codes, string_bytes, ⊤}
 use Rattle.std.specs.Borrow.{Bor}
 use Rattle.std.specs.Io.KnownBytes.{Appends, Keeps}
-use Rattle.og_answer.specs.declared.answer.Answer.{Answer}
-use Rattle.og_engine.specs.Answers.{IsOutput}
+use Rattle.og_engine.specs.Answers.{IsChecked}
 use Rattle.og_engine.specs.NeverStuck.{HasNeverStuckSource}
 use Rattle.og_engine.specs.Proven.{HasProvenSource}
 use Rattle.og_engine.specs.Commands.{IsListed, IsErased}
 use Rattle.og_engine.specs.Inputs.{source_of, certs_of, joined_of, Reads}
 use Rattle.og_engine.specs.Making.{IsFound, IsMigrated}
+use Rattle.og_engine.specs.declared.commands.Form.{Form}
+use Rattle.og_engine.specs.declared.commands.Form.TheVariants as forms
 use Rattle.og_engine.specs.Proving.{IsProving}
 use Rattle.og_engine.specs.Unfinished.{AppendsFront}
 use Rattle.og_engine.specs.Warrants.{Warrants}
 use Rattle.og_engine.specs.Wrote.{Wrote}
-use Rattle.og_engine.specs.declared.fault.EngineFault.{EngineFault}
-use Rattle.og_engine.specs.declared.fault.EngineFault.TheVariants as faults
+use Rattle.og_expander.specs.Expanded as expanding
+use Rattle.og_expander.specs.declared.fault.ExpandFault.{ExpandFault}
+use Rattle.og_expander.specs.declared.expanding.Reply.{Reply as Expanding}
+use Rattle.og_expander.specs.declared.expanding.Reply.TheVariants as expandings
 use Rattle.og_explorer.specs.Explored.{IsReply}
 use Rattle.og_explorer.specs.declared.exploring.Reply.{Reply as Exploring}
 use Rattle.og_explorer.specs.declared.exploring.Reply.TheVariants as explorings
 use Rattle.og_input.specs.Joined.{IsSplit}
 use Rattle.og_judge.specs.Proven.{IsProvenSource}
 use Rattle.og_judge.specs.NeverStuck.{IsNeverStuckSource}
+use Rattle.og_remark.specs.Expansion.{IsExpansionRemark}
+use Rattle.og_remark.specs.Missing.{IsMissingRemark}
+use Rattle.og_remark.specs.Remarks.{IsSourceRemark, IsConditionsRemark, IsCheckRemark, IsCertificatesRemark}
+use Rattle.og_remark.specs.Starting.{IsRunRemark, IsProvedRunRemark}
+use Rattle.og_remark.specs.Values.{schedule_text, reason_line, IsValueRemark}
+use Rattle.og_remark.specs.declared.values.Gives.TheVariants as gives
 use Rattle.og_report.specs.Yes.{SaysUnblocked}
-use Rattle.og_running.specs.Running.{note_of, IsRan, IsRanProved, IsScheduled, HasStart, HasProvedStart}
+use Rattle.og_running.specs.Running.{IsRan, IsRanProved}
+use Rattle.og_running.specs.Scheduled.{IsScheduled}
+use Rattle.og_running.specs.Starts.{HasStart, HasProvedStart}
 use Rattle.og_running.specs.declared.reply.Ran.{Ran}
 use Rattle.og_running.specs.declared.reply.Reply.{Reply}
 use Rattle.og_running.specs.declared.reply.Reply.TheVariants as replies
@@ -31,136 +42,254 @@ use Rattle.og_words.specs.declared.job.Job.{Job}
 use Rattle.og_words.specs.declared.job.Job.TheVariants as jobs
 use Rattle.og_words.specs.declared.job.Usage.{Usage}
 use Rattle.og_words.specs.declared.job.Usage.TheVariants as usages
-use Rattle.og_program.specs.Named.{source_in, is_file, lacks_source}
-use Rattle.og_program.specs.Told.{bad_value_text, Complains, IsSilent, Notes, Fails, FailsToWrite}
+use Rattle.og_program.specs.Failing.{IsFault}
+use Rattle.og_program.specs.Named.{bytes_in, certs_in, is_file, lacks_bytes, lacks_certs}
+use Rattle.og_program.specs.Told.{Noted, bad_value_text, Complains, IsSilent, Prints, Fails, FailsToWrite}
 use Rattle.og_program.specs.declared.ended.Ended.{Ended}
+use Rattle.og_program.specs.declared.fault.Fault.{Fault}
+use Rattle.og_program.specs.declared.fault.Fault.TheVariants as faults
+use Rattle.og_program.specs.declared.fault.Why.{Why}
+use Rattle.og_program.specs.declared.outcome.Outcome.{Outcome}
+use Rattle.og_program.specs.declared.outcome.Outcome.TheVariants as outcomes
+use Rattle.og_program.specs.declared.outcome.Told.{Told}
 
--- the reply to a run: by threads, where certificates prove it safe if they are given, or else by a schedule if one is
-abbrev pub RanAs : (List ℕ → Option (List ℕ)) → Option (List ℕ) → ℕ → Bool → Option (Bor (List ℕ)) → Option (Bor (List ℕ)) → List (List ℕ) → Reply → Type 0
-RanAs files source limit erased None None words reply = Reads source_of source (λ s. IsRan erased limit s words reply)
-RanAs files source limit erased None (Some schedule) words reply = Reads source_of source (λ s. IsScheduled erased s words schedule.now reply)
-RanAs files source limit erased (Some certs) schedule words reply =
-    Reads source_of source (λ s. Reads certs_of (files certs.now) (λ c. IsRanProved limit s c words reply))
+-- what goes to standard error beside an answer is such as R says where it has status 2, and else nothing
+abbrev pub Remarks : (Option (List ℕ) → Type 0) → Told → Type 0
+Remarks R t = (t.answer.status ≡ 2 → Noted R t) × (t.answer.status ≢ 2 → t.note ≡ Ok None)
 
--- the reply to an exploration, without auxiliaries or with them, as JSON or as a text
-abbrev pub ExploredAs : Option (List ℕ) → Bool → Bool → List (List ℕ) → Exploring → Type 0
-ExploredAs source erased json words reply = Reads source_of source (λ s. IsReply json s erased words reply)
+-- the same, and where it has status 1 such as M says
+abbrev pub RemarksBoth : (Option (List ℕ) → Type 0) → (Option (List ℕ) → Type 0) → Told → Type 0
+RemarksBoth R M t = (t.answer.status ≡ 2 → Noted R t) × (t.answer.status ≡ 1 → Noted M t) × (t.answer.status ≢ 2 → t.answer.status ≢ 1 → t.note ≡ Ok None)
 
--- Q of the text and the status of a check, and what they say of the source
-abbrev pub Checks : Bool → List ℕ → List ℕ → (List ℕ → ℕ → Option (List ℕ) → Type 0) → Type 0
-Checks json source certs Q = (text : List ℕ) × (status : ℕ) × IsOutput json source certs text status × Warrants json source text status × Q text status None
+-- an answer such as P says
+abbrev pub OnTold : (Told → Type 0) → Outcome → Type 0
+OnTold P (outcomes.Told t) = P t
+OnTold P (outcomes.BadValue bad) = ⊥
+OnTold P (outcomes.NotMade line) = ⊥
 
--- Q of the text and the status of an answer such as P says
-abbrev pub Gives : (Answer → Type 0) → (List ℕ → ℕ → Option (List ℕ) → Type 0) → Type 0
-Gives P Q = (answer : Answer) × P answer × Q answer.text.items answer.status None
+-- ---- what is told of the bytes of a source or certificates of these names
 
--- of what is told of a run, with its line for standard error
-abbrev pub Tells : (Ran → Type 0) → (List ℕ → ℕ → Option (List ℕ) → Type 0) → Type 0
-Tells P Q = (ran : Ran) × P ran × Q ran.answer.text.items ran.answer.status (note_of ran)
+-- a check, and what it says of the source
+abbrev pub Checks : Bool → List ℕ → List ℕ → List ℕ → List ℕ → Told → Type 0
+Checks json name certs_name source certs t =
+    IsChecked json source certs t.answer × Warrants json source t.answer.text.items t.answer.status
+    × RemarksBoth (IsCheckRemark name certs_name source certs) (IsMissingRemark name source certs) t
 
--- what searches tell of the conditions of a source, and what that says of it
-abbrev pub IsProvedAnswer : Bool → List ℕ → Answer → Type 0
-IsProvedAnswer json source answer = IsProving json source answer × Warrants json source answer.text.items answer.status
+-- what searches tell of the conditions, and what that says of the source
+abbrev pub Proves : Bool → List ℕ → List ℕ → Told → Type 0
+Proves json name source t =
+    IsProving json source t.answer × Warrants json source t.answer.text.items t.answer.status × Remarks (IsConditionsRemark name source) t
 
--- Q of the text and the status that a job answers, and of its line for standard error, by the bytes that were read of its files
-abbrev pub Answers : (List ℕ → Option (List ℕ)) → Option (List ℕ) → Job → (List ℕ → ℕ → Option (List ℕ) → Type 0) → Type 0
-Answers files input jobs.Joined Q = Reads joined_of input (λ i. (source certs : List ℕ) × IsSplit i source certs × Checks false source certs Q)
-Answers files input (jobs.Prove source budget workers json) Q = Gives (λ answer. Reads source_of (source_in files input source.now) (λ s. IsProvedAnswer json s answer)) Q
-Answers files input (jobs.Check source certs workers json) Q =
-    Reads source_of (source_in files input source.now) (λ s. Reads certs_of (files certs.now) (λ c. Checks json s c Q))
-Answers files input (jobs.Conditions source) Q = Gives (λ answer. Reads source_of (source_in files input source.now) (λ s. IsListed s answer)) Q
-Answers files input (jobs.Find source budget workers) Q = Gives (λ answer. Reads source_of (source_in files input source.now) (λ s. IsFound s answer)) Q
-Answers files input (jobs.Erase source) Q = Gives (λ answer. Reads source_of (source_in files input source.now) (λ s. IsErased s answer)) Q
-Answers files input (jobs.Run source limit erased certs schedule values) Q =
-    Tells (λ ran. RanAs files (source_in files input source.now) limit erased certs schedule (map (λ w. w.now) values.items) (replies.Told ran)) Q
-Answers files input (jobs.Explore source limit erased json ranges) Q =
-    Gives (λ answer. ExploredAs (source_in files input source.now) erased json (map (λ w. w.now) ranges.items) (explorings.Answer answer)) Q
-Answers files input (jobs.Migrate certs) Q = Gives (λ answer. Reads certs_of (files certs.now) (λ c. IsMigrated c answer)) Q
+-- how conditions are listed, by the flags that are given
+abbrev pub form_of : Bool → Bool → Form
+form_of triples true = forms.Script
+form_of true false = forms.Triples
+form_of false false = forms.Facts
 
--- a job's answer goes to the end of what standard output holds, its status is the program's, and its line goes to standard error
+abbrev pub Lists : Form → List ℕ → List ℕ → Told → Type 0
+Lists form name source t = IsListed form source t.answer × Remarks (IsConditionsRemark name source) t
+
+abbrev pub Finds : ℕ → List ℕ → List ℕ → Told → Type 0
+Finds version name source t = IsFound version source t.answer × RemarksBoth (IsConditionsRemark name source) (IsMissingRemark name source t.answer.text.items) t
+
+abbrev pub Erases : Bool → List ℕ → List ℕ → Told → Type 0
+Erases readable name source t = IsErased readable source t.answer × Remarks (IsSourceRemark name source) t
+
+abbrev pub Migrates : List ℕ → List ℕ → Told → Type 0
+Migrates name certs t = IsMigrated certs t.answer × Remarks (IsCertificatesRemark name certs) t
+
+-- the answer of a run, and beside it what R says where it has status 2, and else the run's line
+abbrev pub TellsRan : (Option (List ℕ) → Type 0) → Ran → Told → Type 0
+TellsRan R ran t = (t.answer ≡ ran.answer) × (t.answer.status ≡ 2 → Noted R t) × (t.answer.status ≢ 2 → t.note ≡ Ok ran.note)
+
+-- the word that gives no value, and where a line says why, it is such as V says
+abbrev pub OnBad : (List ℕ → List ℕ → Type 0) → Bor (List ℕ) → Outcome → Type 0
+OnBad V word (outcomes.Told t) = ⊥
+OnBad V word (outcomes.BadValue bad) = (bad.word ≡ word) × IfSome bad.why (λ line. V word.now line.items)
+OnBad V word (outcomes.NotMade line) = ⊥
+
+-- why a word of a run gives no value, or is no schedule
+abbrev pub IsWordRemark : List ℕ → Option (Bor (List ℕ)) → List ℕ → List ℕ → Type 0
+IsWordRemark source None word line = IsValueRemark gives.Values source word line
+IsWordRemark source (Some schedule) word line =
+    IsValueRemark gives.Values source word line ⊎ ((word ≡ schedule.now) × (line ≡ reason_line schedule_text))
+
+-- what is told of the reply to a run
+abbrev pub Follows : (Option (List ℕ) → Type 0) → (List ℕ → List ℕ → Type 0) → Reply → Outcome → Type 0
+Follows R V (replies.Told ran) outcome = OnTold (TellsRan R ran) outcome
+Follows R V (replies.BadValue word) outcome = OnBad V word outcome
+Follows R V (replies.NotMade line) outcome = outcome ≡ outcomes.NotMade line
+
+-- of a reply such as P says
+abbrev pub Runs : (Reply → Type 0) → (Option (List ℕ) → Type 0) → (List ℕ → List ℕ → Type 0) → Outcome → Type 0
+Runs P R V outcome = (reply : Reply) × P reply × Follows R V reply outcome
+
+-- what is told of the reply to an exploration
+abbrev pub FollowsExploring : (Option (List ℕ) → Type 0) → (List ℕ → List ℕ → Type 0) → Exploring → Outcome → Type 0
+FollowsExploring R V (explorings.Answer answer) outcome = OnTold (λ t. (t.answer ≡ answer) × Remarks R t) outcome
+FollowsExploring R V (explorings.BadValue word) outcome = OnBad V word outcome
+
+-- why nothing is printed of a template
+abbrev pub IsExpansionNote : List ℕ → List ℕ → ExpandFault → Option (List ℕ) → Type 0
+IsExpansionNote name template fault None = ⊥
+IsExpansionNote name template fault (Some text) = IsExpansionRemark name template fault text
+
+-- what is told of the reply to an expansion; of a bad word no line says why
+abbrev pub FollowsExpanding : List ℕ → List ℕ → Expanding → Outcome → Type 0
+FollowsExpanding name template (expandings.Answer answer) outcome =
+    OnTold (λ t. (t.answer ≡ answer) × Remarks (IsSourceRemark name template) t) outcome
+FollowsExpanding name template (expandings.Refused answer fault) outcome =
+    OnTold (λ t. (t.answer ≡ answer) × Noted (IsExpansionNote name template fault) t) outcome
+FollowsExpanding name template (expandings.BadValue word) outcome = OnBad (λ _ _. ⊥) word outcome
+
+-- ---- what a job comes to
+
+-- by the bytes that were read of a source
+abbrev pub OfSource : (List ℕ → Option (List ℕ)) → Option (List ℕ) → List ℕ → (List ℕ → Outcome → Type 0) → Outcome → Type 0
+OfSource files input name P outcome = Reads source_of (bytes_in files input name) (λ s. P s outcome)
+
+-- by those of certificates besides
+abbrev pub OfBoth : (List ℕ → Option (List ℕ)) → Option (List ℕ) → List ℕ → List ℕ → (List ℕ → List ℕ → Outcome → Type 0) → Outcome → Type 0
+OfBoth files input name certs_name P outcome = Reads source_of (bytes_in files input name) (λ s. Reads certs_of (certs_in files input name certs_name) (λ c. P s c outcome))
+
+-- a check of one input
+abbrev pub OfJoined : Option (List ℕ) → Outcome → Type 0
+OfJoined input outcome = Reads joined_of input (λ i. (source certs : List ℕ) × IsSplit i source certs × OnTold (Checks false (codes "-") (codes "-") source certs) outcome)
+
+-- a run: by threads, where certificates prove it safe if they are given, or else by a schedule if one is
+abbrev pub OfRun : (List ℕ → Option (List ℕ)) → Option (List ℕ) → List ℕ → ℕ → Bool → Option (Bor (List ℕ)) → Option (Bor (List ℕ)) → List (List ℕ) → Outcome → Type 0
+OfRun files input name limit erased None None words outcome =
+    OfSource files input name (λ s. Runs (IsRan erased limit s words) (IsRunRemark name s words) (IsWordRemark s None)) outcome
+OfRun files input name limit erased None (Some schedule) words outcome =
+    OfSource files input name (λ s. Runs (IsScheduled erased s words schedule.now) (IsRunRemark name s words) (IsWordRemark s (Some schedule))) outcome
+OfRun files input name limit erased (Some certs) schedule words outcome =
+    OfBoth files input name certs.now (λ s c. Runs (IsRanProved limit s c words) (IsProvedRunRemark name certs.now s c words) (IsWordRemark s None)) outcome
+
+-- an exploration, without auxiliaries or with them, as JSON or as a text
+abbrev pub Explores : Bool → Bool → List (List ℕ) → List ℕ → List ℕ → Outcome → Type 0
+Explores erased json words name source outcome =
+    (reply : Exploring) × IsReply json source erased words reply × FollowsExploring (IsSourceRemark name source) (IsValueRemark gives.Ranges source) reply outcome
+
+-- an expansion, as a map or as a text
+abbrev pub Expands : Bool → List (List ℕ) → List ℕ → List ℕ → Outcome → Type 0
+Expands as_map words name template outcome =
+    (reply : Expanding) × expanding.IsReply as_map template words reply × FollowsExpanding name template reply outcome
+
+-- what a job comes to, by the bytes that were read of its files
+abbrev pub Comes : (List ℕ → Option (List ℕ)) → Option (List ℕ) → Job → Outcome → Type 0
+Comes files input jobs.Joined = OfJoined input
+Comes files input (jobs.Prove source budget workers json) = OfSource files input source.now (λ s. OnTold (Proves json source.now s))
+Comes files input (jobs.Check source certs workers json) = OfBoth files input source.now certs.now (λ s c. OnTold (Checks json source.now certs.now s c))
+Comes files input (jobs.Conditions source triples smt2) = OfSource files input source.now (λ s. OnTold (Lists (form_of triples smt2) source.now s))
+Comes files input (jobs.Find source budget workers version) = OfSource files input source.now (λ s. OnTold (Finds version source.now s))
+Comes files input (jobs.Erase source readable) = OfSource files input source.now (λ s. OnTold (Erases readable source.now s))
+Comes files input (jobs.Run source limit erased certs schedule values) = OfRun files input source.now limit erased certs schedule (map (λ w. w.now) values.items)
+Comes files input (jobs.Explore source limit erased json ranges) = OfSource files input source.now (Explores erased json (map (λ w. w.now) ranges.items) source.now)
+Comes files input (jobs.Expand template as_map values) = OfSource files input template.now (Expands as_map (map (λ w. w.now) values.items) template.now)
+Comes files input (jobs.Migrate certs) = λ outcome. Reads certs_of (bytes_in files input certs.now) (λ c. OnTold (Migrates certs.now c) outcome)
+
+-- the answer that a job comes to is printed
 abbrev pub Does : (List ℕ → Option (List ℕ)) → Option (List ℕ) → Job → Option (List ℕ) → Option (List ℕ) → Option (List ℕ) → Option (List ℕ) → Ended → Type 0
-Does files input job out out_after err err_after ended =
-    Answers files input job (λ text status note. Appends out out_after text × (ended.status ≡ status) × Notes note err err_after ended)
+Does files input job out out_after err err_after ended = (t : Told) × Comes files input job (outcomes.Told t) × Prints t out out_after err err_after ended
 
--- a front of a job's answer goes there
+-- a front of it goes to the end of what standard output holds
 abbrev pub Leaves : (List ℕ → Option (List ℕ)) → Option (List ℕ) → Job → Option (List ℕ) → Option (List ℕ) → Type 0
-Leaves files input job before after = Answers files input job (λ text status note. AppendsFront before after text)
+Leaves files input job before after = (t : Told) × Comes files input job (outcomes.Told t) × AppendsFront before after t.answer.text.items
+
+-- the text that says why it cannot be done: a word gives no value or no steps, or a step cannot be made
+abbrev pub RefusesAs : Outcome → List ℕ → Type 0
+RefusesAs (outcomes.Told t) text = ⊥
+RefusesAs (outcomes.BadValue bad) text = text ≡ bad_value_text bad
+RefusesAs (outcomes.NotMade line) text = text ≡ line.items
+
+abbrev pub Refuses : (List ℕ → Option (List ℕ)) → Option (List ℕ) → Job → List ℕ → Type 0
+Refuses files input job text = (outcome : Outcome) × Comes files input job outcome × RefusesAs outcome text
+
+-- the job opens a file of this name
+abbrev pub Opens : Job → List ℕ → Type 0
+Opens jobs.Joined = λ name. name ≡ codes "-"
+Opens (jobs.Prove source budget workers json) = λ name. name ≡ source.now
+Opens (jobs.Check source certs workers json) = λ name. (name ≡ source.now) ⊎ (name ≡ certs.now)
+Opens (jobs.Conditions source triples smt2) = λ name. name ≡ source.now
+Opens (jobs.Find source budget workers version) = λ name. name ≡ source.now
+Opens (jobs.Erase source readable) = λ name. name ≡ source.now
+Opens (jobs.Run source limit erased certs schedule values) = λ name. (name ≡ source.now) ⊎ IfSome certs (λ c. name ≡ c.now)
+Opens (jobs.Explore source limit erased json ranges) = λ name. name ≡ source.now
+Opens (jobs.Expand template as_map values) = λ name. name ≡ template.now
+Opens (jobs.Migrate certs) = λ name. name ≡ certs.now
 
 -- there is known to be no file of the certificates of a run, where they are given
-abbrev pub lacks_certs : (List ℕ → Bool) → Option (Bor (List ℕ)) → Bool
-lacks_certs missing None = false
-lacks_certs missing (Some certs) = missing certs.now
+abbrev pub lacks_given : (List ℕ → Bool) → List ℕ → Option (Bor (List ℕ)) → Bool
+lacks_given missing source None = false
+lacks_given missing source (Some certs) = lacks_certs missing source certs.now
 
 -- there is known to be no file of a name that the job opens
 abbrev pub lacks : (List ℕ → Bool) → Job → Bool
 lacks missing jobs.Joined = false
-lacks missing (jobs.Prove source budget workers json) = lacks_source missing source.now
-lacks missing (jobs.Check source certs workers json) = lacks_source missing source.now || missing certs.now
-lacks missing (jobs.Conditions source) = lacks_source missing source.now
-lacks missing (jobs.Find source budget workers) = lacks_source missing source.now
-lacks missing (jobs.Erase source) = lacks_source missing source.now
-lacks missing (jobs.Run source limit erased certs schedule values) = lacks_source missing source.now || lacks_certs missing certs
-lacks missing (jobs.Explore source limit erased json ranges) = lacks_source missing source.now
-lacks missing (jobs.Migrate certs) = missing certs.now
+lacks missing (jobs.Prove source budget workers json) = lacks_bytes missing source.now
+lacks missing (jobs.Check source certs workers json) = lacks_bytes missing source.now || lacks_certs missing source.now certs.now
+lacks missing (jobs.Conditions source triples smt2) = lacks_bytes missing source.now
+lacks missing (jobs.Find source budget workers version) = lacks_bytes missing source.now
+lacks missing (jobs.Erase source readable) = lacks_bytes missing source.now
+lacks missing (jobs.Run source limit erased certs schedule values) = lacks_bytes missing source.now || lacks_given missing source.now certs
+lacks missing (jobs.Explore source limit erased json ranges) = lacks_bytes missing source.now
+lacks missing (jobs.Expand template as_map values) = lacks_bytes missing template.now
+lacks missing (jobs.Migrate certs) = lacks_bytes missing certs.now
+
+-- a run is told to read its certificates from standard input
+abbrev pub reads_given : Option (Bor (List ℕ)) → Bool
+reads_given None = false
+reads_given (Some certs) = not (is_file certs.now)
 
 -- whether the job is told to read standard input, which else is left as it is
 abbrev pub reads_input : Job → Bool
 reads_input jobs.Joined = true
 reads_input (jobs.Prove source budget workers json) = not (is_file source.now)
-reads_input (jobs.Check source certs workers json) = not (is_file source.now)
-reads_input (jobs.Conditions source) = not (is_file source.now)
-reads_input (jobs.Find source budget workers) = not (is_file source.now)
-reads_input (jobs.Erase source) = not (is_file source.now)
-reads_input (jobs.Run source limit erased certs schedule values) = not (is_file source.now)
+reads_input (jobs.Check source certs workers json) = not (is_file source.now) || not (is_file certs.now)
+reads_input (jobs.Conditions source triples smt2) = not (is_file source.now)
+reads_input (jobs.Find source budget workers version) = not (is_file source.now)
+reads_input (jobs.Erase source readable) = not (is_file source.now)
+reads_input (jobs.Run source limit erased certs schedule values) = not (is_file source.now) || reads_given certs
 reads_input (jobs.Explore source limit erased json ranges) = not (is_file source.now)
-reads_input (jobs.Migrate certs) = false
+reads_input (jobs.Expand template as_map values) = not (is_file template.now)
+reads_input (jobs.Migrate certs) = not (is_file certs.now)
 
--- the text that says why a run cannot be made: a word gives no value or no steps, or a step cannot be made
-abbrev pub RefusesAs : Reply → List ℕ → Type 0
-RefusesAs (replies.Told ran) text = ⊥
-RefusesAs (replies.BadValue word) text = text ≡ bad_value_text word.now
-RefusesAs (replies.NotMade line) text = text ≡ line.items
-
--- that a job cannot be done
-abbrev pub Refuses : (List ℕ → Option (List ℕ)) → Option (List ℕ) → Job → List ℕ → Type 0
-Refuses files input jobs.Joined text = ⊥
-Refuses files input (jobs.Prove source budget workers json) text = ⊥
-Refuses files input (jobs.Check source certs workers json) text = ⊥
-Refuses files input (jobs.Conditions source) text = ⊥
-Refuses files input (jobs.Find source budget workers) text = ⊥
-Refuses files input (jobs.Erase source) text = ⊥
-Refuses files input (jobs.Run source limit erased certs schedule values) text =
-    (reply : Reply) × RanAs files (source_in files input source.now) limit erased certs schedule (map (λ w. w.now) values.items) reply × RefusesAs reply text
-Refuses files input (jobs.Explore source limit erased json ranges) text =
-    (word : Bor (List ℕ)) × ExploredAs (source_in files input source.now) erased json (map (λ w. w.now) ranges.items) (explorings.BadValue word) × (text ≡ bad_value_text word.now)
-Refuses files input (jobs.Migrate certs) text = ⊥
+-- a run by certificates starts threads where its values are a start of what they prove safe
+abbrev pub StartsProved : (List ℕ → Option (List ℕ)) → Option (List ℕ) → List ℕ → List ℕ → List (List ℕ) → Type 0
+StartsProved files input source certs words = Reads source_of (bytes_in files input source) (λ s. Reads certs_of (certs_in files input source certs) (λ c. HasProvedStart s c words))
 
 -- a run starts threads where it has no schedule and its values are a start, of what its certificates prove safe where they are given
-abbrev pub StartsAs : (List ℕ → Option (List ℕ)) → Option (List ℕ) → Bool → Option (Bor (List ℕ)) → Option (Bor (List ℕ)) → List (List ℕ) → Type 0
-StartsAs files source erased None None words = Reads source_of source (λ s. HasStart erased s words)
-StartsAs files source erased None (Some schedule) words = ⊥
-StartsAs files source erased (Some certs) schedule words = Reads source_of source (λ s. Reads certs_of (files certs.now) (λ c. HasProvedStart s c words))
+abbrev pub StartsAs : (List ℕ → Option (List ℕ)) → Option (List ℕ) → List ℕ → Bool → Option (Bor (List ℕ)) → Option (Bor (List ℕ)) → List (List ℕ) → Type 0
+StartsAs files input source erased None None words = Reads source_of (bytes_in files input source) (λ s. HasStart erased s words)
+StartsAs files input source erased None (Some schedule) words = ⊥
+StartsAs files input source erased (Some certs) schedule words = StartsProved files input source certs.now words
 
 -- a job starts threads: a search or a check by two workers or more, and such a run
 abbrev pub StartsThreads : (List ℕ → Option (List ℕ)) → Option (List ℕ) → Job → Type 0
 StartsThreads files input jobs.Joined = ⊥
 StartsThreads files input (jobs.Prove source budget workers json) = 1 < workers
 StartsThreads files input (jobs.Check source certs workers json) = 1 < workers
-StartsThreads files input (jobs.Conditions source) = ⊥
-StartsThreads files input (jobs.Find source budget workers) = 1 < workers
-StartsThreads files input (jobs.Erase source) = ⊥
-StartsThreads files input (jobs.Run source limit erased certs schedule values) = StartsAs files (source_in files input source.now) erased certs schedule (map (λ w. w.now) values.items)
+StartsThreads files input (jobs.Conditions source triples smt2) = ⊥
+StartsThreads files input (jobs.Find source budget workers version) = 1 < workers
+StartsThreads files input (jobs.Erase source readable) = ⊥
+StartsThreads files input (jobs.Run source limit erased certs schedule values) = StartsAs files input source.now erased certs schedule (map (λ w. w.now) values.items)
 StartsThreads files input (jobs.Explore source limit erased json ranges) = ⊥
+StartsThreads files input (jobs.Expand template as_map values) = ⊥
 StartsThreads files input (jobs.Migrate certs) = ⊥
 
--- how the program ends where it is given a job: with the job's answer, with a word that is refused, or with a fault;
--- a failed write leaves a front of the answer, and that a thread could not be started is told only of a job that starts threads
+-- how the program ends where it is given a job: with what it comes to, or with a fault; a failed write leaves a front of the
+-- answer, and that a thread could not be started is told only of a job that starts threads
 abbrev pub EndsJob : (List ℕ → Option (List ℕ)) → Option (List ℕ) → Job → Option (List ℕ) → Option (List ℕ) → Option (List ℕ) → Option (List ℕ) → Ended → Type 0
 EndsJob files input job out out_after err err_after ended =
     Does files input job out out_after err err_after ended
     ⊎ ((text : List ℕ) × Refuses files input job text × Keeps out out_after × Complains text 3 err err_after ended)
-    ⊎ ((fault : EngineFault) × (fault ≡ faults.WriteFailed → Leaves files input job out out_after) × (fault ≡ faults.Spawn → StartsThreads files input job)
+    ⊎ ((fault : Fault) × IsFault (Opens job) (Leaves files input job out out_after) (StartsThreads files input job) fault
     × Fails fault out out_after err err_after ended)
+
+-- a file that the job opens was not read
+abbrev pub FailsToRead : Job → Option (List ℕ) → Option (List ℕ) → Option (List ℕ) → Option (List ℕ) → Ended → Type 0
+FailsToRead job out out_after err err_after ended =
+    (name : Bor (List ℕ)) × (why : Why) × Opens job name.now × Fails (faults.NotRead name why) out out_after err err_after ended
 
 -- how it ends where the words ask for help or are wrong, or memory ran out
 abbrev pub EndsUsage : Usage → Option (List ℕ) → Option (List ℕ) → Option (List ℕ) → Option (List ℕ) → Ended → Type 0
@@ -182,27 +311,29 @@ IsProvenRun source (Some certs) = Reads source_of source IsProvenSource
 -- the source that a job proves or checks, or runs where certificates prove it, is proven
 abbrev pub IsProvenIn : (List ℕ → Option (List ℕ)) → Option (List ℕ) → Job → Type 0
 IsProvenIn files input jobs.Joined = Reads joined_of input HasProvenSource
-IsProvenIn files input (jobs.Prove source budget workers json) = Reads source_of (source_in files input source.now) IsProvenSource
-IsProvenIn files input (jobs.Check source certs workers json) = Reads source_of (source_in files input source.now) IsProvenSource
-IsProvenIn files input (jobs.Conditions source) = ⊤
-IsProvenIn files input (jobs.Find source budget workers) = ⊤
-IsProvenIn files input (jobs.Erase source) = ⊤
-IsProvenIn files input (jobs.Run source limit erased certs schedule values) = IsProvenRun (source_in files input source.now) certs
+IsProvenIn files input (jobs.Prove source budget workers json) = Reads source_of (bytes_in files input source.now) IsProvenSource
+IsProvenIn files input (jobs.Check source certs workers json) = Reads source_of (bytes_in files input source.now) IsProvenSource
+IsProvenIn files input (jobs.Conditions source triples smt2) = ⊤
+IsProvenIn files input (jobs.Find source budget workers version) = ⊤
+IsProvenIn files input (jobs.Erase source readable) = ⊤
+IsProvenIn files input (jobs.Run source limit erased certs schedule values) = IsProvenRun (bytes_in files input source.now) certs
 IsProvenIn files input (jobs.Explore source limit erased json ranges) = ⊤
+IsProvenIn files input (jobs.Expand template as_map values) = ⊤
 IsProvenIn files input (jobs.Migrate certs) = ⊤
 
 -- it never gets stuck, where what was written says that it is unblocked
 abbrev pub IsNeverStuckIn : (List ℕ → Option (List ℕ)) → Option (List ℕ) → Option (List ℕ) → Option (List ℕ) → Job → Type 0
 IsNeverStuckIn files input before after jobs.Joined = Wrote (SaysUnblocked false) before after → Reads joined_of input HasNeverStuckSource
 IsNeverStuckIn files input before after (jobs.Prove source budget workers json) =
-    Wrote (SaysUnblocked json) before after → Reads source_of (source_in files input source.now) IsNeverStuckSource
+    Wrote (SaysUnblocked json) before after → Reads source_of (bytes_in files input source.now) IsNeverStuckSource
 IsNeverStuckIn files input before after (jobs.Check source certs workers json) =
-    Wrote (SaysUnblocked json) before after → Reads source_of (source_in files input source.now) IsNeverStuckSource
-IsNeverStuckIn files input before after (jobs.Conditions source) = ⊤
-IsNeverStuckIn files input before after (jobs.Find source budget workers) = ⊤
-IsNeverStuckIn files input before after (jobs.Erase source) = ⊤
+    Wrote (SaysUnblocked json) before after → Reads source_of (bytes_in files input source.now) IsNeverStuckSource
+IsNeverStuckIn files input before after (jobs.Conditions source triples smt2) = ⊤
+IsNeverStuckIn files input before after (jobs.Find source budget workers version) = ⊤
+IsNeverStuckIn files input before after (jobs.Erase source readable) = ⊤
 IsNeverStuckIn files input before after (jobs.Run source limit erased certs schedule values) = ⊤
 IsNeverStuckIn files input before after (jobs.Explore source limit erased json ranges) = ⊤
+IsNeverStuckIn files input before after (jobs.Expand template as_map values) = ⊤
 IsNeverStuckIn files input before after (jobs.Migrate certs) = ⊤
 
 -- how the program ends where it is given words: as what they ask for ends
@@ -211,7 +342,7 @@ pub record EndsWords (words : List (List ℕ)) (files : List ℕ → Option (Lis
   pub is : IsAsked words asked
   pub ends : Ends files input asked out out_after err err_after ended
   pub sound : IfOk asked (λ job. ended.status ≡ 0 → IsProvenIn files input job)
-  pub lacking : IfOk asked (λ job. lacks missing job ≡ true → Fails faults.ReadFailed out out_after err err_after ended)
+  pub lacking : IfOk asked (λ job. lacks missing job ≡ true → FailsToRead job out out_after err err_after ended)
   pub unblocked : IfOk asked (λ job. ended.status ≡ 0 → IsNeverStuckIn files input out out_after job)
   pub kept : IfOk asked (λ job. reads_input job ≡ false → input_after ≡ input)
   pub unread : IfErr asked (λ _. input_after ≡ input)

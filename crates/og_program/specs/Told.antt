@@ -1,26 +1,30 @@
--- What is written of an answer, a fault or wrong words, and how the program ends.
-use Rattle.std.specs.Prelude.{◌≡◌, ◌≢◌, ◌⊎◌, ℕ, Bool, true, false, List, ◌++◌, Option, None, Some, codes}
+-- What is written of what a job comes to, of a fault or of wrong words, and how the program ends.
+use Rattle.std.specs.Prelude.{◌≡◌, ◌⊎◌, ℕ, Bool, true, false, List, [], ◌++◌, Option, option_map, None, Some, Result, Ok, Err, IfOk, Vec, codes}
+use Rattle.std.specs.Global.{Global}
 use Rattle.std.specs.Io.KnownBytes.{Appends, Keeps}
-use Rattle.og_answer.specs.declared.answer.Answer.{Answer}
+use Rattle.std.specs.declared.alloc.AllocError.{AllocError}
 use Rattle.og_engine.specs.Unfinished.{AppendsFront}
-use Rattle.og_engine.specs.declared.fault.EngineFault.{EngineFault}
-use Rattle.og_engine.specs.declared.fault.EngineFault.TheVariants as faults
-use Rattle.og_explorer.specs.declared.exploring.Reply.{Reply as Exploring}
-use Rattle.og_explorer.specs.declared.exploring.Reply.TheVariants as explorings
-use Rattle.og_running.specs.Running.{note_of}
-use Rattle.og_running.specs.declared.reply.Ran.{Ran}
-use Rattle.og_running.specs.declared.reply.Reply.{Reply}
-use Rattle.og_running.specs.declared.reply.Reply.TheVariants as replies
+use Rattle.og_engine.specs.declared.fault.WriteFault.{WriteFault}
+use Rattle.og_program.specs.Failing.{fault_text, is_not_written}
 use Rattle.og_program.specs.declared.ended.Ended.{Ended}
+use Rattle.og_program.specs.declared.fault.Fault.{Fault}
+use Rattle.og_program.specs.declared.fault.Fault.TheVariants as faults
+use Rattle.og_program.specs.declared.outcome.BadValue.{BadValue}
+use Rattle.og_program.specs.declared.outcome.Outcome.{Outcome}
+use Rattle.og_program.specs.declared.outcome.Outcome.TheVariants as outcomes
+use Rattle.og_program.specs.declared.outcome.Told.{Told}
 
-abbrev pub fault_text : EngineFault → List ℕ
-fault_text faults.Memory = codes "og: out of memory\n"
-fault_text faults.Spawn = codes "og: no thread\n"
-fault_text faults.ReadFailed = codes "og: read failed\n"
-fault_text faults.WriteFailed = codes "og: write failed\n"
+-- the line, where there is one
+abbrev pub line_or_nothing : Option (Vec ℕ Global) → List ℕ
+line_or_nothing None = []
+line_or_nothing (Some line) = line.items
 
-abbrev pub bad_value_text : List ℕ → List ℕ
-bad_value_text word = codes "bad value: " ++ word ++ codes "\n"
+abbrev pub bad_value_text : BadValue → List ℕ
+bad_value_text bad = codes "bad value: " ++ bad.word.now ++ codes "\n" ++ line_or_nothing bad.why
+
+-- what goes to standard error beside an answer, if anything does, is such as R says; or memory for it was refused
+abbrev pub Noted : (Option (List ℕ) → Type 0) → Told → Type 0
+Noted R t = IfOk t.note (λ note. R (option_map (λ n. n.items) note))
 
 -- the text goes to the end of what is held, or a front of it where it could not be written whole
 abbrev pub IsWritten : Bool → List ℕ → Option (List ℕ) → Option (List ℕ) → Type 0
@@ -35,43 +39,35 @@ Complains text status before after ended = (ended.status ≡ status) × IsWritte
 abbrev pub IsSilent : Option (List ℕ) → Option (List ℕ) → Ended → Type 0
 IsSilent before after ended = Keeps before after × (ended.told ≡ true)
 
--- the line for standard error goes there, where there is one
-abbrev pub Notes : Option (List ℕ) → Option (List ℕ) → Option (List ℕ) → Ended → Type 0
-Notes None before after ended = IsSilent before after ended
-Notes (Some line) before after ended = IsWritten ended.told line before after
+-- the text for standard error goes there, where there is one; or that memory for it was refused
+abbrev pub Notes : Result (Option (Vec ℕ Global)) AllocError → Option (List ℕ) → Option (List ℕ) → Ended → Type 0
+Notes (Ok None) before after ended = IsSilent before after ended
+Notes (Ok (Some text)) before after ended = IsWritten ended.told text.items before after
+Notes (Err refused) before after ended = IsWritten ended.told (fault_text faults.Memory) before after
 
--- a file cannot be read or written, memory runs out or a thread cannot be started; only a failed write changes standard output
-abbrev pub Fails : EngineFault → Option (List ℕ) → Option (List ℕ) → Option (List ℕ) → Option (List ℕ) → Ended → Type 0
-Fails fault out out_after err err_after ended = (fault ≢ faults.WriteFailed → Keeps out out_after) × Complains (fault_text fault) 4 err err_after ended
+-- a text goes to standard error, or that memory ran out where it could not be made
+abbrev pub Says : List ℕ → ℕ → Option (List ℕ) → Option (List ℕ) → Ended → Type 0
+Says text status before after ended = Complains text status before after ended ⊎ Complains (fault_text faults.Memory) 4 before after ended
+
+-- the fault is told; only a failed write changes standard output
+abbrev pub Fails : Fault → Option (List ℕ) → Option (List ℕ) → Option (List ℕ) → Option (List ℕ) → Ended → Type 0
+Fails fault out out_after err err_after ended = (is_not_written fault ≡ false → Keeps out out_after) × Says (fault_text fault) 4 err err_after ended
 
 -- the text cannot be written whole: a front of it goes to the end of what standard output holds
 abbrev pub FailsToWrite : List ℕ → Option (List ℕ) → Option (List ℕ) → Option (List ℕ) → Option (List ℕ) → Ended → Type 0
-FailsToWrite text out out_after err err_after ended = AppendsFront out out_after text × Fails faults.WriteFailed out out_after err err_after ended
+FailsToWrite text out out_after err err_after ended =
+    AppendsFront out out_after text × ((why : WriteFault) × Fails (faults.NotWritten why) out out_after err err_after ended)
 
--- the answer goes to the end of what standard output holds and its status is the program's, or it cannot be written
-abbrev pub TellsAnswer : Answer → Option (List ℕ) → Option (List ℕ) → Option (List ℕ) → Option (List ℕ) → Ended → Type 0
-TellsAnswer answer out out_after err err_after ended =
-    (Appends out out_after answer.text.items × (ended.status ≡ answer.status) × IsSilent err err_after ended)
-    ⊎ FailsToWrite answer.text.items out out_after err err_after ended
+-- the answer goes to the end of what standard output holds, its status is the program's, and its note goes to standard error
+abbrev pub Prints : Told → Option (List ℕ) → Option (List ℕ) → Option (List ℕ) → Option (List ℕ) → Ended → Type 0
+Prints t out out_after err err_after ended = Appends out out_after t.answer.text.items × (ended.status ≡ t.answer.status) × Notes t.note err err_after ended
 
--- the word that gives no value is told, or memory runs out
-abbrev pub TellsBadValue : List ℕ → Option (List ℕ) → Option (List ℕ) → Ended → Type 0
-TellsBadValue word before after ended =
-    Complains (bad_value_text word) 3 before after ended ⊎ Complains (fault_text faults.Memory) 4 before after ended
+-- so it is told, or the answer cannot be written
+abbrev pub TellsAnswer : Told → Option (List ℕ) → Option (List ℕ) → Option (List ℕ) → Option (List ℕ) → Ended → Type 0
+TellsAnswer t out out_after err err_after ended = Prints t out out_after err err_after ended ⊎ FailsToWrite t.answer.text.items out out_after err err_after ended
 
--- the answer of a run in the same way, and its line goes to standard error
-abbrev pub TellsRan : Ran → Option (List ℕ) → Option (List ℕ) → Option (List ℕ) → Option (List ℕ) → Ended → Type 0
-TellsRan ran out out_after err err_after ended =
-    (Appends out out_after ran.answer.text.items × (ended.status ≡ ran.answer.status) × Notes (note_of ran) err err_after ended)
-    ⊎ FailsToWrite ran.answer.text.items out out_after err err_after ended
-
--- the answer, that word, or the line of a step that cannot be made
-abbrev pub TellsReply : Reply → Option (List ℕ) → Option (List ℕ) → Option (List ℕ) → Option (List ℕ) → Ended → Type 0
-TellsReply (replies.Told ran) out out_after err err_after ended = TellsRan ran out out_after err err_after ended
-TellsReply (replies.BadValue word) out out_after err err_after ended = Keeps out out_after × TellsBadValue word.now err err_after ended
-TellsReply (replies.NotMade line) out out_after err err_after ended = Keeps out out_after × Complains line.items 3 err err_after ended
-
--- the answer of an exploration, or that word
-abbrev pub TellsExplored : Exploring → Option (List ℕ) → Option (List ℕ) → Option (List ℕ) → Option (List ℕ) → Ended → Type 0
-TellsExplored (explorings.Answer answer) out out_after err err_after ended = TellsAnswer answer out out_after err err_after ended
-TellsExplored (explorings.BadValue word) out out_after err err_after ended = Keeps out out_after × TellsBadValue word.now err err_after ended
+-- an answer, a word that gives no value, or the line of a step that cannot be made
+abbrev pub TellsOutcome : Outcome → Option (List ℕ) → Option (List ℕ) → Option (List ℕ) → Option (List ℕ) → Ended → Type 0
+TellsOutcome (outcomes.Told t) out out_after err err_after ended = TellsAnswer t out out_after err err_after ended
+TellsOutcome (outcomes.BadValue bad) out out_after err err_after ended = Keeps out out_after × Says (bad_value_text bad) 3 err err_after ended
+TellsOutcome (outcomes.NotMade line) out out_after err err_after ended = Keeps out out_after × Complains line.items 3 err err_after ended

@@ -1,59 +1,82 @@
-//! The answers of the commands that print what they make of one file.
+//! What the commands come to that print what they make of one file.
 
-ghost use Rattle.std.specs.Prelude.{◌≡◌, ◌≢◌, true, Err, IfErr, IfOk};
-ghost use Rattle.og_engine.specs.Commands.{IsListed, IsErased};
-ghost use Rattle.og_engine.specs.Inputs.{source_of, certs_of, Reads};
-ghost use Rattle.og_engine.specs.Making.{IsMigrated};
-ghost use Rattle.og_program.specs.Named.{source_in, is_file, lacks_source};
+ghost use Rattle.std.specs.Prelude.{◌≡◌, true, IfErr, IfOk};
+ghost use Rattle.og_engine.specs.Inputs.{certs_of, Reads};
+ghost use Rattle.og_program.specs.Failing.{IsReading, IsUnread};
+ghost use Rattle.og_program.specs.Named.{bytes_in, is_file, lacks_bytes};
+ghost use Rattle.og_program.specs.Served.{form_of, OfSource, OnTold, Lists, Erases, Migrates};
 
+use crate::beside::{beside_certificates, beside_conditions, beside_source};
+use crate::fault::Fault;
 use crate::files::Files;
+use crate::outcome::Outcome;
 use crate::reading::{certificate_bytes, source_bytes};
-use og_answer::Answer;
-use og_engine::{EngineFault, erased, listed, migrated};
+use og_engine::{Form, erased, listed, migrated};
 use std::alloc::Global;
 use std::io::Read;
 
+/// How conditions are listed, by the flags that are given.
+pub(crate) fn form_of(triples: bool, smt2: bool) -> Form
+    ensures { result ≡ form_of triples smt2 }
+{
+    if smt2 {
+        Form::Script
+    } else if triples {
+        Form::Triples
+    } else {
+        Form::Facts
+    }
+}
+
 /// The conditions of a source.
-pub(crate) fn conditions<F: Files, I: Read>(
+pub(crate) fn conditions<'a, F: Files, I: Read>(
     alloc: Global,
     files: &F,
-    name: &str,
+    name: &'a str,
+    form: Form,
     input: &mut I,
-) -> Result<Answer, EngineFault>
-    ensures answer { IfOk result (λ answer. Reads source_of (source_in (F.contents files.now) (I.remaining input.old) name.now) (λ s. IsListed s answer)) }
-    ensures fault { IfErr result (λ e. e ≢ EngineFault.WriteFailed) }
-    ensures spawn { IfErr result (λ e. e ≢ EngineFault.Spawn) }
-    ensures missing { lacks_source (F.is_missing files.now) name.now ≡ true → result ≡ Err EngineFault.ReadFailed }
+) -> Result<Outcome<'a>, Fault<'a>>
+    ensures came { IfOk result (OfSource (F.contents files.now) (I.remaining input.old) name.now (λ s. OnTold (Lists form name.now s))) }
+    ensures fault { IfErr result (IsReading name.now) }
+    ensures missing { lacks_bytes (F.is_missing files.now) name.now ≡ true → IsUnread result }
     ensures kept { is_file name.now ≡ true → I.remaining input.new ≡ I.remaining input.old }
 {
     let source = source_bytes(alloc, files, name, input)?;
-    Ok(listed(alloc, &source)?)
+    let answer = listed(alloc, form, &source)?;
+    Ok(Outcome::Told(beside_conditions(alloc, name, &source, answer)))
 }
 
 /// The program of a source without its auxiliary variables.
-pub(crate) fn erase<F: Files, I: Read>(
+pub(crate) fn erase<'a, F: Files, I: Read>(
     alloc: Global,
     files: &F,
-    name: &str,
+    name: &'a str,
+    is_readable: bool,
     input: &mut I,
-) -> Result<Answer, EngineFault>
-    ensures answer { IfOk result (λ answer. Reads source_of (source_in (F.contents files.now) (I.remaining input.old) name.now) (λ s. IsErased s answer)) }
-    ensures fault { IfErr result (λ e. e ≢ EngineFault.WriteFailed) }
-    ensures spawn { IfErr result (λ e. e ≢ EngineFault.Spawn) }
-    ensures missing { lacks_source (F.is_missing files.now) name.now ≡ true → result ≡ Err EngineFault.ReadFailed }
+) -> Result<Outcome<'a>, Fault<'a>>
+    ensures came { IfOk result (OfSource (F.contents files.now) (I.remaining input.old) name.now (λ s. OnTold (Erases is_readable name.now s))) }
+    ensures fault { IfErr result (IsReading name.now) }
+    ensures missing { lacks_bytes (F.is_missing files.now) name.now ≡ true → IsUnread result }
     ensures kept { is_file name.now ≡ true → I.remaining input.new ≡ I.remaining input.old }
 {
     let source = source_bytes(alloc, files, name, input)?;
-    Ok(erased(alloc, &source)?)
+    let answer = erased(alloc, &source, is_readable)?;
+    Ok(Outcome::Told(beside_source(alloc, name, &source, answer)))
 }
 
 /// Certificates in version 2.
-pub(crate) fn migrate<F: Files>(alloc: Global, files: &F, name: &str) -> Result<Answer, EngineFault>
-    ensures answer { IfOk result (λ answer. Reads certs_of (F.contents files.now name.now) (λ c. IsMigrated c answer)) }
-    ensures fault { IfErr result (λ e. e ≢ EngineFault.WriteFailed) }
-    ensures spawn { IfErr result (λ e. e ≢ EngineFault.Spawn) }
-    ensures missing { F.is_missing files.now name.now ≡ true → result ≡ Err EngineFault.ReadFailed }
+pub(crate) fn migrate<'a, F: Files, I: Read>(
+    alloc: Global,
+    files: &F,
+    name: &'a str,
+    input: &mut I,
+) -> Result<Outcome<'a>, Fault<'a>>
+    ensures came { IfOk result (λ o. Reads certs_of (bytes_in (F.contents files.now) (I.remaining input.old) name.now) (λ c. OnTold (Migrates name.now c) o)) }
+    ensures fault { IfErr result (IsReading name.now) }
+    ensures missing { lacks_bytes (F.is_missing files.now) name.now ≡ true → IsUnread result }
+    ensures kept { is_file name.now ≡ true → I.remaining input.new ≡ I.remaining input.old }
 {
-    let certs = certificate_bytes(alloc, files, name)?;
-    Ok(migrated(alloc, &certs)?)
+    let certs = certificate_bytes(alloc, files, name, input)?;
+    let answer = migrated(alloc, &certs)?;
+    Ok(Outcome::Told(beside_certificates(alloc, name, &certs, answer)))
 }

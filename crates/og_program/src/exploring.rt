@@ -1,14 +1,16 @@
-//! The answer of the command that explores.
+//! What the command that explores comes to.
 
-ghost use Rattle.std.specs.Prelude.{◌≡◌, ◌≢◌, true, map, Err, IfErr, IfOk};
-ghost use Rattle.og_engine.specs.Inputs.{Reads};
-ghost use Rattle.og_program.specs.Named.{source_in, is_file, lacks_source};
-ghost use Rattle.og_program.specs.Served.{ExploredAs};
+ghost use Rattle.std.specs.Prelude.{◌≡◌, true, map, IfErr, IfOk};
+ghost use Rattle.og_program.specs.Failing.{IsReading, IsUnread};
+ghost use Rattle.og_program.specs.Named.{is_file, lacks_bytes};
+ghost use Rattle.og_program.specs.Served.{OfSource, Explores};
 
+use crate::beside::beside_exploration;
+use crate::fault::Fault;
 use crate::files::Files;
+use crate::outcome::Outcome;
 use crate::reading::source_bytes;
-use og_engine::EngineFault;
-use og_explorer::{Reply, Request, explored};
+use og_explorer::{Request, explored};
 use std::alloc::Global;
 use std::io::Read;
 
@@ -16,17 +18,17 @@ use std::io::Read;
 pub(crate) fn explore<'a, F: Files, I: Read>(
     alloc: Global,
     files: &F,
-    name: &str,
+    name: &'a str,
     words: &[&'a str],
     request: Request,
     input: &mut I,
-) -> Result<Reply<'a>, EngineFault>
-    ensures reply { IfOk result (λ reply. ExploredAs (source_in (F.contents files.now) (I.remaining input.old) name.now) request.erased request.json (map (λ w. w.now) words.now) reply) }
-    ensures fault { IfErr result (λ e. e ≢ EngineFault.WriteFailed) }
-    ensures spawn { IfErr result (λ e. e ≢ EngineFault.Spawn) }
-    ensures missing { lacks_source (F.is_missing files.now) name.now ≡ true → result ≡ Err EngineFault.ReadFailed }
+) -> Result<Outcome<'a>, Fault<'a>>
+    ensures came { IfOk result (OfSource (F.contents files.now) (I.remaining input.old) name.now (Explores request.erased request.json (map (λ w. w.now) words.now) name.now)) }
+    ensures fault { IfErr result (IsReading name.now) }
+    ensures missing { lacks_bytes (F.is_missing files.now) name.now ≡ true → IsUnread result }
     ensures kept { is_file name.now ≡ true → I.remaining input.new ≡ I.remaining input.old }
 {
     let source = source_bytes(alloc, files, name, input)?;
-    Ok(explored(alloc, &source, words, request)?)
+    let reply = explored(alloc, &source, words, request)?;
+    Ok(beside_exploration(alloc, name, &source, reply))
 }

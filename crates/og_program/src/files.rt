@@ -4,7 +4,7 @@ ghost use Rattle.std.specs.Prelude.{◌≡◌, ℕ, Bool, true, false, List, Opt
 
 use std::fs::File;
 use std::io;
-use std::io::Read;
+use std::io::{Error, ErrorKind, Read};
 
 /// Files by their names.
 pub trait Files {
@@ -21,7 +21,7 @@ pub trait Files {
     ///
     /// # Errors
     ///
-    /// There is no such file, or it cannot be opened.
+    /// There is no such file, it cannot be opened, or it is a directory.
     fn open(&self, name: &str) -> io::Result<Self::File>
         ensures bytes { IfOk result (λ file. Self.File.remaining file ≡ contents self.now name.now) }
         ensures missing { is_missing self.now name.now ≡ true → IsErr result };
@@ -36,6 +36,10 @@ impl Files for HostRuntime {
     type File = File;
 
     fn open(&self, name: &str) -> io::Result<File> {
-        File::open(self, name)
+        let file = File::open(self, name)?;
+        if file.metadata()?.is_dir() {
+            return Err(Error::from(ErrorKind::IsADirectory));
+        }
+        Ok(file)
     }
 }

@@ -1,57 +1,164 @@
 //! The bytes of sources and certificates, by the names of their files.
 
-ghost use Rattle.std.specs.Prelude.{◌≡◌, ◌≢◌, true, Err, IfErr, IfOk, IfSome};
-ghost use Rattle.og_engine.specs.Inputs.{source_of, certs_of};
-ghost use Rattle.og_program.specs.Named.{source_in, is_file, lacks_source};
+ghost use Rattle.std.specs.Prelude.{◌≡◌, ◌||◌, true, IfErr, IfOk, IfSome};
+ghost use Rattle.og_engine.specs.Inputs.{source_of, certs_of, joined_of};
+ghost use Rattle.og_program.specs.Failing.{IsReading, IsReadingBoth, IsUnread};
+ghost use Rattle.og_program.specs.Named.{bytes_in, certs_in, is_file, lacks_bytes, lacks_certs};
 
+use crate::fault::{Fault, Why};
 use crate::files::Files;
-use og_engine::{EngineFault, read_certificates, read_source};
+use og_advice::Names;
+use og_engine::{read_certificates, read_joined, read_source};
+use og_input::ReadFault;
 use std::alloc::Global;
 use std::io::Read;
 
+/// The name of standard input.
+pub(crate) const INPUT: &str = "-";
+
 // Opens a file.
-pub(crate) fn open<F: Files>(files: &F, name: &str) -> Result<F::File, EngineFault>
+fn open<'a, F: Files>(files: &F, name: &'a str) -> Result<F::File, Fault<'a>>
     ensures bytes { IfOk result (λ file. F.File.remaining file ≡ F.contents files.now name.now) }
-    ensures fault { IfErr result (λ e. e ≡ EngineFault.ReadFailed) }
-    ensures missing { F.is_missing files.now name.now ≡ true → result ≡ Err EngineFault.ReadFailed }
+    ensures fault { IfErr result (IsReading name.now) }
+    ensures missing { F.is_missing files.now name.now ≡ true → IsUnread result }
+    ensures failed { IfErr result (λ _. IsUnread result) }
 {
     match files.open(name) {
         Ok(file) => Ok(file),
-        Err(_) => Err(EngineFault::ReadFailed),
+        Err(error) => Err(Fault::NotRead(name, Why::of(&error))),
     }
 }
 
-// The bytes of a source.
-pub(crate) fn source_bytes<F: Files, I: Read>(
+// A fault of reading a file.
+fn not_read(name: &str, fault: ReadFault) -> Fault<'_>
+    ensures { IsReading name.now result }
+{
+    match fault {
+        ReadFault::Failed => Fault::NotRead(name, Why::Failed),
+        ReadFault::Memory => Fault::Memory,
+    }
+}
+
+// The bytes of a source that a reader gives.
+fn source_from<'a, R: Read>(
+    alloc: Global,
+    name: &'a str,
+    reader: &mut R,
+) -> Result<Vec<u8>, Fault<'a>>
+    ensures text { IfOk result (λ text. IfSome (R.remaining reader.old) (λ s. text.items ≡ source_of s)) }
+    ensures fault { IfErr result (IsReading name.now) }
+{
+    match read_source(alloc, reader) {
+        Ok(text) => Ok(text),
+        Err(fault) => Err(not_read(name, fault)),
+    }
+}
+
+// The bytes of certificates that a reader gives.
+fn certificates_from<'a, R: Read>(
+    alloc: Global,
+    name: &'a str,
+    reader: &mut R,
+) -> Result<Vec<u8>, Fault<'a>>
+    ensures text { IfOk result (λ text. IfSome (R.remaining reader.old) (λ c. text.items ≡ certs_of c)) }
+    ensures fault { IfErr result (IsReading name.now) }
+{
+    match read_certificates(alloc, reader) {
+        Ok(text) => Ok(text),
+        Err(fault) => Err(not_read(name, fault)),
+    }
+}
+
+/// The bytes of a source and certificates in one.
+pub(crate) fn joined_from<'a, R: Read>(
+    alloc: Global,
+    name: &'a str,
+    reader: &mut R,
+) -> Result<Vec<u8>, Fault<'a>>
+    ensures text { IfOk result (λ text. IfSome (R.remaining reader.old) (λ i. text.items ≡ joined_of i)) }
+    ensures fault { IfErr result (IsReading name.now) }
+{
+    match read_joined(alloc, reader) {
+        Ok(text) => Ok(text),
+        Err(fault) => Err(not_read(name, fault)),
+    }
+}
+
+/// The bytes of a source.
+pub(crate) fn source_bytes<'a, F: Files, I: Read>(
     alloc: Global,
     files: &F,
-    name: &str,
+    name: &'a str,
     input: &mut I,
-) -> Result<Vec<u8>, EngineFault>
-    ensures text { IfOk result (λ text. IfSome (source_in (F.contents files.now) (I.remaining input.old) name.now) (λ s. text.items ≡ source_of s)) }
-    ensures fault { IfErr result (λ e. e ≢ EngineFault.WriteFailed) }
-    ensures spawn { IfErr result (λ e. e ≢ EngineFault.Spawn) }
-    ensures missing { lacks_source (F.is_missing files.now) name.now ≡ true → result ≡ Err EngineFault.ReadFailed }
+) -> Result<Vec<u8>, Fault<'a>>
+    ensures text { IfOk result (λ text. IfSome (bytes_in (F.contents files.now) (I.remaining input.old) name.now) (λ s. text.items ≡ source_of s)) }
+    ensures fault { IfErr result (IsReading name.now) }
+    ensures missing { lacks_bytes (F.is_missing files.now) name.now ≡ true → IsUnread result }
     ensures kept { is_file name.now ≡ true → I.remaining input.new ≡ I.remaining input.old }
 {
-    if name == "-" {
-        return Ok(read_source(alloc, input)?);
+    if name == INPUT {
+        return source_from(alloc, name, input);
     }
     let mut file = open(files, name)?;
-    Ok(read_source(alloc, &mut file)?)
+    source_from(alloc, name, &mut file)
 }
 
-// The bytes of certificates.
-pub(crate) fn certificate_bytes<F: Files>(
+/// The bytes of certificates.
+pub(crate) fn certificate_bytes<'a, F: Files, I: Read>(
     alloc: Global,
     files: &F,
-    name: &str,
-) -> Result<Vec<u8>, EngineFault>
-    ensures text { IfOk result (λ text. IfSome (F.contents files.now name.now) (λ c. text.items ≡ certs_of c)) }
-    ensures fault { IfErr result (λ e. e ≢ EngineFault.WriteFailed) }
-    ensures spawn { IfErr result (λ e. e ≢ EngineFault.Spawn) }
-    ensures missing { F.is_missing files.now name.now ≡ true → result ≡ Err EngineFault.ReadFailed }
+    name: &'a str,
+    input: &mut I,
+) -> Result<Vec<u8>, Fault<'a>>
+    ensures text { IfOk result (λ text. IfSome (bytes_in (F.contents files.now) (I.remaining input.old) name.now) (λ c. text.items ≡ certs_of c)) }
+    ensures fault { IfErr result (IsReading name.now) }
+    ensures missing { lacks_bytes (F.is_missing files.now) name.now ≡ true → IsUnread result }
+    ensures kept { is_file name.now ≡ true → I.remaining input.new ≡ I.remaining input.old }
 {
+    if name == INPUT {
+        return certificates_from(alloc, name, input);
+    }
     let mut file = open(files, name)?;
-    Ok(read_certificates(alloc, &mut file)?)
+    certificates_from(alloc, name, &mut file)
+}
+
+// The bytes of a source that a reader gives, and then those of certificates that another one gives.
+fn both_from<'a, S: Read, C: Read>(
+    alloc: Global,
+    names: Names<'a>,
+    source: &mut S,
+    certs: &mut C,
+) -> Result<(Vec<u8>, Vec<u8>), Fault<'a>>
+    ensures source { IfOk result (λ texts. IfSome (S.remaining source.old) (λ s. texts.0.items ≡ source_of s)) }
+    ensures certs { IfOk result (λ texts. IfSome (C.remaining certs.old) (λ c. texts.1.items ≡ certs_of c)) }
+    ensures fault { IfErr result (IsReadingBoth names.entry.source.now names.entry.certs.now) }
+{
+    let text = source_from(alloc, names.source, source)?;
+    let cert_text = certificates_from(alloc, names.certs, certs)?;
+    Ok((text, cert_text))
+}
+
+/// The bytes of a source and of its certificates; both files are opened before one is read.
+pub(crate) fn both_bytes<'a, F: Files, I: Read>(
+    alloc: Global,
+    files: &F,
+    names: Names<'a>,
+    input: &mut I,
+) -> Result<(Vec<u8>, Vec<u8>), Fault<'a>>
+    ensures source { IfOk result (λ texts. IfSome (bytes_in (F.contents files.now) (I.remaining input.old) names.entry.source.now) (λ s. texts.0.items ≡ source_of s)) }
+    ensures certs { IfOk result (λ texts. IfSome (certs_in (F.contents files.now) (I.remaining input.old) names.entry.source.now names.entry.certs.now) (λ c. texts.1.items ≡ certs_of c)) }
+    ensures fault { IfErr result (IsReadingBoth names.entry.source.now names.entry.certs.now) }
+    ensures missing { (lacks_bytes (F.is_missing files.now) names.entry.source.now || lacks_certs (F.is_missing files.now) names.entry.source.now names.entry.certs.now) ≡ true → IsUnread result }
+    ensures kept { is_file names.entry.source.now ≡ true → is_file names.entry.certs.now ≡ true → I.remaining input.new ≡ I.remaining input.old }
+{
+    if names.source == INPUT {
+        let mut certs = open(files, names.certs)?;
+        return both_from(alloc, names, input, &mut certs);
+    }
+    let mut source = open(files, names.source)?;
+    if names.certs == INPUT {
+        return both_from(alloc, names, &mut source, input);
+    }
+    let mut certs = open(files, names.certs)?;
+    both_from(alloc, names, &mut source, &mut certs)
 }

@@ -1,40 +1,41 @@
 //! From a job to what is written and the status.
 
 ghost use Rattle.std.specs.Prelude.{◌≡◌, true, false, map, string_bytes, IfOk, IfErr};
-ghost use Rattle.og_program.specs.Served.{lacks, reads_input, Ends, EndsJob, EndsUsage, EndsWords, IsProvenIn, IsNeverStuckIn};
-ghost use Rattle.og_program.specs.Told.{Fails};
+ghost use Rattle.og_program.specs.Failing.{IsFault, IsUnread};
+ghost use Rattle.og_program.specs.Served.{lacks, reads_input, Comes, Opens, StartsThreads, FailsToRead, Ends, EndsJob, EndsUsage, EndsWords, IsProvenIn, IsNeverStuckIn};
 
-use crate::commands::{conditions, erase, migrate};
+use crate::commands::{conditions, erase, form_of, migrate};
 use crate::ended::Ended;
+use crate::expanding::expand;
 use crate::exploring::explore;
+use crate::fault::Fault;
 use crate::files::Files;
-use crate::program::{Program, Way};
-use crate::telling::{fail, finish, refuse, reply, reply_explored, tell};
+use crate::outcome::{Outcome, Told};
+use crate::program::Program;
+use crate::running::Way;
+use crate::telling::{fail, print, refuse, tell};
+use og_advice::Names;
 use og_answer::Answer;
-use og_engine::{EngineFault, Options, Search};
+use og_engine::{Options, Search};
 use og_explorer::Request;
+use og_pool::Gate;
 use og_words::{Job, Usage, read_words};
 use std::alloc::Global;
 use std::io::{Read, Write};
 use std::sync::Wait;
 use std::thread::Threads;
 
-impl<'r, F: Files, H: Threads + Wait + Sync> Program<'r, F, H> {
-    // Does a job.
-    fn perform<I: Read, O: Write, E: Write>(
-        &self,
-        job: &Job<'_>,
-        input: &mut I,
-        out: &mut O,
-        err: &mut E,
-    ) -> Ended
-        ensures ended { EndsJob (F.contents self.now.files.now) (I.remaining input.old) job.now (O.contents out.old) (O.contents out.new) (E.contents err.old) (E.contents err.new) result }
-        ensures lacking { lacks (F.is_missing self.now.files.now) job.now ≡ true → Fails EngineFault.ReadFailed (O.contents out.old) (O.contents out.new) (E.contents err.old) (E.contents err.new) result }
+impl<'r, F: Files, G: Gate, H: Threads + Wait + Sync> Program<'r, F, G, H> {
+    // What a job comes to.
+    fn outcome<'a, I: Read>(&self, job: &Job<'a>, input: &mut I) -> Result<Outcome<'a>, Fault<'a>>
+        ensures came { IfOk result (Comes (F.contents self.now.files.now) (I.remaining input.old) job.now) }
+        ensures fault { IfErr result (IsFault (Opens job.now) ⊥ (StartsThreads (F.contents self.now.files.now) (I.remaining input.old) job.now)) }
+        ensures missing { lacks (F.is_missing self.now.files.now) job.now ≡ true → IsUnread result }
         ensures kept { reads_input job.now ≡ false → I.remaining input.new ≡ I.remaining input.old }
     {
         let (alloc, files) = (self.alloc, self.files);
         match job {
-            Job::Joined => finish(self.joined(input, out), err),
+            Job::Joined => self.joined(input),
             Job::Prove {
                 source,
                 budget,
@@ -47,7 +48,7 @@ impl<'r, F: Files, H: Threads + Wait + Sync> Program<'r, F, H> {
                     workers,
                     json,
                 };
-                tell(self.prove(source, search, input), out, err)
+                self.prove(source, search, input)
             }
             Job::Check {
                 source,
@@ -59,16 +60,21 @@ impl<'r, F: Files, H: Threads + Wait + Sync> Program<'r, F, H> {
                     workers: *workers,
                     json: *json,
                 };
-                finish(self.check(source, certs, options, input, out), err)
+                self.check(Names { source, certs }, options, input)
             }
-            Job::Conditions { source } => tell(conditions(alloc, files, source, input), out, err),
+            Job::Conditions {
+                source,
+                triples,
+                smt2,
+            } => conditions(alloc, files, source, form_of(*triples, *smt2), input),
             Job::Find {
                 source,
                 budget,
                 workers,
-            } => tell(self.find(source, *budget, *workers, input), out, err),
-            Job::Erase { source } => tell(erase(alloc, files, source, input), out, err),
-            Job::Migrate { certs } => tell(migrate(alloc, files, certs), out, err),
+                version,
+            } => self.find(source, *budget, *workers, *version, input),
+            Job::Erase { source, readable } => erase(alloc, files, source, *readable, input),
+            Job::Migrate { certs } => migrate(alloc, files, certs, input),
             Job::Run {
                 source,
                 limit,
@@ -82,8 +88,7 @@ impl<'r, F: Files, H: Threads + Wait + Sync> Program<'r, F, H> {
                     erased: *erased,
                     schedule: *schedule,
                 };
-                let ran = self.run(source, *certs, values, &way, input);
-                reply(alloc, ran, out, err)
+                self.run(source, *certs, values, &way, input)
             }
             Job::Explore {
                 source,
@@ -97,41 +102,76 @@ impl<'r, F: Files, H: Threads + Wait + Sync> Program<'r, F, H> {
                     erased: *erased,
                     json: *json,
                 };
-                let explored = explore(alloc, files, source, ranges, request, input);
-                reply_explored(alloc, explored, out, err)
+                explore(alloc, files, source, ranges, request, input)
             }
+            Job::Expand {
+                template,
+                as_map,
+                values,
+            } => expand(alloc, files, template, values, *as_map, input),
         }
+    }
+
+    // Does a job.
+    fn perform<I: Read, O: Write, E: Write>(
+        &self,
+        job: &Job<'_>,
+        input: &mut I,
+        out: &mut O,
+        err: &mut E,
+    ) -> Ended
+        ensures ended { EndsJob (F.contents self.now.files.now) (I.remaining input.old) job.now (O.contents out.old) (O.contents out.new) (E.contents err.old) (E.contents err.new) result }
+        ensures lacking { lacks (F.is_missing self.now.files.now) job.now ≡ true → FailsToRead job.now (O.contents out.old) (O.contents out.new) (E.contents err.old) (E.contents err.new) result }
+        ensures kept { reads_input job.now ≡ false → I.remaining input.new ≡ I.remaining input.old }
+    {
+        let outcome = self.outcome(job, input);
+        tell(self.alloc, outcome, out, err)
     }
 }
 
 // Tells why there is no job.
-fn explain<O: Write, E: Write>(usage: Usage, out: &mut O, err: &mut E) -> Ended
+fn explain<O: Write, E: Write>(alloc: Global, usage: Usage, out: &mut O, err: &mut E) -> Ended
     ensures { EndsUsage usage (O.contents out.old) (O.contents out.new) (E.contents err.old) (E.contents err.new) result }
 {
     match usage {
         Usage::Asked(text) => {
-            let text = text.into_bytes();
-            tell(Ok(Answer { text, status: 0 }), out, err)
+            let answer = Answer {
+                text: text.into_bytes(),
+                status: 0,
+            };
+            print(
+                alloc,
+                &Told {
+                    answer,
+                    note: Ok(None),
+                },
+                out,
+                err,
+            )
         }
         Usage::Wrong(text) => refuse(text.as_str(), err),
-        Usage::Memory => fail(EngineFault::Memory, err),
+        Usage::Memory => fail(alloc, Fault::Memory, err),
     }
 }
 
 /// Does a job, or tells why there is none. What a command prints goes to `out`, with its status, from
-/// 0 to 2, and nothing to `err` but the line of a run along which an assertion is false. Status 0 of
-/// `prove`, of a check and of a run with certificates says that the source is proven; and where what
-/// was printed says that it is unblocked, that it never gets stuck. `input` is read where a source is
-/// named `-`, and for a job that has no files.
+/// 0 to 2. Beside it goes to `err` why something is refused, how many certificates are missing for a
+/// check or were not found, or the line of a run along which an assertion is false; and else nothing.
+/// Status 0 of `prove`, of a check and of a run with certificates says that the source is proven; and
+/// where what was printed says that it is unblocked, that it never gets stuck. `input` is read where a
+/// source or certificates are named `-`, and for a job that has no files.
 ///
 /// The status is 3, with a text to `err`, where the words are wrong, one gives no variable a value, or
-/// a step of a schedule cannot be made; and 4, with a text to `err`, where a file cannot be read or
-/// `out` not be written, memory runs out or a thread cannot be started. Nothing goes to `out` then,
-/// but a front of the answer where it could not be written whole.
-pub fn serve<F: Files, I: Read, O: Write, E: Write, H: Threads + Wait + Sync>(
+/// a step of a schedule cannot be made; and 4, with a text to `err`, where a file is not read or `out`
+/// not written, memory runs out or a thread cannot be started. Nothing goes to `out` then, but a front
+/// of the answer where it could not be written whole; and nothing to `err` where nobody reads `out`
+/// any more. The gate is told of the conditions that are checked or searched, and has no part in what
+/// is written.
+pub fn serve<F: Files, I: Read, O: Write, E: Write, G: Gate, H: Threads + Wait + Sync>(
     rt: &H,
     alloc: Global,
     files: &F,
+    gate: &G,
     asked: Result<Job<'_>, Usage>,
     input: &mut I,
     out: &mut O,
@@ -139,22 +179,31 @@ pub fn serve<F: Files, I: Read, O: Write, E: Write, H: Threads + Wait + Sync>(
 ) -> Ended
     ensures ended { Ends (F.contents files.now) (I.remaining input.old) asked.entry (O.contents out.old) (O.contents out.new) (E.contents err.old) (E.contents err.new) result }
     ensures sound { IfOk asked.entry (λ job. result.status ≡ 0 → IsProvenIn (F.contents files.now) (I.remaining input.old) job) }
-    ensures lacking { IfOk asked.entry (λ job. lacks (F.is_missing files.now) job ≡ true → Fails EngineFault.ReadFailed (O.contents out.old) (O.contents out.new) (E.contents err.old) (E.contents err.new) result) }
+    ensures lacking { IfOk asked.entry (λ job. lacks (F.is_missing files.now) job ≡ true → FailsToRead job (O.contents out.old) (O.contents out.new) (E.contents err.old) (E.contents err.new) result) }
     ensures unblocked { IfOk asked.entry (λ job. result.status ≡ 0 → IsNeverStuckIn (F.contents files.now) (I.remaining input.old) (O.contents out.old) (O.contents out.new) job) }
     ensures kept { IfOk asked.entry (λ job. reads_input job ≡ false → I.remaining input.new ≡ I.remaining input.old) }
     ensures unread { IfErr asked.entry (λ _. I.remaining input.new ≡ I.remaining input.old) }
 {
     match asked {
-        Ok(job) => Program { rt, alloc, files }.perform(&job, input, out, err),
-        Err(usage) => explain(usage, out, err),
+        Ok(job) => {
+            let program = Program {
+                rt,
+                alloc,
+                files,
+                gate,
+            };
+            program.perform(&job, input, out, err)
+        }
+        Err(usage) => explain(alloc, usage, out, err),
     }
 }
 
 /// Does what the words after the program's name ask for, as `serve`; or tells why there are none.
-pub fn serve_words<F: Files, I: Read, O: Write, E: Write, H: Threads + Wait + Sync>(
+pub fn serve_words<F: Files, I: Read, O: Write, E: Write, G: Gate, H: Threads + Wait + Sync>(
     rt: &H,
     alloc: Global,
     files: &F,
+    gate: &G,
     words: Result<Vec<String>, Usage>,
     input: &mut I,
     out: &mut O,
@@ -167,8 +216,8 @@ pub fn serve_words<F: Files, I: Read, O: Write, E: Write, H: Threads + Wait + Sy
     match words {
         Ok(words) => {
             let asked = read_words(alloc, words.as_slice());
-            serve(rt, alloc, files, asked, input, out, err)
+            serve(rt, alloc, files, gate, asked, input, out, err)
         }
-        Err(usage) => explain(usage, out, err),
+        Err(usage) => explain(alloc, usage, out, err),
     }
 }

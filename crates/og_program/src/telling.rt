@@ -1,14 +1,14 @@
-//! What is told of an answer, a fault or wrong words.
+//! What is written of what a job comes to, of a fault or of wrong words.
 
-ghost use Rattle.std.specs.Prelude.{◌≡◌, option_map, IfOk, IfErr};
-ghost use Rattle.og_program.specs.Told.{fault_text, Complains, IsSilent, Notes, Fails, TellsAnswer, TellsBadValue, TellsExplored, TellsRan, TellsReply};
+ghost use Rattle.std.specs.Prelude.{◌≡◌, ◌++◌, IfOk, IfErr, OnOk};
+ghost use Rattle.og_program.specs.Failing.{fault_text};
+ghost use Rattle.og_program.specs.Told.{line_or_nothing, bad_value_text, Complains, Notes, Says, Fails, TellsAnswer, TellsOutcome};
 
 use crate::ended::Ended;
-use og_answer::Answer;
-use og_engine::{EngineFault, write_answer, write_text};
-use og_explorer::Reply as Explored;
-use og_running::{Ran, Reply};
-use std::alloc::Global;
+use crate::fault::{Fault, Why};
+use crate::outcome::{BadValue, Outcome, Told};
+use og_engine::{WriteFault, write_answer, write_text};
+use std::alloc::{AllocError, Global};
 use std::io::Write;
 
 // The status of wrong words.
@@ -16,6 +16,8 @@ const WRONG: u8 = 3;
 
 // The status where a file cannot be read or written, memory runs out, or a thread cannot be started.
 const FAULT: u8 = 4;
+
+const OUT_OF_MEMORY: &str = "og: out of memory\n";
 
 // Ends with a text on standard error.
 fn complain<E: Write>(text: &[u8], status: u8, err: &mut E) -> Ended
@@ -37,117 +39,123 @@ pub(crate) fn refuse<E: Write>(text: &str, err: &mut E) -> Ended
     complain(text.as_bytes(), WRONG, err)
 }
 
-/// Ends with a fault.
-pub(crate) fn fail<E: Write>(fault: EngineFault, err: &mut E) -> Ended
-    ensures { Complains (fault_text fault) 4 (E.contents err.old) (E.contents err.new) result }
+// Ends with the text of a fault.
+fn end<E: Write>(text: &str, err: &mut E) -> Ended
+    ensures { Complains text.now 4 (E.contents err.old) (E.contents err.new) result }
 {
-    let text = match fault {
-        EngineFault::Memory => "og: out of memory\n",
-        EngineFault::Spawn => "og: no thread\n",
-        EngineFault::ReadFailed => "og: read failed\n",
-        EngineFault::WriteFailed => "og: write failed\n",
-    };
     complain(text.as_bytes(), FAULT, err)
 }
 
-/// Ends with the status of an answer that was written, or with a fault.
-pub(crate) fn finish<E: Write>(outcome: Result<u8, EngineFault>, err: &mut E) -> Ended
-    ensures ok { IfOk outcome (λ status. (result.status ≡ status) × IsSilent (E.contents err.old) (E.contents err.new) result) }
-    ensures err { IfErr outcome (λ fault. Complains (fault_text fault) 4 (E.contents err.old) (E.contents err.new) result) }
+// Ends with a file that was not read.
+fn fail_to_read<E: Write>(alloc: Global, name: &str, why: Why, err: &mut E) -> Ended
+    ensures { Says (fault_text (Fault.NotRead name.entry why)) 4 (E.contents err.old) (E.contents err.new) result }
 {
-    match outcome {
-        Ok(status) => Ended { status, told: true },
-        Err(fault) => fail(fault, err),
+    let why = why.text();
+    match format!(in alloc; "og: {name}: {why}\n") {
+        Ok(text) => end(text.as_str(), err),
+        Err(_) => end(OUT_OF_MEMORY, err),
     }
 }
 
-// Prints an answer.
-fn print<O: Write, E: Write>(answer: &Answer, out: &mut O, err: &mut E) -> Ended
-    ensures { TellsAnswer answer.now (O.contents out.old) (O.contents out.new) (E.contents err.old) (E.contents err.new) result }
+/// Ends with a fault.
+pub(crate) fn fail<E: Write>(alloc: Global, fault: Fault<'_>, err: &mut E) -> Ended
+    ensures { Says (fault_text fault.entry) 4 (E.contents err.old) (E.contents err.new) result }
 {
-    match write_answer(out, answer) {
-        Ok(status) => Ended { status, told: true },
-        Err(_) => fail(EngineFault::WriteFailed, err),
+    match fault {
+        Fault::NotRead(name, why) => fail_to_read(alloc, name, why, err),
+        Fault::NotWritten(WriteFault::Closed) => end("", err),
+        Fault::NotWritten(WriteFault::Failed) => end("og: write failed\n", err),
+        Fault::Memory => end(OUT_OF_MEMORY, err),
+        Fault::Spawn => end("og: no thread\n", err),
     }
 }
 
-/// Prints an answer, or tells why there is none.
-pub(crate) fn tell<O: Write, E: Write>(
-    answer: Result<Answer, EngineFault>,
+// Writes what goes to standard error beside an answer, if anything does.
+fn note<E: Write>(note: &Result<Option<Vec<u8>>, AllocError>, status: u8, err: &mut E) -> Ended
+    ensures status { result.status ≡ status }
+    ensures told { Notes note.now (E.contents err.old) (E.contents err.new) result }
+{
+    match note {
+        Ok(None) => Ended { status, told: true },
+        Ok(Some(text)) => complain(text, status, err),
+        Err(_) => complain(OUT_OF_MEMORY.as_bytes(), status, err),
+    }
+}
+
+/// Prints an answer, and then what goes to standard error beside it, which changes nothing else.
+pub(crate) fn print<O: Write, E: Write>(
+    alloc: Global,
+    told: &Told,
     out: &mut O,
     err: &mut E,
 ) -> Ended
-    ensures ok { IfOk answer (λ a. TellsAnswer a (O.contents out.old) (O.contents out.new) (E.contents err.old) (E.contents err.new) result) }
-    ensures err { IfErr answer (λ fault. Fails fault (O.contents out.old) (O.contents out.new) (E.contents err.old) (E.contents err.new) result) }
+    ensures { TellsAnswer told.now (O.contents out.old) (O.contents out.new) (E.contents err.old) (E.contents err.new) result }
 {
-    match answer {
-        Ok(answer) => print(&answer, out, err),
-        Err(fault) => fail(fault, err),
+    match write_answer(out, &told.answer) {
+        Ok(status) => note(&told.note, status, err),
+        Err(fault) => fail(alloc, Fault::NotWritten(fault), err),
     }
 }
 
-// Tells of a word that gives no variable a value.
-fn refuse_value<E: Write>(alloc: Global, word: &str, err: &mut E) -> Ended
-    ensures { TellsBadValue word.now (E.contents err.old) (E.contents err.new) result }
-{
-    match format!(in alloc; "bad value: {word}\n") {
-        Ok(text) => refuse(text.as_str(), err),
-        Err(_) => fail(EngineFault::Memory, err),
-    }
-}
-
-// Writes the line for standard error, where there is one.
-fn note<E: Write>(line: Option<&[u8]>, status: u8, err: &mut E) -> Ended
-    ensures status { result.status ≡ status }
-    ensures told { Notes (option_map (λ l. l.now) line.entry) (E.contents err.old) (E.contents err.new) result }
+// Adds a line, where there is one.
+fn put_line(text: &mut Vec<u8>, line: &Option<Vec<u8>>) -> Result<(), AllocError>
+    ensures { OnOk result (text.new.items ≡ text.old.items ++ line_or_nothing line.now) }
 {
     match line {
-        Some(line) => complain(line, status, err),
-        None => Ended { status, told: true },
+        Some(line) => text.extend_from_slice(line),
+        None => Ok(()),
     }
 }
 
-// Prints the answer of a run, and then its line for standard error, which changes nothing else.
-fn print_ran<O: Write, E: Write>(ran: &Ran, out: &mut O, err: &mut E) -> Ended
-    ensures { TellsRan ran.now (O.contents out.old) (O.contents out.new) (E.contents err.old) (E.contents err.new) result }
+// The text for a word that gives no value, with why, where that is known.
+fn bad_value_text(alloc: Global, bad: &BadValue<'_>) -> Result<Vec<u8>, AllocError>
+    ensures { IfOk result (λ text. text.items ≡ bad_value_text bad.now) }
 {
-    let Ok(status) = write_answer(out, &ran.answer) else {
-        return fail(EngineFault::WriteFailed, err);
-    };
-    note(ran.note.as_deref(), status, err)
+    let mut text = Vec::from_slice(alloc, b"bad value: ")?;
+    text.extend_from_slice(bad.word.as_bytes())?;
+    text.extend_from_slice(b"\n")?;
+    put_line(&mut text, &bad.why)?;
+    Ok(text)
 }
 
-/// Tells what came of a run.
-pub(crate) fn reply<O: Write, E: Write>(
-    alloc: Global,
-    reply: Result<Reply<'_>, EngineFault>,
-    out: &mut O,
-    err: &mut E,
-) -> Ended
-    ensures ok { IfOk reply.entry (λ r. TellsReply r (O.contents out.old) (O.contents out.new) (E.contents err.old) (E.contents err.new) result) }
-    ensures err { IfErr reply.entry (λ fault. Fails fault (O.contents out.old) (O.contents out.new) (E.contents err.old) (E.contents err.new) result) }
+// Tells of a word that gives no value.
+fn refuse_value<E: Write>(alloc: Global, bad: &BadValue<'_>, err: &mut E) -> Ended
+    ensures { Says (bad_value_text bad.now) 3 (E.contents err.old) (E.contents err.new) result }
 {
-    match reply {
-        Ok(Reply::Told(ran)) => print_ran(&ran, out, err),
-        Ok(Reply::BadValue(word)) => refuse_value(alloc, word, err),
-        Ok(Reply::NotMade(line)) => complain(&line, WRONG, err),
-        Err(fault) => fail(fault, err),
+    match bad_value_text(alloc, bad) {
+        Ok(text) => complain(&text, WRONG, err),
+        Err(_) => fail(alloc, Fault::Memory, err),
     }
 }
 
-/// Tells what came of an exploration.
-pub(crate) fn reply_explored<O: Write, E: Write>(
+// Tells what a job comes to.
+fn tell_outcome<O: Write, E: Write>(
     alloc: Global,
-    reply: Result<Explored<'_>, EngineFault>,
+    outcome: &Outcome<'_>,
     out: &mut O,
     err: &mut E,
 ) -> Ended
-    ensures ok { IfOk reply.entry (λ r. TellsExplored r (O.contents out.old) (O.contents out.new) (E.contents err.old) (E.contents err.new) result) }
-    ensures err { IfErr reply.entry (λ fault. Fails fault (O.contents out.old) (O.contents out.new) (E.contents err.old) (E.contents err.new) result) }
+    ensures { TellsOutcome outcome.now (O.contents out.old) (O.contents out.new) (E.contents err.old) (E.contents err.new) result }
 {
-    match reply {
-        Ok(Explored::Answer(answer)) => print(&answer, out, err),
-        Ok(Explored::BadValue(word)) => refuse_value(alloc, word, err),
-        Err(fault) => fail(fault, err),
+    match outcome {
+        Outcome::Told(told) => print(alloc, told, out, err),
+        Outcome::BadValue(bad) => refuse_value(alloc, bad, err),
+        Outcome::NotMade(line) => complain(line, WRONG, err),
+    }
+}
+
+/// Tells what a job comes to, or why it cannot be done.
+pub(crate) fn tell<O: Write, E: Write>(
+    alloc: Global,
+    outcome: Result<Outcome<'_>, Fault<'_>>,
+    out: &mut O,
+    err: &mut E,
+) -> Ended
+    ensures ok { IfOk outcome.entry (λ o. TellsOutcome o (O.contents out.old) (O.contents out.new) (E.contents err.old) (E.contents err.new) result) }
+    ensures err { IfErr outcome.entry (λ fault. Fails fault (O.contents out.old) (O.contents out.new) (E.contents err.old) (E.contents err.new) result) }
+{
+    match outcome {
+        Ok(outcome) => tell_outcome(alloc, &outcome, out, err),
+        Err(fault) => fail(alloc, fault, err),
     }
 }

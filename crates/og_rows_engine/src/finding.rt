@@ -1,7 +1,7 @@
 //! Certificates that are found, checked again.
 
 use og_engine::{Options, checked, found};
-use og_limits::{Budget, Workers};
+use og_limits::{Budget, CertVersion, Workers};
 use og_pool::OpenGate;
 use og_samples::{EQUAL_ADD, TWO_ADD, alike};
 use std::alloc::Global;
@@ -33,17 +33,32 @@ fn expect_report<R: Threads + Wait + Sync + Abort>(
     Ok(())
 }
 
-// What is found is checked again, and has this status.
+// What is found is in this version, checked again, and has this status.
 fn expect_found<R: Threads + Wait + Sync + Abort>(
     rt: &R,
     alloc: Global,
     source: &str,
+    version: CertVersion,
     report: &str,
     status: u8,
 ) -> Result<(), Fail> {
     let budget = Budget::new(100_000).expect(rt, "within its limit");
     let workers = Workers::new(2).expect(rt, "from 1 to 64");
-    let certs = found(rt, alloc, source.as_bytes(), budget, workers)?;
+    let certs = found(
+        rt,
+        alloc,
+        source.as_bytes(),
+        budget,
+        workers,
+        version,
+        &OpenGate,
+    )?;
+    let opening: &[u8] = if version.is_second() {
+        b"og-cert 2\n"
+    } else {
+        b"og-cert 1\n"
+    };
+    assert!(rt; certs.text.starts_with(opening));
     assert_eq!(rt; certs.status, status);
     let options = Options {
         workers,
@@ -63,10 +78,14 @@ fn expect_found<R: Threads + Wait + Sync + Abort>(
 
 #[test]
 fn certificates_that_are_found(rt: HostRuntime) -> Result<(), Fail> {
-    let report = "conditions: 12\nproved: 12\nsafe: yes\nunblocked: yes\n";
-    expect_found(&rt, rt.alloc(), TWO_ADD, report, 0)?;
-    let report = "conditions: 12\nproved: 9\nsafe: no\nunblocked: yes\n";
-    expect_found(&rt, rt.alloc(), EQUAL_ADD, report, 1)
+    for number in [1, 2] {
+        let version = CertVersion::new(number).expect(&rt, "from 1 to 2");
+        let report = "conditions: 12\nproved: 12\nsafe: yes\nunblocked: yes\n";
+        expect_found(&rt, rt.alloc(), TWO_ADD, version, report, 0)?;
+        let report = "conditions: 12\nproved: 9\nsafe: no\nunblocked: yes\n";
+        expect_found(&rt, rt.alloc(), EQUAL_ADD, version, report, 1)?;
+    }
+    Ok(())
 }
 
 fn expect_proved<R: Threads + Wait + Sync + Abort>(
@@ -77,7 +96,16 @@ fn expect_proved<R: Threads + Wait + Sync + Abort>(
 ) -> Result<(), Fail> {
     let budget = Budget::new(100_000).expect(rt, "within its limit");
     let workers = Workers::new(3).expect(rt, "from 1 to 64");
-    let certs = found(rt, alloc, source.as_bytes(), budget, workers)?;
+    let version = CertVersion::ONE;
+    let certs = found(
+        rt,
+        alloc,
+        source.as_bytes(),
+        budget,
+        workers,
+        version,
+        &OpenGate,
+    )?;
     assert_eq!(rt; certs.status, 0);
     for workers in [1, 2, 64] {
         expect_report(rt, alloc, source, &certs.text, workers, report)?;

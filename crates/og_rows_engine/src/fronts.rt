@@ -1,7 +1,7 @@
 //! Every front of a source, and of its certificates.
 
 use og_engine::{Answer, Options, checked, found};
-use og_limits::{Budget, Workers};
+use og_limits::{Budget, CertVersion, Workers};
 use og_pool::OpenGate;
 use og_samples::TWO_ADD;
 use std::alloc::Global;
@@ -86,7 +86,15 @@ fn expect_certs<R: Threads + Wait + Sync + Abort>(
 fn fronts(rt: HostRuntime) -> Result<(), Fail> {
     let alloc = rt.alloc();
     let budget = Budget::new(100_000).expect(&rt, "within its limit");
-    let answer = found(&rt, alloc, TWO_ADD.as_bytes(), budget, Workers::ONE)?;
+    let answer = found(
+        &rt,
+        alloc,
+        TWO_ADD.as_bytes(),
+        budget,
+        Workers::ONE,
+        CertVersion::ONE,
+        &OpenGate,
+    )?;
     let certs = str::from_utf8(&answer.text).expect(&rt, "ASCII");
     expect_sources(&rt, alloc, certs)?;
     expect_certs(&rt, alloc, certs)

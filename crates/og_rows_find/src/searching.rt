@@ -7,6 +7,7 @@ use og_cert_text::{CertFile, write_certs};
 use og_cond::{Condition, conditions};
 use og_find::{Verdict, examine, find, has_all};
 use og_finder::find_all;
+use og_pool::OpenGate;
 use og_samples::{EQUAL_ADD, NESTED, TOLD_ADD, TWO_ADD, alike, outline_of};
 use og_typed::Outline;
 use std::alloc::{AllocError, Global};
@@ -82,7 +83,7 @@ fn list_has<R: Threads + Wait + Sync>(
 ) -> Result<bool, Fail>
     requires few { length list.now < 2 ^ 32 }
 {
-    let file = find_all(rt, alloc, list, budget, WORKERS)?;
+    let file = find_all(rt, alloc, list, budget, WORKERS, &OpenGate)?;
     let told = has_letters(alloc, list, &file, budget, expected);
     drop(file);
     Ok(told?)
@@ -179,7 +180,7 @@ fn certified_list<R: Threads + Wait + Sync>(
 ) -> Result<(usize, bool), Fail>
     requires few { length list.now < 2 ^ 32 }
 {
-    let file = find_all(rt, alloc, list, BUDGET, WORKERS)?;
+    let file = find_all(rt, alloc, list, BUDGET, WORKERS, &OpenGate)?;
     let all = has_all(&file, 4938);
     drop(file);
     Ok((list.len(), all))
@@ -218,7 +219,7 @@ pub(crate) fn text_of_found<R: Threads + Wait + Sync>(
     requires workers { (0 < workers) × (workers ≤ 64) }
     requires few { length list.now < 2 ^ 32 }
 {
-    let file = find_all(rt, alloc, list, budget, workers)?;
+    let file = find_all(rt, alloc, list, budget, workers, &OpenGate)?;
     let text = write_certs(alloc, &file);
     drop(file);
     Ok(text?)

@@ -6,6 +6,7 @@ use crate::searching::{BUDGET, VERDICTS, letter};
 use og_cond::{Condition, conditions};
 use og_find::examine;
 use og_finder::{Findings, examine_all};
+use og_pool::OpenGate;
 use og_samples::{alike, outline_of};
 use og_typed::Outline;
 use std::alloc::{AllocError, Global};
@@ -43,7 +44,7 @@ fn expect_letters<R: Threads + Wait + Sync + Abort>(
     requires few { length list.now < 2 ^ 32 }
 {
     for workers in [1, 2, 3, 64] {
-        let findings = examine_all(rt, alloc, list, budget, workers)?;
+        let findings = examine_all(rt, alloc, list, budget, workers, &OpenGate)?;
         let is_right = has_letters(&findings, expected);
         drop(findings);
         assert!(rt; is_right, "of {workers} workers");

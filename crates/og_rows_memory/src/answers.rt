@@ -1,7 +1,9 @@
 //! What commands answer, as texts.
 
-use og_engine::{Answer, EngineFault, Options, checked, engine, erased, found, listed, migrated};
-use og_limits::{Budget, Workers};
+use og_engine::{
+    Answer, EngineFault, Form, Options, checked, engine, erased, found, listed, migrated,
+};
+use og_limits::{Budget, CertVersion, Workers};
 use og_pool::{OpenGate, PoolFault};
 use og_samples::{ONE_SKIP, ONE_SKIP_CERTS, TOLD_ADD, TWO_ADD, TWO_ADD_CERTS};
 use std::alloc::Global;
@@ -96,14 +98,23 @@ cond 4 blocking at 2:1
 ";
 
 pub(crate) fn is_listed(alloc: Global) -> Result<bool, PoolFault> {
-    Ok(is(&listed(alloc, ONE_SKIP.as_bytes())?, LISTED, 0))
+    Ok(is(&listed(alloc, Form::Facts, ONE_SKIP.as_bytes())?, LISTED, 0))
 }
 
 pub(crate) fn is_found<R: Threads + Wait + Sync>(rt: &R, alloc: Global) -> Result<bool, PoolFault> {
     let (Some(budget), Some(workers)) = (Budget::new(100_000), Workers::new(2)) else {
         return Ok(false);
     };
-    let answer = found(rt, alloc, ONE_SKIP.as_bytes(), budget, workers)?;
+    let version = CertVersion::ONE;
+    let answer = found(
+        rt,
+        alloc,
+        ONE_SKIP.as_bytes(),
+        budget,
+        workers,
+        version,
+        &OpenGate,
+    )?;
     Ok(is(&answer, ONE_SKIP_CERTS, 0))
 }
 
@@ -111,7 +122,7 @@ const ERASED: &str =
     "var x;\ncobegin\n  await true then x := x + 1\n//\n  await true then x := x + 1\ncoend\n";
 
 pub(crate) fn is_erased(alloc: Global) -> Result<bool, PoolFault> {
-    Ok(is(&erased(alloc, TOLD_ADD.as_bytes())?, ERASED, 0))
+    Ok(is(&erased(alloc, TOLD_ADD.as_bytes(), false)?, ERASED, 0))
 }
 
 const MIGRATED: &str =

@@ -5,7 +5,7 @@ ghost use Rattle.std.specs.Prelude.{◌<◌, ◌^◌, IfOk, IfSome, vec_len};
 use og_cond::{Condition, ConditionsError, conditions};
 use og_find::{Verdict, examine, has_all};
 use og_finder::find_all;
-use og_pool::PoolFault;
+use og_pool::{OpenGate, PoolFault};
 use og_samples::{TWO_ADD, outline_of};
 use og_source::SourceError;
 use og_typed::Outline;
@@ -65,7 +65,7 @@ fn found<R: Threads + Wait + Sync>(
     outline: &Outline,
 ) -> Result<bool, PoolFault> {
     match listed(alloc, outline)? {
-        Some(list) => Ok(has_all(&find_all(rt, alloc, &list, BUDGET, 2)?, 12)),
+        Some(list) => Ok(has_all(&find_all(rt, alloc, &list, BUDGET, 2, &OpenGate)?, 12)),
         None => Ok(false),
     }
 }

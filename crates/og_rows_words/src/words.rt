@@ -32,24 +32,43 @@ const JOBS: &[(&str, &str)] = &[
         "check --workers 2 a b",
         "Check { source: \"a\", certs: \"b\", workers: Workers { count: 2 }, json: false }",
     ),
-    ("conditions a", "Conditions { source: \"a\" }"),
+    (
+        "conditions a",
+        "Conditions { source: \"a\", triples: false, smt2: false }",
+    ),
+    (
+        "conditions --triples a",
+        "Conditions { source: \"a\", triples: true, smt2: false }",
+    ),
+    (
+        "conditions a --smt2",
+        "Conditions { source: \"a\", triples: false, smt2: true }",
+    ),
     (
         "find a",
-        "Find { source: \"a\", budget: Budget { facts: 100000 }, workers: Workers { count: 1 } }",
+        "Find { source: \"a\", budget: Budget { facts: 100000 }, workers: Workers { count: 1 }, version: CertVersion { number: 1 } }",
     ),
     (
         "find a --budget 1000000000",
-        "Find { source: \"a\", budget: Budget { facts: 1000000000 }, workers: Workers { count: 1 } }",
+        "Find { source: \"a\", budget: Budget { facts: 1000000000 }, workers: Workers { count: 1 }, version: CertVersion { number: 1 } }",
     ),
     (
         "find a --workers 64",
-        "Find { source: \"a\", budget: Budget { facts: 100000 }, workers: Workers { count: 64 } }",
+        "Find { source: \"a\", budget: Budget { facts: 100000 }, workers: Workers { count: 64 }, version: CertVersion { number: 1 } }",
     ),
     (
         "find --workers 2 --budget 7 -",
-        "Find { source: \"-\", budget: Budget { facts: 7 }, workers: Workers { count: 2 } }",
+        "Find { source: \"-\", budget: Budget { facts: 7 }, workers: Workers { count: 2 }, version: CertVersion { number: 1 } }",
     ),
-    ("erase a", "Erase { source: \"a\" }"),
+    (
+        "find a --version 2",
+        "Find { source: \"a\", budget: Budget { facts: 100000 }, workers: Workers { count: 1 }, version: CertVersion { number: 2 } }",
+    ),
+    ("erase a", "Erase { source: \"a\", readable: false }"),
+    (
+        "erase a --readable",
+        "Erase { source: \"a\", readable: true }",
+    ),
     (
         "run a x=1 y=-2 --limit 0",
         "Run { source: \"a\", limit: RunLimit { steps: 0 }, erased: false, certs: None, schedule: None, values: [\"x=1\", \"y=-2\"] }",
@@ -90,6 +109,14 @@ const JOBS: &[(&str, &str)] = &[
         "explore --json --limit 1000000 --erased a",
         "Explore { source: \"a\", limit: MomentLimit { moments: 1000000 }, erased: true, json: true, ranges: [] }",
     ),
+    (
+        "expand a",
+        "Expand { template: \"a\", as_map: false, values: [] }",
+    ),
+    (
+        "expand - --map N=2 K=3",
+        "Expand { template: \"-\", as_map: true, values: [\"N=2\", \"K=3\"] }",
+    ),
     ("migrate c", "Migrate { certs: \"c\" }"),
 ];
 
@@ -120,6 +147,8 @@ const NO_JOBS: &[(&str, &str)] = &[
     ("explore a --limit 0", "wrong"),
     ("explore a --limit 1000001", "wrong"),
     ("explore a --workers 2", "wrong"),
+    ("expand", "wrong"),
+    ("expand a --json", "wrong"),
     ("migrate", "wrong"),
     ("verify a", "wrong"),
     ("--help", "asked"),

@@ -36,7 +36,8 @@ use Rattle.og_running.specs.Texts.{outcome_text, finish_status}
 use Rattle.og_running.specs.Asked.{IsNote}
 use Rattle.og_running.specs.Schedules.{IsSchedule}
 use Rattle.og_running.specs.declared.reply.Ran.{Ran}
-use Rattle.og_running.specs.Running.{given, note_of, IsQuiet, IsFaultTold, IsProven, StartsNot, EndsAsked, Tells, TellsProved, TellsJudged, IsRefusedOrJudged, IsRanProved, IsOfRun, Goes, Follows, IsStepped}
+use Rattle.og_running.specs.Running.{given, note_of, IsQuiet, IsFaultTold, IsProven, StartsNot, EndsAsked, Tells, TellsProved, TellsJudged, IsRefusedOrJudged, IsRanProved, IsOfRun, Goes}
+use Rattle.og_running.specs.Scheduled.{Follows, IsStepped}
 use Rattle.og_running.specs.declared.reply.Reply.{Reply}
 use Rattle.og_running.specs.declared.reply.Reply.TheVariants as replies
 

@@ -1,7 +1,7 @@
 -- Which assertion is false in a run, and where it stands.
 use Rattle.std.specs.Prelude.{◌≡◌, ℕ, ℤ, Bool, true, ◌==◌, List, length, Option, Some, None, IfSome, ⊤}
 use Rattle.og_typed.specs.Syntax.{Program}
-use Rattle.og_places.specs.Sites.{NoteSite, StatementSite, all_notes, all_statements}
+use Rattle.og_places.specs.Sites.{NoteSite, all_notes}
 use Rattle.og_places.specs.Seen.{IsOneOf}
 use Rattle.og_places.specs.declared.sites.Part.{Part}
 use Rattle.og_places.specs.declared.sites.Part.TheVariants as parts
@@ -22,13 +22,6 @@ pub record IsAssertionPlace (o : Program) (p : ℕ) (at : ℕ) : Type 0 where
   pub site : NoteSite
   pub one : IsOneOf (all_notes o) site
   pub there : site.note.at ≡ at
-  pub its : is_of (length o.processes) p site.part ≡ true
-
--- a statement of process p stands there
-pub record IsStatementPlace (o : Program) (p : ℕ) (at : ℕ) : Type 0 where
-  pub site : StatementSite
-  pub one : IsOneOf (all_statements o) site
-  pub there : site.piece.at ≡ at
   pub its : is_of (length o.processes) p site.part ≡ true
 
 -- the place that is told of a false assertion

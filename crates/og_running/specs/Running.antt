@@ -1,5 +1,5 @@
 -- What `run` answers, and in which order its faults come.
-use Rattle.std.specs.Prelude.{◌≡◌, ◌≢◌, ◌⊎◌, ℕ, ℤ, Bool, true, false, if◌then◌else◌, List, length, codes, Option, option_map, None, Some, IfSome, ⊤}
+use Rattle.std.specs.Prelude.{◌≡◌, ◌≢◌, ◌⊎◌, ℕ, ℤ, Bool, true, false, if◌then◌else◌, List, codes, Option, option_map, None, Some, ⊤}
 use Rattle.og_typed.specs.Syntax.{Program}
 use Rattle.og_typed.specs.Erase.{erased}
 use Rattle.og_theorem.specs.Sound.{IsSound, IsSoundErased}
@@ -23,10 +23,8 @@ use Rattle.og_answer.specs.Told.{Says, IsTold, IsUnread}
 use Rattle.og_answer.specs.declared.answer.Answer.{Answer}
 use Rattle.og_answer.specs.declared.fault.InputFault.{InputFault}
 use Rattle.og_running.specs.Words.{Give, IsBadIn}
-use Rattle.og_running.specs.Texts.{outcome_text, finish_status, not_made_line}
-use Rattle.og_running.specs.Schedules.{IsSchedule, number_of, history_of, IsFirstHindered}
-use Rattle.og_running.specs.Asked.{IsStatementPlace, IsNote}
-use Rattle.og_running.specs.declared.hindrance.Hindrance.{Hindrance}
+use Rattle.og_running.specs.Texts.{outcome_text, finish_status}
+use Rattle.og_running.specs.Asked.{IsNote}
 use Rattle.og_running.specs.declared.reply.Ran.{Ran}
 use Rattle.og_running.specs.declared.reply.Reply.{Reply}
 use Rattle.og_running.specs.declared.reply.Reply.TheVariants as replies
@@ -135,65 +133,3 @@ abbrev pub IsOfRun : Reply → Type 0
 IsOfRun (replies.Told ran) = (ran.answer.status ≡ 0) ⊎ ((ran.answer.status ≡ 1) × (ran.answer.text.items ≢ codes "not safe\n"))
 IsOfRun (replies.BadValue word) = ⊥
 IsOfRun (replies.NotMade line) = ⊥
-
--- ---- by a schedule
-
--- the run whose history is exactly these steps, or why there is none
-abbrev pub TellsSteps : List ℕ → Given → List ℕ → Ran → Type 0
-TellsSteps source g steps r = IsQuiet (StartsNot g) r ⊎ EndsAsked (λ outcome. outcome.history.items ≡ history_of g.outline steps) source g r
-
--- the line of a step that cannot be made
-pub record TellsHindrance (source : List ℕ) (o : Program) (made process : ℕ) (why : Hindrance) (line : List ℕ) : Type 0 where
-  pub place : Option ℕ
-  pub there : IfSome place (IsStatementPlace o (number_of o process))
-  pub told : line ≡ not_made_line source made process why place
-
--- of the first that cannot
-pub record TellsNotMade (source : List ℕ) (g : Given) (steps : List ℕ) (line : List ℕ) : Type 0 where
-  pub begins : start_fault g.outline g.values ≡ None
-  pub made : ℕ
-  pub process : ℕ
-  pub why : Hindrance
-  pub first : IsFirstHindered g steps made process why
-  pub told : TellsHindrance source g.outline made process why line
-
--- what comes of these steps
-abbrev pub IsStepped : List ℕ → Given → List ℕ → Reply → Type 0
-IsStepped source g steps (replies.Told ran) = TellsSteps source g steps ran
-IsStepped source g steps (replies.BadValue bad) = ⊥
-IsStepped source g steps (replies.NotMade line) = TellsNotMade source g steps line.items
-
--- of a word that gives steps: that run, or that line; else the word is told
-abbrev pub Follows : List ℕ → List ℕ → Program → List ℤ → Reply → Type 0
-Follows source word o values (replies.Told ran) = (steps : List ℕ) × IsSchedule word steps × TellsSteps source (given o values (length steps)) steps ran
-Follows source word o values (replies.BadValue bad) = (bad.now ≡ word) × ((steps : List ℕ) → IsSchedule word steps → ⊥)
-Follows source word o values (replies.NotMade line) =
-    (steps : List ℕ) × IsSchedule word steps × TellsNotMade source (given o values (length steps)) steps line.items
-
--- what comes of a schedule of the source's outline, with its auxiliaries or without them
-abbrev pub IsScheduled : Bool → List ℕ → List (List ℕ) → List ℕ → Reply → Type 0
-IsScheduled without_auxiliaries source words schedule r =
-    IsEarly source words r ⊎ Goes (λ o values reply. Follows source schedule (program_of without_auxiliaries o) values reply) source words r
-
--- ---- where a thread can be wanting
-
--- the source has an outline and each word gives a value, and P of them
-pub record Has (P : Program → List ℤ → Type 0) (source : List ℕ) (words : List (List ℕ)) : Type 0 where
-  pub outline : Program
-  pub values : List ℤ
-  pub read : IsSource source outline
-  pub given : Give outline words values
-  pub holds : P outline values
-
--- the values are a start of the source's outline, with its auxiliaries or without them
-abbrev pub HasStart : Bool → List ℕ → List (List ℕ) → Type 0
-HasStart without_auxiliaries source words =
-    Has (λ o values. start_fault (program_of without_auxiliaries o) values ≡ None) source words
-
--- the certificates prove the outline safe
-abbrev pub IsSafeBy : List ℕ → Program → Type 0
-IsSafeBy certs o = (entries : List Entry) × AreEntries certs o entries × (is_safe entries ≡ true)
-
--- the values are a start of the source's outline, which the certificates prove safe
-abbrev pub HasProvedStart : List ℕ → List ℕ → List (List ℕ) → Type 0
-HasProvedStart source certs words = Has (λ o values. IsSafeBy certs o × (start_fault o values ≡ None)) source words

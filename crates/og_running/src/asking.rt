@@ -1,7 +1,8 @@
 //! Which assertion is false in a run, and where it stands.
 
 ghost use Rattle.std.specs.Prelude.{◌≡◌, IfOk, IfErr, IfSome, Some, None, length, option_map};
-ghost use Rattle.og_running.specs.Asked.{is_of, IsAssertionPlace, IsStatementPlace, IsPlaceOf, IsNote};
+ghost use Rattle.og_running.specs.Asked.{is_of, IsAssertionPlace, IsPlaceOf, IsNote};
+ghost use Rattle.og_running.specs.Scheduled.{IsStatementPlace};
 
 use crate::lines::note_line;
 use og_linear::State;

@@ -14,3 +14,4 @@ mod words;
 pub use reply::{Ran, Reply};
 pub use running::{ran, ran_proved};
 pub use stepping::ran_by_schedule;
+pub use words::{WordsError, integer, number_of, values};

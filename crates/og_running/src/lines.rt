@@ -2,7 +2,8 @@
 
 ghost use Rattle.std.specs.Prelude.{◌≡◌, ◌++◌, ◌≤◌, ◌^◌, length, codes, OnOk, IfOk};
 ghost use Rattle.std.specs.Fmt.{decimal};
-ghost use Rattle.og_running.specs.Texts.{process_text, place_text, when_text, wrong_text, note_line, no_process_text, early_text, hindrance_text, not_made_line};
+ghost use Rattle.og_running.specs.Texts.{process_text, place_text, when_text, wrong_text, note_line};
+ghost use Rattle.og_running.specs.Lines.{no_process_text, early_text, hindrance_text, not_made_line};
 
 use crate::hindrance::Hindrance;
 use crate::outcome::printed_number;

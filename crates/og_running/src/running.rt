@@ -11,7 +11,8 @@ ghost use Rattle.og_judge.specs.Proven.{IsProvenSource};
 ghost use Rattle.og_judge.specs.Shown.{looked_at, found_of};
 ghost use Rattle.og_step.specs.Starts.{start_fault};
 ghost use Rattle.og_running.specs.Texts.{outcome_text, finish_status};
-ghost use Rattle.og_running.specs.Running.{given, program_of, fault_line, IsFaultTold, IsProven, IsQuiet, Tells, TellsProved, TellsJudged, IsRefusedOrJudged, IsRan, IsRanProved, IsOfRun, IsSafeBy, HasStart, HasProvedStart};
+ghost use Rattle.og_running.specs.Running.{given, program_of, fault_line, IsFaultTold, IsProven, IsQuiet, Tells, TellsProved, TellsJudged, IsRefusedOrJudged, IsRan, IsRanProved, IsOfRun};
+ghost use Rattle.og_running.specs.Starts.{IsSafeBy, HasStart, HasProvedStart};
 
 use crate::asking::{copy_of, note_on};
 use crate::outcome::{finish_status, outcome_text};

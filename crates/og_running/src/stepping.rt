@@ -4,9 +4,10 @@ ghost use Rattle.std.specs.Prelude.{◌≡◌, ◌≤◌, None, length, map, IfO
 ghost use Rattle.og_step.specs.Answered.{FailsAs};
 ghost use Rattle.og_step.specs.Starts.{start_fault};
 ghost use Rattle.og_running.specs.Schedules.{number_of, history_of, IsFirstHindered};
-ghost use Rattle.og_running.specs.Asked.{IsStatementPlace};
-ghost use Rattle.og_running.specs.Texts.{not_made_line};
-ghost use Rattle.og_running.specs.Running.{TellsHindrance, given, program_of, IsQuiet, StartsNot, EndsAsked, IsStepped, IsScheduled, Follows};
+ghost use Rattle.og_running.specs.Scheduled.{IsStatementPlace};
+ghost use Rattle.og_running.specs.Lines.{not_made_line};
+ghost use Rattle.og_running.specs.Scheduled.{TellsHindrance, IsStepped, IsScheduled, Follows};
+ghost use Rattle.og_running.specs.Running.{given, program_of, IsQuiet, StartsNot, EndsAsked};
 
 use crate::asking::{copy_of, first_false, statement_place};
 use crate::hindrance::Hindrance;

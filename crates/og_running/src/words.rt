@@ -10,7 +10,8 @@ use og_typed::Outline;
 use std::alloc::{AllocError, Global};
 
 /// Why words give no values.
-pub(crate) enum WordsError<'a> {
+#[derive(Clone, Copy, Debug, Drop, PartialEq, Eq)]
+pub enum WordsError<'a> {
     /// The first word that gives no variable a value.
     Bad(&'a str),
     /// An allocation was refused.
@@ -27,8 +28,9 @@ impl<'a> From<AllocError> for WordsError<'a> {
     }
 }
 
-// The number that a text writes: one digit or more, with or without one `-` before them.
-fn integer(text: &str) -> Option<i64>
+/// The number that a text writes: one digit or more, with or without one `-` before them; none
+/// where it writes none, or one that is no `i64`. Takes no memory.
+pub fn integer(text: &str) -> Option<i64>
     ensures some { IfSome result (IsInteger text.now) }
     ensures none { IsNone result → (z : ℤ) → IsInteger text.now z → ⊥ }
 {
@@ -38,8 +40,8 @@ fn integer(text: &str) -> Option<i64>
     text.parse::<i64>().ok()
 }
 
-// The number of a variable, by its name.
-fn number_of(names: &[Name], name: &str) -> Option<usize>
+/// The number of a variable, by its name. Takes no memory.
+pub fn number_of(names: &[Name], name: &str) -> Option<usize>
     ensures { result ≡ number_in names.now name.now }
 {
     names
@@ -109,9 +111,14 @@ fn state_of(alloc: Global, given: &[Option<i64>]) -> Result<State, AllocError>
     Ok(State::new(values))
 }
 
-/// The values that the words give to the variables that are no auxiliaries, in order; 0 where none
-/// does.
-pub(crate) fn values<'a>(
+/// The values that the words, each `NAME=INT`, give to the variables that are no auxiliaries, in
+/// order; 0 where none does.
+///
+/// # Errors
+///
+/// `Bad`, the first word that gives none: it has no `=`, its name is not declared, an auxiliary's or
+/// one that a word before it has, or its number is none. `Memory` where an allocation was refused.
+pub fn values<'a>(
     alloc: Global,
     outline: &Outline,
     words: &[&'a str],

@@ -1,11 +1,9 @@
 //! The certificate of a refutation: its facts get their numbers.
 
-use crate::bounds::Side;
-use crate::levels::{Place, TOP};
-use crate::linear::Linear;
 use crate::proof::{Case, Line, Multiple, Name, Tree};
 use crate::stop::Stop;
 use og_cert_text::{Cert, CertStep, Finish, Source, Term};
+use og_inequalities::{Inequality, Place, Side, TOP};
 use og_linear::{Form, FormError};
 use std::alloc::Global;
 
@@ -88,7 +86,7 @@ fn leaf_of(starts: &Starts, count: usize, lines: &[Line], end: &[Multiple]) -> R
     })
 }
 
-fn form_of(alloc: Global, row: &Linear) -> Result<Form, FormError> {
+fn form_of(alloc: Global, row: &Inequality) -> Result<Form, FormError> {
     let mut form = Form::constant(alloc, row.constant);
     for term in &row.terms {
         form.add_scaled(term.coefficient, &Form::variable(alloc, term.var)?)?;
@@ -97,7 +95,7 @@ fn form_of(alloc: Global, row: &Linear) -> Result<Form, FormError> {
 }
 
 // The form of a branch.
-fn branch_form(alloc: Global, row: &Linear) -> Result<Form, Stop> {
+fn branch_form(alloc: Global, row: &Inequality) -> Result<Form, Stop> {
     match form_of(alloc, row) {
         Ok(form) => Ok(form),
         Err(FormError::Memory) => Err(Stop::Memory),

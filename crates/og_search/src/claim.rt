@@ -1,11 +1,11 @@
 //! What a search claims.
 
 use crate::certificate::certificate;
-use crate::model::Model;
-use crate::part::Part;
 use crate::search::Search;
 use crate::stop::Stop;
 use og_cert_text::Cert;
+use og_choices::Part;
+use og_inequalities::Model;
 use std::alloc::{AllocError, Global};
 
 /// What a search ends with. Whoever relies on it has to check it.

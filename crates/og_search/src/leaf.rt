@@ -1,9 +1,13 @@
-//! The leaves of a refutation: one line for each row that its last row rests on.
+//! The leaves of a refutation. Sums of sums become one sum, so there are lines for divided rows
+//! alone; only where a multiplier is too large, there is one for each row that the last row rests on.
 
 use crate::proof::{Line, Multiple, Name, Proof, Tree};
-use crate::rows::{Origin, Rows, Summand};
 use crate::stop::Stop;
+use og_inequalities::{Origin, Rows, Summand};
 use std::alloc::AllocError;
+
+/// The greatest multiplier of a sum that takes the place of sums.
+const MOST_TIMES: u64 = 9_223_372_036_854_775_807;
 
 // The lines of a leaf, and the place of each row's line among them.
 #[derive(Drop)]
@@ -46,6 +50,122 @@ fn rows_needed(rows: &Rows, last: usize) -> Result<Vec<bool>, AllocError> {
     Ok(wanted)
 }
 
+// Adds so many times a sum to the multiples of rows. Tells whether all of them fit.
+fn add_shares(shares: &mut [u64], sum: &[Summand], times: u64) -> bool {
+    for part in sum {
+        let Some(place) = shares.get_mut(part.row) else {
+            return false;
+        };
+        let added = match part.times.checked_mul(times) {
+            Some(more) => place.checked_add(more),
+            None => None,
+        };
+        match added {
+            Some(share) if share <= MOST_TIMES => *place = share,
+            _ => return false,
+        }
+    }
+    true
+}
+
+// The row as a sum of rows that are no sums; none where a multiplier is too large.
+fn flattened(rows: &Rows, last: usize) -> Result<Option<Vec<Summand>>, AllocError> {
+    let count = last.saturating_add(1);
+    let mut shares = vec![in rows.alloc(); 0; count]?;
+    if let Some(place) = shares.get_mut(last) {
+        *place = 1;
+    }
+    let mut flat = Vec::new(rows.alloc());
+    for row in (0..count).rev() {
+        let times = shares.get(row).copied().unwrap_or(0);
+        match rows.origin(row) {
+            _ if times == 0 => {}
+            Some(Origin::Sum(sum)) => {
+                if !add_shares(&mut shares, sum, times) {
+                    return Ok(None);
+                }
+            }
+            _ => flat.push(Summand { times, row })?,
+        }
+    }
+    flat.reverse();
+    Ok(Some(flat))
+}
+
+// A divided row, and the row that it divides as a sum of rows that are no sums.
+#[derive(Drop)]
+struct Divided {
+    row: usize,
+    divisor: i128,
+    sum: Vec<Summand>,
+}
+
+// The divided row of this number, if it is one; none as a sum where a multiplier is too large.
+fn divided_row(rows: &Rows, row: usize) -> Result<Option<Divided>, Stop> {
+    let Some(
+        Origin::Cut {
+            row: source,
+            divisor,
+        },
+    ) = rows.origin(row)
+    else {
+        return Ok(None);
+    };
+    let divisor = *divisor;
+    let sum = flattened(rows, *source)?.ok_or(Stop::Size)?;
+    Ok(Some(Divided { row, divisor, sum }))
+}
+
+// Marks the rows of a sum.
+fn mark_all(wanted: &mut [bool], sum: &[Summand]) {
+    for part in sum {
+        mark(wanted, part.row);
+    }
+}
+
+// The divided rows on which a sum rests, the last one first.
+fn divided_rows(rows: &Rows, sum: &[Summand]) -> Result<Vec<Divided>, Stop> {
+    let mut wanted = vec![in rows.alloc(); false; rows.len()]?;
+    mark_all(&mut wanted, sum);
+    let mut found = Vec::new(rows.alloc());
+    for row in (0..rows.len()).rev() {
+        if wanted.get(row) == Some(&true) {
+            if let Some(one) = divided_row(rows, row)? {
+                mark_all(&mut wanted, &one.sum);
+                found.push(one)?;
+            }
+        }
+    }
+    Ok(found)
+}
+
+// The leaf with lines for divided rows alone; none where a multiplier is too large.
+fn short_leaf(rows: &Rows, last: usize) -> Result<Option<Proof>, Stop> {
+    let Some(sum) = flattened(rows, last)? else {
+        return Ok(None);
+    };
+    match lines_for(rows, &sum) {
+        Ok(lines) => {
+            let end = lines.multiples(&sum)?;
+            Ok(Some(proof_of(rows, last, lines, end)))
+        }
+        Err(Stop::Size) => Ok(None),
+        Err(stop) => Err(stop),
+    }
+}
+
+// The lines of the divided rows on which a sum rests.
+fn lines_for<'a>(rows: &'a Rows, sum: &[Summand]) -> Result<Lines<'a>, Stop> {
+    if is_plain(rows, sum) {
+        return Ok(Lines::empty(rows));
+    }
+    let mut lines = Lines::new(rows)?;
+    for one in divided_rows(rows, sum)?.iter().rev() {
+        lines.add_divided(one)?;
+    }
+    Ok(lines)
+}
+
 impl<'a> Lines<'a> {
     fn new(rows: &'a Rows) -> Result<Lines<'a>, AllocError> {
         Ok(Lines {
@@ -53,6 +173,15 @@ impl<'a> Lines<'a> {
             lines: Vec::new(rows.alloc()),
             places: vec![in rows.alloc(); 0; rows.len()]?,
         })
+    }
+
+    // No lines, where no row needs one.
+    fn empty(rows: &'a Rows) -> Lines<'a> {
+        Lines {
+            rows,
+            lines: Vec::new(rows.alloc()),
+            places: Vec::new(rows.alloc()),
+        }
     }
 
     // The name of a row: of what it is, or of its line.
@@ -70,7 +199,7 @@ impl<'a> Lines<'a> {
     fn multiples(&self, sum: &[Summand]) -> Result<Vec<Multiple>, Stop> {
         let mut multiples = Vec::with_capacity(self.rows.alloc(), sum.len())?;
         for part in sum {
-            let times = u64::try_from(part.times).ok().ok_or(Stop::Stuck)?;
+            let times = part.times;
             let name = self.name(part.row);
             multiples.push(Multiple { times, name })?;
         }
@@ -93,11 +222,38 @@ impl<'a> Lines<'a> {
     // Adds the line of a row, if it has one, and notes where that stands.
     fn add(&mut self, row: usize) -> Result<(), Stop> {
         if let Some(line) = self.line(row)? {
-            if let Some(place) = self.places.get_mut(row) {
-                *place = self.lines.len();
-            }
+            self.note(row);
             self.lines.push(line)?;
         }
+        Ok(())
+    }
+
+    // Notes that the next line is that of the row.
+    fn note(&mut self, row: usize) {
+        if let Some(place) = self.places.get_mut(row) {
+            *place = self.lines.len();
+        }
+    }
+
+    // The name of a sum, by a line of its own where it is more than one row.
+    fn name_of_sum(&mut self, sum: &[Summand]) -> Result<Name, Stop> {
+        if let [only] = sum {
+            if only.times == 1 {
+                return Ok(self.name(only.row));
+            }
+        }
+        let name = Name::Line(self.lines.len());
+        let line = Line::Sum(self.multiples(sum)?);
+        self.lines.push(line)?;
+        Ok(name)
+    }
+
+    // Adds the line of a divided row, and that of the sum that it divides.
+    fn add_divided(&mut self, one: &Divided) -> Result<(), Stop> {
+        let divisor = u64::try_from(one.divisor).ok().ok_or(Stop::Stuck)?;
+        let name = self.name_of_sum(&one.sum)?;
+        self.note(one.row);
+        self.lines.push(Line::Cut { name, divisor })?;
         Ok(())
     }
 
@@ -113,8 +269,38 @@ impl<'a> Lines<'a> {
     }
 }
 
+// Whether each row of the sum is a fact or a bound, and none needs a line.
+fn is_plain(rows: &Rows, sum: &[Summand]) -> bool {
+    sum.iter().all(|part| {
+        matches!(
+            rows.origin(part.row),
+            Some(Origin::Given(_) | Origin::Range { .. })
+        )
+    })
+}
+
+// Whether the row needs no line of other rows.
+fn is_alone(rows: &Rows, row: usize) -> bool {
+    match rows.origin(row) {
+        Some(Origin::Sum(sum)) => is_plain(rows, sum),
+        Some(Origin::Given(_)) => true,
+        _ => false,
+    }
+}
+
 /// The leaf that ends with this row, a constant above 0.
 pub(crate) fn leaf(rows: &Rows, last: usize) -> Result<Proof, Stop> {
+    if is_alone(rows, last) {
+        return leaf_of(rows, last, Lines::empty(rows));
+    }
+    match short_leaf(rows, last)? {
+        Some(proof) => Ok(proof),
+        None => long_leaf(rows, last),
+    }
+}
+
+// The leaf with a line for each row.
+fn long_leaf(rows: &Rows, last: usize) -> Result<Proof, Stop> {
     let wanted = rows_needed(rows, last)?;
     let mut lines = Lines::new(rows)?;
     for (row, is_wanted) in wanted.iter().take(last).enumerate() {
@@ -122,12 +308,21 @@ pub(crate) fn leaf(rows: &Rows, last: usize) -> Result<Proof, Stop> {
             lines.add(row)?;
         }
     }
+    leaf_of(rows, last, lines)
+}
+
+// The leaf that ends with this row after these lines.
+fn leaf_of(rows: &Rows, last: usize, lines: Lines) -> Result<Proof, Stop> {
     let end = lines.closing(last)?;
-    Ok(Proof {
+    Ok(proof_of(rows, last, lines, end))
+}
+
+fn proof_of(rows: &Rows, last: usize, lines: Lines, end: Vec<Multiple>) -> Proof {
+    Proof {
         used: rows.used(last),
         tree: Tree::Leaf {
             lines: lines.lines,
             end,
         },
-    })
+    }
 }

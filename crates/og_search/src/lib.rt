@@ -4,27 +4,14 @@
 //! It knows nothing of conditions: the facts are put together by `Part`.
 #![tactic(auto)]
 
-mod bounds;
 mod certificate;
 mod claim;
-mod counts;
-mod eliminate;
+mod closing;
 mod leaf;
-mod levels;
-mod likeness;
-mod linear;
-mod model;
-mod narrow;
-mod open;
-mod part;
-mod plan;
 mod proof;
-mod rows;
 mod search;
 mod stop;
-mod values;
-mod working;
 
 pub use claim::{Claim, search_among};
-pub use model::Model;
-pub use part::Part;
+pub use og_choices::Part;
+pub use og_inequalities::Model;

@@ -1,8 +1,6 @@
 //! What a search found, before the facts have their numbers.
 
-use crate::bounds::Side;
-use crate::levels::{Levels, Place};
-use crate::linear::Linear;
+use og_inequalities::{Inequality, Levels, Place, Side};
 
 /// A fact, an end of the range of `i64`, or a line of the same leaf.
 #[derive(Clone, Copy)]
@@ -68,7 +66,7 @@ pub(crate) struct Case {
 #[derive(Drop)]
 pub(crate) struct Sides {
     pub(crate) level: u32,
-    pub(crate) form: Linear,
+    pub(crate) form: Inequality,
     pub(crate) first: Tree,
     pub(crate) second: Tree,
 }

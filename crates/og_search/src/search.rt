@@ -1,18 +1,15 @@
 //! The search: it takes in facts, closes or picks a choice, and goes into each part.
 
-use crate::bounds::Bounds;
-use crate::eliminate::{Outcome, Problem, Ranges, eliminate};
+use crate::closing::closing;
 use crate::leaf::leaf;
-use crate::levels::{Levels, Place, TOP};
-use crate::linear::{Linear, Term};
-use crate::model::Model;
-use crate::narrow::{close_within, narrow, note_bound};
-use crate::open::{Open, View, all_hold, common_to_choice, forced, weight};
-use crate::part::Part;
 use crate::proof::{Case, Proof, Sides, Tree};
-use crate::rows::{Added, Origin, Rows};
 use crate::stop::{Halt, Stop};
-use crate::values::Gap;
+use og_choices::{
+    Against, Atom, Chains, Choice, Clash, Facts, Index, Open, Part, Reach, View, all_hold,
+    common_to_choice, forced, weight,
+};
+use og_elimination::{Gap, Outcome, Problem, Ranges, close_within, eliminate, narrow, note_bound};
+use og_inequalities::{Added, Bounds, Inequality, Levels, Model, Origin, Place, Rows, TOP, Term};
 use std::alloc::{AllocError, Global};
 
 /// Below this level a choice is taken only where it is false of the values.
@@ -30,7 +27,7 @@ enum Entry<'a> {
     // Those of a part.
     Part(&'a Part),
     // One side of a branch.
-    Side(Linear),
+    Side(Inequality),
 }
 
 // What is done at a level that finds no contradiction.
@@ -39,7 +36,10 @@ enum Decision {
     // It goes into the parts of this choice.
     Split(usize),
     // It goes into both sides of the form, and on the second into a choice, if it tells one.
-    Branch { form: Linear, next: Option<usize> },
+    Branch {
+        form: Inequality,
+        next: Option<usize>,
+    },
 }
 
 /// A search among the facts of a condition.
@@ -50,8 +50,12 @@ pub(crate) struct Search<'a> {
     rows: Rows,
     // The rows of the facts on the path.
     base: Vec<usize>,
+    // Those of several variables.
+    index: Index,
     // The choices on the path.
     open: Vec<Open<'a>>,
+    // Their marks.
+    marks: Chains,
     // The values that were tried last.
     model: Model,
     // The choice to be taken next, whatever the values.
@@ -71,7 +75,9 @@ impl<'a> Search<'a> {
             variables,
             rows: Rows::new(alloc, budget),
             base: Vec::new(alloc),
+            index: Index::new(alloc)?,
             open: Vec::new(alloc),
+            marks: Chains::new(alloc)?,
             model: Model::new(alloc, variables as usize)?,
             next: None,
             room: MOST,
@@ -92,62 +98,121 @@ impl<'a> Search<'a> {
         }
     }
 
+    fn facts<'v>(&'v self, bounds: &'v Bounds) -> Facts<'v> {
+        Facts {
+            rows: &self.rows,
+            base: &self.base,
+            index: &self.index,
+            bounds,
+        }
+    }
+
+    // A choice each of whose parts is at odds with what is known.
+    fn refuted(&self, bounds: &Bounds, reach: Reach) -> Option<usize> {
+        self.facts(bounds).refuted(&self.open, reach)
+    }
+
     // Adds a fact as a row.
-    fn take_atom(&mut self, form: Linear, place: Place, bounds: &mut Bounds) -> Result<(), Halt> {
-        match self.rows.add(form, Origin::Given(place))? {
+    fn take_atom(
+        &mut self,
+        form: Inequality,
+        place: Place,
+        bounds: &mut Bounds,
+    ) -> Result<(), Halt> {
+        match self.rows.add_fact(form, place)? {
             Added::Nothing => Ok(()),
             Added::Row(row) => {
                 self.base.push(row)?;
-                note_bound(&mut self.rows, row, bounds)
+                self.index.put(&self.rows, row)?;
+                note_bound(&mut self.rows, row, bounds)?;
+                Ok(())
             }
         }
     }
 
-    fn take_atoms(&mut self, part: &Part, level: u32, bounds: &mut Bounds) -> Result<(), Halt> {
-        for atom in &part.atoms {
-            let index = atom.index;
-            self.take_atom(atom.form.copy()?, Place { level, index }, bounds)?;
+    // Whether a fact says as much as the inequality, or a row that is a sum of one.
+    fn is_known(&self, atom: &Atom, bounds: &Bounds) -> bool {
+        if atom.form.terms.len() == 1 {
+            let row = bounds.implied_by(&atom.form);
+            return matches!(row, Some(row) if self.rows.is_fact(row));
         }
-        Ok(())
+        match atom.direction {
+            Some(direction) => self.index.implies(&self.rows, &atom.form, direction),
+            None => false,
+        }
     }
 
-    fn take_choices(&mut self, part: &'a Part, level: u32) -> Result<(), AllocError> {
-        for choice in &part.choices {
-            let index = choice.index;
-            self.open.push(Open {
-                place: Place { level, index },
-                parts: &choice.parts,
-                size: choice.size,
-                is_taken: false,
-            })?;
+    // Takes in the inequalities of a part that are not known. Tells how many.
+    fn take_atoms(&mut self, part: &Part, level: u32, bounds: &mut Bounds) -> Result<usize, Halt> {
+        let mut taken = 0usize;
+        for atom in &part.atoms {
+            if !self.is_known(atom, bounds) {
+                let index = atom.index;
+                self.take_atom(atom.form.copy()?, Place { level, index }, bounds)?;
+                taken = taken.saturating_add(1);
+            }
         }
-        Ok(())
+        Ok(taken)
+    }
+
+    // Whether an equal choice is on the path.
+    fn is_open(&self, choice: &Choice) -> bool {
+        self.marks.walk(choice.mark).step().is_some()
+    }
+
+    // Takes in the choices of a part that are not on the path. Tells how many.
+    fn take_choices(&mut self, part: &'a Part, level: u32) -> Result<usize, AllocError> {
+        let mut taken = 0usize;
+        for choice in &part.choices {
+            if !self.is_open(choice) {
+                let index = choice.index;
+                self.marks.put(choice.mark, index)?;
+                self.open.push(Open {
+                    place: Place { level, index },
+                    parts: &choice.parts,
+                    size: choice.size,
+                    is_taken: false,
+                })?;
+                taken = taken.saturating_add(1);
+            }
+        }
+        Ok(taken)
     }
 
     // Takes a step for a level, and one for each 1,000 facts that are looked through there.
     fn spend_level(&mut self) -> Result<(), Stop> {
         let thousands = (weight(&self.open) / 1000) as u64;
-        self.rows.spend(thousands.saturating_add(1))
+        self.rows.spend(thousands.saturating_add(1))?;
+        Ok(())
     }
 
     // Takes a step for each 10,000 looks at a fact or a row, where each choice is looked into.
     fn spend_looks(&mut self) -> Result<(), Stop> {
         let looks = weight(&self.open).saturating_add(self.base.len());
         let all = self.open.len().saturating_mul(looks);
-        self.rows.spend((all / 10_000) as u64)
+        self.rows.spend((all / 10_000) as u64)?;
+        Ok(())
     }
 
-    // Takes in the facts of a level, one step for each fact of a part.
+    // Takes a step for each fact of a part that was taken in, and for each 16 others.
+    fn spend_facts(&mut self, part: &Part, taken: usize) -> Result<(), Stop> {
+        let others = part.count.saturating_sub(taken) / 16;
+        self.rows.spend(taken.saturating_add(others) as u64)?;
+        Ok(())
+    }
+
+    // Takes in the facts of a level.
     fn take_in(&mut self, entry: Entry<'a>, level: u32, bounds: &mut Bounds) -> Result<(), Halt> {
         self.spend_level()?;
         match entry {
             Entry::Side(form) => self.take_atom(form, Place { level, index: 0 }, bounds),
             Entry::Part(part) => {
+                let choices = self.take_choices(part, level)?;
+                let atoms = self.take_atoms(part, level, bounds)?;
                 if level < TOP {
-                    self.rows.spend(part.count as u64)?;
+                    self.spend_facts(part, choices.saturating_add(atoms))?;
                 }
-                self.take_choices(part, level)?;
-                self.take_atoms(part, level, bounds)
+                Ok(())
             }
         }
     }
@@ -160,12 +225,24 @@ impl<'a> Search<'a> {
         Ok(())
     }
 
-    // Takes in the facts of a level and the bounds that follow.
-    fn begin(&mut self, entry: Entry<'a>, level: u32, bounds: &mut Bounds) -> Result<(), Halt> {
+    // Takes in the facts of a level, and tells what is done there: above all choices first without
+    // the bounds that follow.
+    fn begin(
+        &mut self,
+        entry: Entry<'a>,
+        level: u32,
+        bounds: &mut Bounds,
+    ) -> Result<Decision, Halt> {
         let from = self.base.len();
         self.take_in(entry, level, bounds)?;
         self.close_new(from, bounds)?;
-        narrow(&mut self.rows, &self.base, bounds)
+        if level == TOP {
+            if let Some(i) = self.refuted(bounds, Reach::Rows) {
+                return Ok(Decision::Split(i));
+            }
+        }
+        narrow(&mut self.rows, &self.base, bounds)?;
+        self.go_on(level, bounds)
     }
 
     // Eliminates all variables, and keeps no row of it but where there is a contradiction.
@@ -222,7 +299,7 @@ impl<'a> Search<'a> {
         };
         let constant = gap.most.checked_neg().ok_or(Stop::Stuck)?;
         Ok(Decision::Branch {
-            form: Linear::single(self.alloc, term, constant)?,
+            form: Inequality::single(self.alloc, term, constant)?,
             next: None,
         })
     }
@@ -239,6 +316,10 @@ impl<'a> Search<'a> {
     // What is done at a level whose facts were taken in.
     fn go_on(&mut self, level: u32, bounds: &Bounds) -> Result<Decision, Halt> {
         if let Some(i) = self.next.take() {
+            return Ok(Decision::Split(i));
+        }
+        let reach = Reach::of_level(level);
+        if let Some(i) = self.refuted(bounds, reach) {
             return Ok(Decision::Split(i));
         }
         if level > EAGER_LEVEL {
@@ -261,12 +342,17 @@ impl<'a> Search<'a> {
         Some(*open)
     }
 
-    // The leaf that closes with this row.
-    fn close(&mut self, row: usize) -> Result<Proof, Stop> {
-        let proof = leaf(&self.rows, row)?;
+    // The leaf, if there is room for it.
+    fn keep(&mut self, proof: Proof) -> Result<Proof, Stop> {
         let room = self.room.checked_sub(proof.tree.size());
         self.room = room.ok_or(Stop::Size)?;
         Ok(proof)
+    }
+
+    // The leaf that closes with this row.
+    fn close(&mut self, row: usize) -> Result<Proof, Stop> {
+        let proof = leaf(&self.rows, row)?;
+        self.keep(proof)
     }
 
     // What comes of a level whose work was halted.
@@ -280,11 +366,114 @@ impl<'a> Search<'a> {
         }
     }
 
+    // Adds the inequality of a clash, and the sum that shows it.
+    fn meet(&mut self, clash: Clash, level: u32, bounds: &Bounds) -> Result<(), Halt> {
+        let index = clash.atom.index;
+        let form = clash.atom.form.copy()?;
+        let added = self.rows.add_fact(form, Place { level, index })?;
+        if let Added::Row(row) = added {
+            match clash.against {
+                Against::Bounds => self.rows.add_with_bounds(row, None, bounds)?,
+                Against::Row(other) => self.rows.add_pair(other, row, bounds)?,
+            };
+        }
+        Ok(())
+    }
+
+    // The leaf of a part with a clash, if its sum is a contradiction.
+    fn close_clash(
+        &mut self,
+        clash: Clash,
+        level: u32,
+        bounds: &Bounds,
+    ) -> Result<Option<Proof>, Stop> {
+        let index = clash.atom.index;
+        if let Some(proof) = closing(&self.rows, bounds, clash, Place { level, index })? {
+            self.rows.spend(1)?;
+            return Ok(Some(self.keep(proof)?));
+        }
+        let mark = self.rows.len();
+        let met = self.meet(clash, level, bounds);
+        let proof = match met {
+            Ok(()) => None,
+            Err(halt) => Some(self.halted(halt)?),
+        };
+        self.rows.forget(mark);
+        Ok(proof)
+    }
+
+    // The refutation of a part that is at odds with what is known, or a choice of which is.
+    #[cycle(once)]
+    fn at_once(
+        &mut self,
+        part: &Part,
+        level: u32,
+        bounds: &Bounds,
+        reach: Reach,
+    ) -> Result<Option<Proof>, Stop> {
+        if let Some(clash) = self.facts(bounds).clash(part, reach) {
+            self.rows.spend((part.count as u64).saturating_add(1))?;
+            return self.close_clash(clash, level, bounds);
+        }
+        for choice in &part.choices {
+            if self.facts(bounds).are_shut(&choice.parts, reach) {
+                return self.split_at_once(choice, level, bounds, reach);
+            }
+        }
+        Ok(None)
+    }
+
+    // The refutation of a choice of a part at this level, if it is found at once.
+    #[cycle(once)]
+    fn split_at_once(
+        &mut self,
+        choice: &Choice,
+        level: u32,
+        bounds: &Bounds,
+        reach: Reach,
+    ) -> Result<Option<Proof>, Stop> {
+        let index = choice.index;
+        let below = level.checked_sub(1).ok_or(Stop::Stuck)?;
+        let mut used = Levels::one(level);
+        let mut cases = Vec::with_capacity(self.alloc, choice.parts.len())?;
+        for part in &choice.parts {
+            let Some(proof) = self.at_once(part, below, bounds, reach)? else {
+                return Ok(None);
+            };
+            used = used.union(proof.used.without(below));
+            cases.push(Case {
+                level: below,
+                count: part.count,
+                tree: proof.tree,
+            })?;
+        }
+        Ok(Some(Proof {
+            used,
+            tree: Tree::Split {
+                choice: Place { level, index },
+                cases,
+            },
+        }))
+    }
+
+    // Refutes a part: at once, or by a level of its own.
+    #[cycle(search)]
+    fn refute_part(&mut self, part: &'a Part, level: u32, bounds: &Bounds) -> Result<Proof, Stop> {
+        let reach = Reach::of_level(level.saturating_add(1));
+        if let Some(proof) = self.at_once(part, level, bounds, reach)? {
+            return Ok(proof);
+        }
+        self.at_level(level, Entry::Part(part), bounds)
+    }
+
     // Searches at a level, and leaves the path as it was.
     #[cycle(search)]
     fn at_level(&mut self, level: u32, entry: Entry<'a>, bounds: &Bounds) -> Result<Proof, Stop> {
         let (rows, base, open) = (self.rows.len(), self.base.len(), self.open.len());
+        let (index, marks) = (self.index.len(), self.marks.len());
         let proof = self.refute(level, entry, bounds)?;
+        self.index.forget(index);
+        self.marks.forget(marks);
         self.rows.forget(rows);
         self.base.truncate(base);
         self.open.truncate(open);
@@ -294,14 +483,14 @@ impl<'a> Search<'a> {
     #[cycle(search)]
     fn refute(&mut self, level: u32, entry: Entry<'a>, bounds: &Bounds) -> Result<Proof, Stop> {
         let mut own = bounds.copy()?;
-        if let Err(halt) = self.begin(entry, level, &mut own) {
-            return self.halted(halt);
-        }
+        let decision = match self.begin(entry, level, &mut own) {
+            Ok(decision) => decision,
+            Err(halt) => return self.halted(halt),
+        };
         let below = level.checked_sub(1).ok_or(Stop::Stuck)?;
-        match self.go_on(level, &own) {
-            Ok(Decision::Split(i)) => self.split(below, i, &own),
-            Ok(Decision::Branch { form, next }) => self.branch(below, form, next, &own),
-            Err(halt) => self.halted(halt),
+        match decision {
+            Decision::Split(i) => self.split(below, i, &own),
+            Decision::Branch { form, next } => self.branch(below, form, next, &own),
         }
     }
 
@@ -312,7 +501,7 @@ impl<'a> Search<'a> {
         let mut used = Levels::one(choice.place.level);
         let mut cases = Vec::with_capacity(self.alloc, choice.parts.len())?;
         for part in choice.parts {
-            let proof = self.at_level(below, Entry::Part(part), bounds)?;
+            let proof = self.refute_part(part, below, bounds)?;
             if !proof.used.has(below) {
                 self.set_taken(i, false);
                 return Ok(proof);
@@ -339,7 +528,7 @@ impl<'a> Search<'a> {
     fn branch(
         &mut self,
         below: u32,
-        form: Linear,
+        form: Inequality,
         next: Option<usize>,
         bounds: &Bounds,
     ) -> Result<Proof, Stop> {

@@ -1,5 +1,6 @@
 //! Why a search ends without a certificate, and what ends the work on its rows.
 
+use og_inequalities::{AddError, RowError};
 use std::alloc::{AllocError, AllocFailed};
 
 /// Why a search ends.
@@ -29,6 +30,15 @@ impl<T: Drop> From<AllocFailed<T>> for Stop {
     }
 }
 
+impl From<RowError> for Stop {
+    fn from(error: RowError) -> Stop {
+        match error {
+            RowError::Memory => Stop::Memory,
+            RowError::Budget => Stop::Budget,
+        }
+    }
+}
+
 /// What ends the work on the rows of a level.
 #[derive(Clone, Copy)]
 pub(crate) enum Halt {
@@ -53,5 +63,21 @@ impl From<AllocError> for Halt {
 impl<T: Drop> From<AllocFailed<T>> for Halt {
     fn from(_: AllocFailed<T>) -> Halt {
         Halt::Stop(Stop::Memory)
+    }
+}
+
+impl From<RowError> for Halt {
+    fn from(error: RowError) -> Halt {
+        Halt::Stop(Stop::from(error))
+    }
+}
+
+impl From<AddError> for Halt {
+    fn from(error: AddError) -> Halt {
+        match error {
+            AddError::Contradiction(row) => Halt::Contradiction(row),
+            AddError::Memory => Halt::Stop(Stop::Memory),
+            AddError::Budget => Halt::Stop(Stop::Budget),
+        }
     }
 }

@@ -52,9 +52,5 @@ erase_rest n (head ∷ rest) = if is_aux_assign n head.1 then erase_rest n rest 
 
 -- the moment of the erased program: the vars alone, and the rests without what is erased
 abbrev pub project : ℕ → Moment → Moment
-project n m = record {
-  state = take n m.state;
-  prologue = erase_rest n m.prologue;
-  rests = map (erase_rest n) m.rests;
-  epilogue = erase_rest n m.epilogue;
-}
+project n m =
+    record { state = take n m.state; prologue = erase_rest n m.prologue; rests = map (erase_rest n) m.rests; epilogue = erase_rest n m.epilogue }

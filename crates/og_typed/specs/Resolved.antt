@@ -107,12 +107,8 @@ number scope use_of name = number_as (number_in scope.names name.name) scope use
 -- a number, and what it counts: 1 or a variable
 abbrev pub factor : Scope → Use → RawFactor → Checked (ℕ × FormValue)
 factor scope use_of (factors.Number n) = Ok (n, form_value [] (pos 1))
-factor scope use_of (factors.Variable name) = do
-  x ← number scope use_of name
-  Ok (1, variable x)
-factor scope use_of (factors.Product n name) = do
-  x ← number scope use_of name
-  Ok (n, variable x)
+factor scope use_of (factors.Variable name) = number scope use_of name >>= λ x. Ok (1, variable x)
+factor scope use_of (factors.Product n name) = number scope use_of name >>= λ x. Ok (n, variable x)
 
 -- the form so far, with the terms added from left to right
 abbrev pub sum_from : Scope → Use → FormValue → List RawTerm → Checked FormValue
@@ -167,9 +163,7 @@ abbrev mutual
   assertions scope use_of (tree.more a others) = assertion scope use_of a >>= λ b. assertions scope use_of others >>= λ bs. Ok (more b bs)
 
 abbrev pub note : Scope → Use → tree.Note → Checked Noted
-note scope use_of n = do
-  a ← assertion scope use_of n.value
-  Ok (record { assertion = a; at = n.place.start })
+note scope use_of n = assertion scope use_of n.value >>= λ a. Ok (record { assertion = a; at = n.place.start })
 
 -- ---- statements
 
@@ -181,10 +175,7 @@ right_side scope x sum = do
 
 abbrev pub simple : Scope → tree.Basic → Checked Simple
 simple scope tree.Skip = Ok Pass
-simple scope (tree.Assign name sum) = do
-  x ← number scope Free name
-  form ← right_side scope x sum
-  Ok (Set x form)
+simple scope (tree.Assign name sum) = number scope Free name >>= λ x. right_side scope x sum >>= λ form. Ok (Set x form)
 
 -- the elements of an await: at most 64
 abbrev pub elements : Scope → List (Placed tree.Basic) → Checked (List Simple)
@@ -230,17 +221,7 @@ outline_in scope values outline = do
   all ← processes scope outline.processes
   epilogue ← part scope outline.epilogue
   post ← note scope Outer outline.post
-  Ok (record {
-    names = scope.names;
-    vars = scope.vars;
-    aux_values = values;
-    pre = pre;
-    prologue = prologue;
-    processes = all;
-    epilogue = epilogue;
-    post = post;
-    cobegin_at = outline.cobegin.start;
-  })
+  Ok (record { names = scope.names; vars = scope.vars; aux_values = values; pre = pre; prologue = prologue; processes = all; epilogue = epilogue; post = post; cobegin_at = outline.cobegin.start })
 
 -- the outline of a tree
 abbrev pub resolved : tree.Outline → Checked Program

@@ -19,6 +19,10 @@ flag name = record (new_rule name) { long = Some name; action = Some SetTrue }
 abbrev pub number : Text → Text → ValueParser → Rule
 number name default within = record (new_rule name) { long = Some name; value_names = 1; defaults = default ∷ []; parser = Some within }
 
+-- `--smt2`, which does not go with `--triples`
+abbrev pub smt2_flag : Rule
+smt2_flag = record (flag (codes "smt2")) { is_free = false }
+
 -- `--certs FILE`, which does not go with `--erased`
 abbrev pub certs_option : Rule
 certs_option = record (new_rule (codes "certs")) { long = Some (codes "certs"); value_names = 1; is_free = false }
@@ -31,7 +35,7 @@ schedule_option = record (new_rule (codes "schedule")) { long = Some (codes "sch
 abbrev pub words : Text → Rule
 words form = record (new_rule form) { action = Some Append; range = Some (record { start_inclusive = 0; end_inclusive = usize_max }) }
 
--- variables with a value each
+-- variables or constants with a value each
 abbrev pub values : Rule
 values = words (codes "NAME=INT")
 
@@ -42,6 +46,9 @@ ranges = words (codes "NAME=INT|LO..HI")
 abbrev pub source : Rule
 source = word (codes "SOURCE")
 
+abbrev pub template : Rule
+template = word (codes "TEMPLATE")
+
 abbrev pub certs : Rule
 certs = word (codes "CERTS")
 
@@ -50,6 +57,9 @@ workers = number (codes "workers") (codes "1") (Signed (pos 1) (pos 64))
 
 abbrev pub budget : Rule
 budget = number (codes "budget") (codes "100000") (Unsigned 1 1000000000)
+
+abbrev pub version : Rule
+version = number (codes "version") (codes "1") (Signed (pos 1) (pos 2))
 
 abbrev pub limit : Rule
 limit = number (codes "limit") (codes "1000") (Signed (pos 0) (pos 1000000))
@@ -68,13 +78,13 @@ abbrev pub check : Shape
 check = command (codes "check") (source ∷ certs ∷ workers ∷ flag (codes "json") ∷ [])
 
 abbrev pub conditions : Shape
-conditions = command (codes "conditions") (source ∷ [])
+conditions = command (codes "conditions") (source ∷ flag (codes "triples") ∷ smt2_flag ∷ [])
 
 abbrev pub finder : Shape
-finder = command (codes "find") (source ∷ budget ∷ workers ∷ [])
+finder = command (codes "find") (source ∷ budget ∷ workers ∷ version ∷ [])
 
 abbrev pub erase : Shape
-erase = command (codes "erase") (source ∷ [])
+erase = command (codes "erase") (source ∷ flag (codes "readable") ∷ [])
 
 abbrev pub run : Shape
 run = command (codes "run") (source ∷ limit ∷ flag (codes "erased") ∷ certs_option ∷ schedule_option ∷ values ∷ [])
@@ -82,12 +92,19 @@ run = command (codes "run") (source ∷ limit ∷ flag (codes "erased") ∷ cert
 abbrev pub explorer : Shape
 explorer = command (codes "explore") (source ∷ moments ∷ flag (codes "erased") ∷ flag (codes "json") ∷ ranges ∷ [])
 
+abbrev pub expander : Shape
+expander = command (codes "expand") (template ∷ flag (codes "map") ∷ values ∷ [])
+
 abbrev pub migrate : Shape
 migrate = command (codes "migrate") (certs ∷ [])
+
+-- the program with its name and a version, and no commands
+abbrev pub without_commands : App
+without_commands = record { top = record (new_shape (codes "og")) { has_version = true }; subs = [] }
 
 -- the program, which is given the words after its name
 abbrev pub og : App
 og = record {
-  top = record (new_shape (codes "og")) { is_leaf = false; no_binary_name = true; disable_help_subcommand = true; subcommand_required = true };
-  subs = prover ∷ check ∷ conditions ∷ finder ∷ erase ∷ run ∷ explorer ∷ migrate ∷ [];
+  top = record (new_shape (codes "og")) { is_leaf = false; no_binary_name = true; disable_help_subcommand = true; subcommand_required = true; has_version = true };
+  subs = prover ∷ check ∷ conditions ∷ finder ∷ erase ∷ run ∷ explorer ∷ expander ∷ migrate ∷ [];
 }

@@ -17,6 +17,7 @@ verb_name verbs.Find = codes "find"
 verb_name verbs.Erase = codes "erase"
 verb_name verbs.Run = codes "run"
 verb_name verbs.Explore = codes "explore"
+verb_name verbs.Expand = codes "expand"
 verb_name verbs.Migrate = codes "migrate"
 
 -- the word that names a job's command; the joined run has none
@@ -24,11 +25,12 @@ abbrev pub command_of : Job → Option (List ℕ)
 command_of jobs.Joined = None
 command_of (jobs.Prove source budget workers json) = Some (codes "prove")
 command_of (jobs.Check source certs workers json) = Some (codes "check")
-command_of (jobs.Conditions source) = Some (codes "conditions")
-command_of (jobs.Find source budget workers) = Some (codes "find")
-command_of (jobs.Erase source) = Some (codes "erase")
+command_of (jobs.Conditions source triples smt2) = Some (codes "conditions")
+command_of (jobs.Find source budget workers version) = Some (codes "find")
+command_of (jobs.Erase source readable) = Some (codes "erase")
 command_of (jobs.Run source limit erased certs schedule values) = Some (codes "run")
 command_of (jobs.Explore source limit erased json ranges) = Some (codes "explore")
+command_of (jobs.Expand template as_map values) = Some (codes "expand")
 command_of (jobs.Migrate certs) = Some (codes "migrate")
 
 -- the job holds what is given for each argument of its command
@@ -40,11 +42,13 @@ Holds rows (jobs.Prove source budget workers json) =
 Holds rows (jobs.Check source certs workers json) =
     (text_of (codes "SOURCE") rows ≡ Some source.now) × (text_of (codes "CERTS") rows ≡ Some certs.now)
     × (number_of (codes "workers") rows ≡ Some workers) × (json ≡ is_given (codes "json") rows)
-Holds rows (jobs.Conditions source) = text_of (codes "SOURCE") rows ≡ Some source.now
-Holds rows (jobs.Find source budget workers) =
+Holds rows (jobs.Conditions source triples smt2) =
+    (text_of (codes "SOURCE") rows ≡ Some source.now) × (triples ≡ is_given (codes "triples") rows) × (smt2 ≡ is_given (codes "smt2") rows)
+Holds rows (jobs.Find source budget workers version) =
     (text_of (codes "SOURCE") rows ≡ Some source.now) × (number_of (codes "budget") rows ≡ Some budget)
-    × (number_of (codes "workers") rows ≡ Some workers)
-Holds rows (jobs.Erase source) = text_of (codes "SOURCE") rows ≡ Some source.now
+    × (number_of (codes "workers") rows ≡ Some workers) × (number_of (codes "version") rows ≡ Some version)
+Holds rows (jobs.Erase source readable) =
+    (text_of (codes "SOURCE") rows ≡ Some source.now) × (readable ≡ is_given (codes "readable") rows)
 Holds rows (jobs.Run source limit erased certs schedule values) =
     (text_of (codes "SOURCE") rows ≡ Some source.now) × (number_of (codes "limit") rows ≡ Some limit) × (erased ≡ is_given (codes "erased") rows)
     × (option_map (λ c. c.now) certs ≡ text_of (codes "certs") rows) × (option_map (λ s. s.now) schedule ≡ text_of (codes "schedule") rows)
@@ -52,6 +56,9 @@ Holds rows (jobs.Run source limit erased certs schedule values) =
 Holds rows (jobs.Explore source limit erased json ranges) =
     (text_of (codes "SOURCE") rows ≡ Some source.now) × (number_of (codes "limit") rows ≡ Some limit) × (erased ≡ is_given (codes "erased") rows)
     × (json ≡ is_given (codes "json") rows) × (map (λ w. w.now) ranges.items ≡ texts_of (codes "NAME=INT|LO..HI") rows)
+Holds rows (jobs.Expand template as_map values) =
+    (text_of (codes "TEMPLATE") rows ≡ Some template.now) × (as_map ≡ is_given (codes "map") rows)
+    × (map (λ w. w.now) values.items ≡ texts_of (codes "NAME=INT") rows)
 Holds rows (jobs.Migrate certs) = text_of (codes "CERTS") rows ≡ Some certs.now
 
 -- what words ask for

@@ -57,6 +57,20 @@ fn budget_arg<'a>(alloc: Global) -> Arg<'a>
         .help("How many steps a search may make for each condition, 1 to 1000000000")
 }
 
+// The version in which certificates are written where none is asked for.
+const USUAL_VERSION: &str = "1";
+
+fn version_arg<'a>(alloc: Global) -> Arg<'a>
+    ensures { IsArg line.version result }
+{
+    Arg::new(alloc, "version")
+        .long("version")
+        .value_name("N")
+        .default_value(USUAL_VERSION)
+        .value_parser(clap::value_parser!(u32).range(1..=2))
+        .help("In which version the certificates are written, 1 or 2")
+}
+
 fn prove_command<'a>(alloc: Global) -> Result<Command<'a>, AllocError>
     ensures { IfOk result (IsCommand line.prover) }
 {
@@ -79,12 +93,34 @@ fn check_command<'a>(alloc: Global) -> Result<Command<'a>, AllocError>
         .arg(json_arg(alloc))
 }
 
+fn triples_arg<'a>(alloc: Global) -> Arg<'a>
+    ensures { IsArg (line.flag (codes "triples")) result }
+{
+    Arg::new(alloc, "triples")
+        .long("triples")
+        .action(ArgAction::SetTrue)
+        .help("Print each as a triple, {P} S {Q}, in place of its facts")
+}
+
+fn smt2_arg<'a>(alloc: Global) -> Result<Arg<'a>, AllocError>
+    ensures { IfOk result (IsArg line.smt2_flag) }
+{
+    Arg::new(alloc, "smt2")
+        .long("smt2")
+        .action(ArgAction::SetTrue)
+        .help("Print a script for z3 or cvc5, which answer unsat where a condition is true")
+        .conflicts_with("triples")
+}
+
 fn conditions_command<'a>(alloc: Global) -> Result<Command<'a>, AllocError>
     ensures { IfOk result (IsCommand line.conditions) }
 {
+    let smt2 = smt2_arg(alloc)?;
     Command::new(alloc, "conditions")
         .about("Print every condition with its facts")
-        .arg(source_arg(alloc))
+        .arg(source_arg(alloc))?
+        .arg(triples_arg(alloc))?
+        .arg(smt2)
 }
 
 fn find_command<'a>(alloc: Global) -> Result<Command<'a>, AllocError>
@@ -94,7 +130,17 @@ fn find_command<'a>(alloc: Global) -> Result<Command<'a>, AllocError>
         .about("Print the certificates that are found")
         .arg(source_arg(alloc))?
         .arg(budget_arg(alloc))?
-        .arg(workers_arg(alloc, "How many threads work, 1 to 64"))
+        .arg(workers_arg(alloc, "How many threads search, 1 to 64"))?
+        .arg(version_arg(alloc))
+}
+
+fn readable_arg<'a>(alloc: Global) -> Arg<'a>
+    ensures { IsArg (line.flag (codes "readable")) result }
+{
+    Arg::new(alloc, "readable")
+        .long("readable")
+        .action(ArgAction::SetTrue)
+        .help("Print relations with terms on both sides")
 }
 
 fn erase_command<'a>(alloc: Global) -> Result<Command<'a>, AllocError>
@@ -102,7 +148,8 @@ fn erase_command<'a>(alloc: Global) -> Result<Command<'a>, AllocError>
 {
     Command::new(alloc, "erase")
         .about("Print the program without its auxiliary variables")
-        .arg(source_arg(alloc))
+        .arg(source_arg(alloc))?
+        .arg(readable_arg(alloc))
 }
 
 fn limit_arg<'a>(alloc: Global) -> Arg<'a>
@@ -146,6 +193,23 @@ fn schedule_arg<'a>(alloc: Global) -> Result<Arg<'a>, AllocError>
         .conflicts_with("limit")
 }
 
+fn template_arg<'a>(alloc: Global) -> Arg<'a>
+    ensures { IsArg line.template result }
+{
+    Arg::new(alloc, "TEMPLATE")
+        .required(true)
+        .help("The template, or - for standard input")
+}
+
+fn map_arg<'a>(alloc: Global) -> Arg<'a>
+    ensures { IsArg (line.flag (codes "map")) result }
+{
+    Arg::new(alloc, "map")
+        .long("map")
+        .action(ArgAction::SetTrue)
+        .help("Print where each assertion and statement comes from")
+}
+
 // Words of a form, as many as there are.
 fn words_arg<'a>(alloc: Global, form: &'a str) -> Arg<'a>
     ensures { IsArg (line.words form.entry.now) result }
@@ -159,6 +223,12 @@ fn values_arg<'a>(alloc: Global) -> Arg<'a>
     ensures { IsArg line.values result }
 {
     words_arg(alloc, "NAME=INT").help("A variable's value at the start")
+}
+
+fn constants_arg<'a>(alloc: Global) -> Arg<'a>
+    ensures { IsArg line.values result }
+{
+    words_arg(alloc, "NAME=INT").help("A constant's value")
 }
 
 fn ranges_arg<'a>(alloc: Global) -> Arg<'a>
@@ -204,6 +274,16 @@ fn explore_command<'a>(alloc: Global) -> Result<Command<'a>, AllocError>
         .arg(ranges_arg(alloc))
 }
 
+fn expand_command<'a>(alloc: Global) -> Result<Command<'a>, AllocError>
+    ensures { IfOk result (IsCommand line.expander) }
+{
+    Command::new(alloc, "expand")
+        .about("Print the outline that a template means")
+        .arg(template_arg(alloc))?
+        .arg(map_arg(alloc))?
+        .arg(constants_arg(alloc))
+}
+
 fn migrate_command<'a>(alloc: Global) -> Result<Command<'a>, AllocError>
     ensures { IfOk result (IsCommand line.migrate) }
 {
@@ -238,27 +318,45 @@ fn with_outlines<'a>(alloc: Global, program: Command<'a>) -> Result<Command<'a>,
     with_word(program, find_command(alloc))
 }
 
-// Adds the words that look at programs, and at certificates alone.
+// Adds the words that look at programs.
 fn with_programs<'a>(alloc: Global, program: Command<'a>) -> Result<Command<'a>, AllocError>
-    ensures { IfOk result (λ r. app_of r ≡ with_subcommand (with_subcommand (with_subcommand (with_subcommand (app_of program.entry) line.erase) line.run) line.explorer) line.migrate) }
+    ensures { IfOk result (λ r. app_of r ≡ with_subcommand (with_subcommand (with_subcommand (app_of program.entry) line.erase) line.run) line.explorer) }
 {
     let program = with_word(program, erase_command(alloc))?;
     let program = with_word(program, run_command(alloc))?;
-    let program = with_word(program, explore_command(alloc))?;
+    with_word(program, explore_command(alloc))
+}
+
+// Adds the words that look at templates, and at certificates alone.
+fn with_others<'a>(alloc: Global, program: Command<'a>) -> Result<Command<'a>, AllocError>
+    ensures { IfOk result (λ r. app_of r ≡ with_subcommand (with_subcommand (app_of program.entry) line.expander) line.migrate) }
+{
+    let program = with_word(program, expand_command(alloc))?;
     with_word(program, migrate_command(alloc))
+}
+
+// The program with its name and version, and no commands.
+fn without_commands<'a>(alloc: Global) -> Result<Command<'a>, AllocError>
+    ensures { IfOk result (λ r. app_of r ≡ line.without_commands) }
+{
+    let program = Command::new(alloc, "og").bin_name("og")?;
+    Ok(
+        program
+            .about("Checks proof outlines of parallel programs")
+            .version("1.0.0"),
+    )
 }
 
 /// The program's command line.
 pub(crate) fn program<'a>(alloc: Global) -> Result<Command<'a>, AllocError>
     ensures { IfOk result (λ r. app_of r ≡ line.og) }
 {
-    let program = Command::new(alloc, "og")
-        .bin_name("og")?
-        .about("Checks proof outlines of parallel programs")
+    let program = without_commands(alloc)?
         .no_binary_name(true)
         .disable_help_subcommand(true)
         .subcommand_required(true);
     let program = with_verdicts(alloc, program)?;
     let program = with_outlines(alloc, program)?;
-    with_programs(alloc, program)
+    let program = with_programs(alloc, program)?;
+    with_others(alloc, program)
 }

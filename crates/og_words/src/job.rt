@@ -4,7 +4,7 @@ ghost use Rattle.std.specs.Prelude.{◌≡◌};
 ghost use Rattle.og_words.specs.Jobs.{SaysWrong};
 ghost use Rattle.og_words.specs.declared.job.Usage.TheVariants.{Memory};
 
-use og_limits::{Budget, MomentLimit, RunLimit, Workers};
+use og_limits::{Budget, CertVersion, MomentLimit, RunLimit, Workers};
 use std::alloc::{AllocError, AllocFailed, Global};
 
 /// The words that name commands.
@@ -17,6 +17,7 @@ pub(crate) enum Verb {
     Erase,
     Run,
     Explore,
+    Expand,
     Migrate,
 }
 
@@ -28,7 +29,7 @@ pub enum Job<'a> {
     /// Search for the certificates of an outline and judge it by them.
     Prove {
         source: &'a str,
-        /// How many facts may be added for each condition.
+        /// How many steps each search may make.
         budget: Budget,
         /// How many threads work.
         workers: Workers,
@@ -44,21 +45,29 @@ pub enum Job<'a> {
         /// Whether the report is to be JSON.
         json: bool,
     },
-    /// Print every condition with its facts.
+    /// Print every condition, with its facts where nothing else is asked for.
     Conditions {
         source: &'a str,
+        /// Whether each is to be a triple.
+        triples: bool,
+        /// Whether they are to be a script in SMT-LIB.
+        smt2: bool,
     },
     /// Print the certificates that are found.
     Find {
         source: &'a str,
-        /// How many facts may be added for each condition.
+        /// How many steps each search may make.
         budget: Budget,
         /// How many threads work.
         workers: Workers,
+        /// In which version the certificates are written.
+        version: CertVersion,
     },
     /// Print the program without its auxiliary variables.
     Erase {
         source: &'a str,
+        /// Whether relations are to have terms on both sides.
+        readable: bool,
     },
     /// Run the processes in threads, or by a schedule.
     Run {
@@ -85,6 +94,14 @@ pub enum Job<'a> {
         json: bool,
         /// Words that give variables their values, or ranges of them, at the start.
         ranges: Vec<&'a str>,
+    },
+    /// Print the outline that a template means.
+    Expand {
+        template: &'a str,
+        /// Whether the places of its notes and statements are to be printed in its place.
+        as_map: bool,
+        /// Words that give constants their values.
+        values: Vec<&'a str>,
     },
     /// Print the certificates in version 2 of their format.
     Migrate {

@@ -10,7 +10,7 @@ use crate::commands::program;
 use crate::job::{Job, Usage, Verb};
 use clap::ArgMatches;
 use clap::error::{Error, ErrorKind};
-use og_limits::{Budget, MomentLimit, RunLimit, Workers};
+use og_limits::{Budget, CertVersion, MomentLimit, RunLimit, Workers};
 use std::alloc::{AllocError, Global};
 
 fn verb_of(word: &str) -> Option<Verb>
@@ -24,6 +24,7 @@ fn verb_of(word: &str) -> Option<Verb>
         "erase" => Some(Verb::Erase),
         "run" => Some(Verb::Run),
         "explore" => Some(Verb::Explore),
+        "expand" => Some(Verb::Expand),
         "migrate" => Some(Verb::Migrate),
         _ => None,
     }
@@ -53,6 +54,12 @@ fn budget_of(m: &ArgMatches<'_>) -> Option<Budget>
     ensures { IfSome result (λ n. number_of (codes "budget") (rows_of (found_of m.now)) ≡ Some n) }
 {
     Budget::new(m.get_one::<u64>("budget")?)
+}
+
+fn version_of(m: &ArgMatches<'_>) -> Option<CertVersion>
+    ensures { IfSome result (λ n. number_of (codes "version") (rows_of (found_of m.now)) ≡ Some n) }
+{
+    CertVersion::new(m.get_one::<u32>("version")?)
 }
 
 fn limit_of(m: &ArgMatches<'_>) -> Option<RunLimit>
@@ -100,7 +107,12 @@ fn conditions_job<'a>(m: &ArgMatches<'a>) -> Option<Job<'a>>
     ensures holds { IfSome result (Holds (rows_of (found_of m.now))) }
 {
     let source = text_of(m, "SOURCE")?;
-    Some(Job::Conditions { source })
+    let (triples, smt2) = (has_flag(m, "triples"), has_flag(m, "smt2"));
+    Some(Job::Conditions {
+        source,
+        triples,
+        smt2,
+    })
 }
 
 fn find_job<'a>(m: &ArgMatches<'a>) -> Option<Job<'a>>
@@ -108,12 +120,12 @@ fn find_job<'a>(m: &ArgMatches<'a>) -> Option<Job<'a>>
     ensures holds { IfSome result (Holds (rows_of (found_of m.now))) }
 {
     let source = text_of(m, "SOURCE")?;
-    let budget = budget_of(m)?;
-    let workers = workers_of(m)?;
+    let (budget, workers, version) = (budget_of(m)?, workers_of(m)?, version_of(m)?);
     Some(Job::Find {
         source,
         budget,
         workers,
+        version,
     })
 }
 
@@ -122,7 +134,8 @@ fn erase_job<'a>(m: &ArgMatches<'a>) -> Option<Job<'a>>
     ensures holds { IfSome result (Holds (rows_of (found_of m.now))) }
 {
     let source = text_of(m, "SOURCE")?;
-    Some(Job::Erase { source })
+    let readable = has_flag(m, "readable");
+    Some(Job::Erase { source, readable })
 }
 
 fn migrate_job<'a>(m: &ArgMatches<'a>) -> Option<Job<'a>>
@@ -191,6 +204,28 @@ fn explore_job<'a>(alloc: Global, m: &ArgMatches<'a>) -> Result<Option<Job<'a>>,
     Ok(explore_with(m, texts_of(alloc, m, "NAME=INT|LO..HI")?))
 }
 
+// The job of an expansion, with the words that give constants their values.
+fn expand_with<'a>(m: &ArgMatches<'a>, values: Vec<&'a str>) -> Option<Job<'a>>
+    requires { map (λ w. w.now) values.items ≡ texts_of (codes "NAME=INT") (rows_of (found_of m.now)) }
+    ensures command { IfSome result (λ job. command_of job ≡ Some (verb_name Verb.Expand)) }
+    ensures holds { IfSome result (Holds (rows_of (found_of m.now))) }
+{
+    let template = text_of(m, "TEMPLATE")?;
+    let as_map = has_flag(m, "map");
+    Some(Job::Expand {
+        template,
+        as_map,
+        values,
+    })
+}
+
+fn expand_job<'a>(alloc: Global, m: &ArgMatches<'a>) -> Result<Option<Job<'a>>, AllocError>
+    ensures command { IfOk result (λ r. IfSome r (λ job. command_of job ≡ Some (verb_name Verb.Expand))) }
+    ensures holds { IfOk result (λ r. IfSome r (Holds (rows_of (found_of m.now)))) }
+{
+    Ok(expand_with(m, texts_of(alloc, m, "NAME=INT")?))
+}
+
 // The job of a command.
 fn job_of<'a>(alloc: Global, verb: Verb, m: &ArgMatches<'a>) -> Result<Option<Job<'a>>, AllocError>
     ensures command { IfOk result (λ r. IfSome r (λ job. command_of job ≡ Some (verb_name verb))) }
@@ -204,6 +239,7 @@ fn job_of<'a>(alloc: Global, verb: Verb, m: &ArgMatches<'a>) -> Result<Option<Jo
         Verb::Erase => Ok(erase_job(m)),
         Verb::Run => run_job(alloc, m),
         Verb::Explore => explore_job(alloc, m),
+        Verb::Expand => expand_job(alloc, m),
         Verb::Migrate => Ok(migrate_job(m)),
     }
 }

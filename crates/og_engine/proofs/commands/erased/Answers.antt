@@ -1,14 +1,13 @@
 use Rattle.std.proofs.Common.{IfOk, subst}
 use Rattle.og_typed.specs.Syntax.{Program}
-use Rattle.og_typed.specs.Erase.{erased}
-use Rattle.og_erase.specs.Collected.{raw_of}
 use Rattle.og_print.specs.Print.{program_text}
 use Rattle.og_answer.specs.Told.{Says}
+use Rattle.og_engine.specs.Commands.{erased_tree}
 use Rattle.og_engine.proofs.Answering.{of_source}
 use Rattle.og_engine.proofs.commands.erased.Goals as goal
 
 pub returns-in-Ok : goal.returns-in-Ok
 returns-in-Ok c =
     let r = c.of_outline-answer.result in
-    of_source (λ o. Says (program_text (raw_of (erased o))) 0) c.args.source.now c.in-Ok.source.outline r c.in-Ok.ensures.outline
-    (subst (λ (o : Program). IfOk r (Says (program_text (raw_of (erased o))) 0)) c.outline.ensures.same c.of_outline-answer.ensures)
+    of_source (λ o. Says (program_text (erased_tree c.args.is_readable o)) 0) c.args.source.now c.in-Ok.source.outline r c.in-Ok.ensures.outline
+    (subst (λ (o : Program). IfOk r (Says (program_text (erased_tree c.args.is_readable o)) 0)) c.outline.ensures.same c.of_outline-answer.ensures)

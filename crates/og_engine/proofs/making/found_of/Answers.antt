@@ -6,5 +6,5 @@ use Rattle.og_engine.proofs.making.found_of.Goals as goal
 pub returns-in-Ok-clause-found : goal.returns-in-Ok-clause-found
 returns-in-Ok-clause-found g c =
     let s = c.args.source.now in
-    listed_found s.bytes s.outline c.outline.result.now (map seen c.deref.result.now) c.of_search.result c.outline.ensures.same
+    listed_found c.args.version s.bytes s.outline c.outline.result.now (map seen c.deref.result.now) c.of_search.result c.outline.ensures.same
     (ap (map seen) c.deref.ensures.value ∙ c.in-Ok.ensures.0) c.in-Ok.ensures.1 c.of_search.ensures.found

@@ -1,7 +1,16 @@
-use Rattle.std.proofs.Common.{ℕ, List, subst}
+use Rattle.std.proofs.Common.{ℕ, List}
+use Rattle.og_answer.specs.declared.answer.Answer.{Answer}
 use Rattle.og_engine.specs.Commands.{IsListed}
+use Rattle.og_remark.specs.Remarks.{IsConditionsRemark}
+use Rattle.og_program.specs.Served.{Remarks}
+use Rattle.og_program.specs.declared.outcome.Told.{Told}
+use Rattle.og_program.proofs.Shown.{shown}
 use Rattle.og_program.proofs.commands.conditions.Goals as goal
 
-pub returns-clause-answer : goal.returns-clause-answer
-returns-clause-answer g c =
-    (c.in_ok-source.source.items, c.in_ok-source.ensures.text, subst (λ (s : List ℕ). IsListed s c.in_ok-listed.field-0) c.deref.ensures.value c.in_ok-listed.ensures)
+pub returns-clause-came : goal.returns-clause-came
+returns-clause-came g c = (
+  c.in_ok-source.source.items,
+  c.in_ok-source.ensures.text,
+  shown (λ (s : List ℕ) (a : Answer). IsListed c.args.form s a) (λ (s : List ℕ) (t : Told). Remarks (IsConditionsRemark c.args.name.now s) t) c.in_ok-source.source.items c.deref.result.now c.deref-2.result.now
+      c.in_ok-answer.answer c.beside_conditions.result c.deref.ensures.value c.deref-2.ensures.value c.beside_conditions.ensures.answer c.in_ok-answer.ensures c.beside_conditions.ensures.remark,
+)

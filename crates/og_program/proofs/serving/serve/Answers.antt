@@ -1,7 +1,5 @@
 use Rattle.std.proofs.Common.{◌≡◌, true}
-use Rattle.og_engine.specs.declared.fault.EngineFault.TheVariants as faults
-use Rattle.og_program.specs.Served.{lacks, IsProvenIn, IsNeverStuckIn}
-use Rattle.og_program.specs.Told.{Fails}
+use Rattle.og_program.specs.Served.{lacks, FailsToRead, IsProvenIn, IsNeverStuckIn}
 use Rattle.og_program.proofs.Ending.{of_job}
 use Rattle.og_program.proofs.Status.{sound_job, unblocked_job}
 use Rattle.og_program.proofs.serving.serve.Goals as goal
@@ -19,5 +17,5 @@ returns-in-Ok-clause-unblocked g c =
 pub returns-in-Ok-clause-lacking : goal.returns-in-Ok-clause-lacking
 returns-in-Ok-clause-lacking g c =
     of_job (λ job. lacks (g.F.Files.is_missing c.args.files.now) job ≡ true
-    → Fails faults.ReadFailed (g.O.Write.contents c.args.out.now) (g.O.Write.contents c.perform.new.out) (g.E.Write.contents c.args.err.now) (g.E.Write.contents c.perform.new.err) c.perform.result)
+    → FailsToRead job (g.O.Write.contents c.args.out.now) (g.O.Write.contents c.perform.new.out) (g.E.Write.contents c.args.err.now) (g.E.Write.contents c.perform.new.err) c.perform.result)
     c.args.asked c.in-Ok.job c.in-Ok.is c.perform.ensures.lacking

@@ -1,5 +1,5 @@
 use Rattle.std.proofs.Common.{◌≡◌, List, ℕ, subst}
-use Rattle.og_running.specs.Texts.{not_made_line}
+use Rattle.og_running.specs.Lines.{not_made_line}
 use Rattle.og_running.proofs.stepping.not_made.Goals as goal
 
 pub returns : goal.returns

@@ -3,7 +3,8 @@ use Rattle.std.proofs.lemmas.Result.{IfOk-weaker}
 use Rattle.og_typed.specs.Syntax.{Program}
 use Rattle.og_source.specs.Source.{IsSource}
 use Rattle.og_running.specs.Words.{Give}
-use Rattle.og_running.specs.Running.{Follows, program_of}
+use Rattle.og_running.specs.Scheduled.{Follows}
+use Rattle.og_running.specs.Running.{program_of}
 use Rattle.og_running.proofs.Answering.{goes}
 use Rattle.og_running.proofs.stepping.scheduled.Goals as goal
 

@@ -10,5 +10,4 @@ returns c =
     let start = app_of c.args.program in
     let one = with_word c.args.program c.in_ok-program.program c.erase_command.result start line.erase c.in_ok-program.ensures c.erase_command.ensures refl in
     let two = with_word c.in_ok-program.program c.in_ok-program-2.program c.run_command.result (with_subcommand start line.erase) line.run c.in_ok-program-2.ensures c.run_command.ensures one in
-    let three = with_word c.in_ok-program-2.program c.in_ok-program-3.program c.explore_command.result (with_subcommand (with_subcommand start line.erase) line.run) line.explorer c.in_ok-program-3.ensures c.explore_command.ensures two in
-    IfOk-weaker c.with_word-4.result _ _ (λ r h. with_word c.in_ok-program-3.program r c.migrate_command.result (with_subcommand (with_subcommand (with_subcommand start line.erase) line.run) line.explorer) line.migrate h c.migrate_command.ensures three) c.with_word-4.ensures
+    IfOk-weaker c.with_word-3.result _ _ (λ r h. with_word c.in_ok-program-2.program r c.explore_command.result (with_subcommand (with_subcommand start line.erase) line.run) line.explorer h c.explore_command.ensures two) c.with_word-3.ensures

@@ -1,8 +1,15 @@
-use Rattle.og_program.proofs.Faults.{either_missing, is_there}
+use Rattle.std.proofs.Common.{ℕ, List, subst}
+use Rattle.og_program.specs.Served.{Checks}
 use Rattle.og_program.proofs.program.Program.check.Goals as goal
 
-pub returns-clause-missing : goal.returns-clause-missing
-returns-clause-missing g c =
-    either_missing _ _ _ _
-    (λ lacks. absurd (is_there (g.F.Files.is_missing c.args.self.now.files.now) c.args.source.now (λ missing. let never = c.in_ok-source.ensures.missing missing in cc) lacks))
-    c.check_from-2.ensures.missing
+pub returns-clause-came : goal.returns-clause-came
+returns-clause-came g c =
+    let Told = λ (s k : List ℕ). Checks c.args.options.json c.args.names.source.now c.args.names.certs.now s k c.in_ok-told.told in (
+      c.in_ok-source.source.items,
+      c.in_ok-source.ensures.source,
+      (
+        c.in_ok-source.certs.items,
+        c.in_ok-source.ensures.certs,
+        subst (λ (k : List ℕ). Told c.in_ok-source.source.items k) c.deref-2.ensures.value (subst (λ (s : List ℕ). Told s c.deref-2.result.now) c.deref.ensures.value c.in_ok-told.ensures.told),
+      ),
+    )

@@ -1,41 +1,45 @@
-use Rattle.std.proofs.Common.{◌≡◌, ◌∙◌, sym, ℕ, List, Option, IfSome, map, subst}
+use Rattle.std.proofs.Common.{◌≡◌, ◌⊎◌, sym, ℕ, List, None, map, subst}
 use Rattle.std.proofs.lemmas.Result.{err_from_is_err_and}
-use Rattle.og_engine.specs.Inputs.{certs_of}
-use Rattle.og_pool.specs.declared.fault.PoolFault.TheVariants as pool
-use Rattle.og_running.specs.Running.{IsRanProved, HasProvedStart}
-use Rattle.og_program.proofs.Faults.{of_pool-Spawn}
+use Rattle.og_remark.specs.Starting.{IsProvedRunRemark}
+use Rattle.og_running.specs.Running.{IsRanProved}
+use Rattle.og_running.specs.Starts.{HasProvedStart}
+use Rattle.og_program.specs.Failing.{IsFault}
+use Rattle.og_program.specs.Served.{IsWordRemark, Follows, StartsProved}
+use Rattle.og_program.specs.declared.fault.Fault.{Fault}
+use Rattle.og_program.proofs.Faults.{by_pool}
 use Rattle.og_program.proofs.program.Program.run_proved.Goals as goal
 
-pub returns-clause-reply : goal.returns-clause-reply
-returns-clause-reply g c =
+pub returns-clause-came : goal.returns-clause-came
+returns-clause-came g c =
     let words = map (λ w. w.now) c.args.words.now in
-    let reply = c.in_ok-ran_proved.field-0 in
-    let text : IfSome (g.F.Files.contents c.args.self.now.files.now c.args.certs.now) (λ all. c.in_ok-certs.certs.items ≡ certs_of all) =
-    subst (λ (o : Option (List ℕ)). IfSome o (λ all. c.in_ok-certs.certs.items ≡ certs_of all)) c.in_ok-file.ensures.bytes c.in_ok-certs.ensures.text in (
-      c.in_ok-source.source.items,
-      c.in_ok-source.ensures.text,
+    let source = c.in_ok-source.source.items in
+    let certs = c.in_ok-source.certs.items in
+    let reply = c.in_ok-reply.reply in
+    let Beside = λ (s k : List ℕ). Follows (IsProvedRunRemark c.args.names.source.now c.args.names.certs.now s k words) (IsWordRemark s None) reply c.beside_proved_run.result in (
+      source,
+      c.in_ok-source.ensures.source,
       (
-        c.in_ok-certs.certs.items,
-        text,
-        subst (λ (t : List ℕ). IsRanProved c.args.limit c.in_ok-source.source.items t words reply) c.deref-2.ensures.value
-            (subst (λ (s : List ℕ). IsRanProved c.args.limit s c.deref-2.result.now words reply) c.deref.ensures.value c.in_ok-ran_proved.ensures.told),
+        certs,
+        c.in_ok-source.ensures.certs,
+        (
+          reply,
+          subst (λ (k : List ℕ). IsRanProved c.args.limit source k words reply) c.deref-2.ensures.value (subst (λ (s : List ℕ). IsRanProved c.args.limit s c.deref-2.result.now words reply) c.deref.ensures.value c.in_ok-reply.ensures.told),
+          subst (λ (k : List ℕ). Beside source k) c.deref-4.ensures.value (subst (λ (s : List ℕ). Beside s c.deref-4.result.now) c.deref-3.ensures.value c.beside_proved_run.ensures),
+        ),
       ),
     )
 
-pub returns-in_err-ran_proved-clause-spawn : goal.returns-in_err-ran_proved-clause-spawn
-returns-in_err-ran_proved-clause-spawn g c =
+pub returns-in_err-reply-clause-fault : goal.returns-in_err-reply-clause-fault
+returns-in_err-reply-clause-fault g c =
     let words = map (λ w. w.now) c.args.words.now in
-    let fault = c.in_err-ran_proved.field-0.0 in
-    let p = err_from_is_err_and c.from_residual-in_err-ran_proved.result c.from_residual-in_err-ran_proved.ensures.1 in
-    let text : IfSome (g.F.Files.contents c.args.self.now.files.now c.args.certs.now) (λ all. c.in_ok-certs.certs.items ≡ certs_of all) =
-    subst (λ (o : Option (List ℕ)). IfSome o (λ all. c.in_ok-certs.certs.items ≡ certs_of all)) c.in_ok-file.ensures.bytes c.in_ok-certs.ensures.text in
-    rw p.1 (λ e. (
+    let p = err_from_is_err_and c.from_residual-in_err-reply.result c.from_residual-in_err-reply.ensures.1 in
+    rw p.1 (subst (λ (f : Fault). IsFault (λ n. (n ≡ c.args.names.source.now) ⊎ (n ≡ c.args.names.certs.now)) ⊥ (StartsProved (g.F.Files.contents c.args.self.now.files.now) (g.I.Read.remaining c.args.input.now) c.args.names.source.now c.args.names.certs.now words) f) (sym p.2)
+    (by_pool _ _ _ c.in_err-reply.field-0.0 (λ e. (
       c.in_ok-source.source.items,
-      c.in_ok-source.ensures.text,
+      c.in_ok-source.ensures.source,
       (
-        c.in_ok-certs.certs.items,
-        text,
-        subst (λ (t : List ℕ). fault ≡ pool.Spawn → HasProvedStart c.in_ok-source.source.items t words) c.deref-2.ensures.value
-            (subst (λ (s : List ℕ). fault ≡ pool.Spawn → HasProvedStart s c.deref-2.result.now words) c.deref.ensures.value c.in_err-ran_proved.ensures.spawn) (of_pool-Spawn fault (sym p.2 ∙ e)),
+        c.in_ok-source.certs.items,
+        c.in_ok-source.ensures.certs,
+        subst (λ (k : List ℕ). HasProvedStart c.in_ok-source.source.items k words) c.deref-2.ensures.value (subst (λ (s : List ℕ). HasProvedStart s c.deref-2.result.now words) c.deref.ensures.value (c.in_err-reply.ensures.spawn e)),
       ),
-    ))
+    ))))

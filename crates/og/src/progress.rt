@@ -1,0 +1,87 @@
+//! How far a check or a search is, told at a terminal.
+
+use og_pool::Gate;
+use std::io::{self, IsTerminal, Write};
+use std::sync::atomic::{AtomicU64, Ordering};
+use std::time::Instant;
+
+/// Tells on standard error, where that is a terminal, how many of how many conditions are done: after
+/// the first second of work, and then once a second. The line is taken away when all are done.
+#[derive(Drop)]
+pub(crate) struct Progress<'r> {
+    rt: &'r HostRuntime,
+    start: Option<Instant>,
+    count: AtomicU64,
+    done: AtomicU64,
+    // The last second in which it was told; 0 where it was not yet.
+    told: AtomicU64,
+}
+
+impl<'r> Progress<'r> {
+    /// Nothing is done yet.
+    pub(crate) fn new(rt: &'r HostRuntime) -> Progress<'r> {
+        let start = if rt.stderr().is_terminal() {
+            Instant::now(rt).ok()
+        } else {
+            None
+        };
+        Progress {
+            rt,
+            start,
+            count: AtomicU64::new(0),
+            done: AtomicU64::new(0),
+            told: AtomicU64::new(0),
+        }
+    }
+
+    // How many whole seconds have gone by; 0 where that is not to be told.
+    fn seconds(&self) -> u64 {
+        match &self.start {
+            Some(start) => match start.elapsed(self.rt) {
+                Ok(elapsed) => elapsed.as_secs(),
+                Err(_) => 0,
+            },
+            None => 0,
+        }
+    }
+
+    // Whether this second is told by nobody else.
+    fn takes(&self, second: u64) -> bool {
+        let told = self.told.load(Ordering::SeqCst);
+        told < second
+            && self
+                .told
+                .compare_exchange(told, second, Ordering::SeqCst, Ordering::SeqCst)
+                .is_ok()
+    }
+
+    // Writes how many are done in place of what stood in the line.
+    fn tell(&self, done: u64) -> io::Result<()> {
+        let count = self.count.load(Ordering::SeqCst);
+        write!(self.rt.stderr(), "\rog: {done} of {count} conditions")
+    }
+
+    // Takes the line away.
+    fn clear(&self) -> io::Result<()> {
+        self.rt.stderr().write_all(b"\r\x1b[K")
+    }
+}
+
+impl<'r> Gate for Progress<'r> {
+    fn begin(&self, count: u32) {
+        self.count.store(count as u64, Ordering::SeqCst);
+        self.done.store(0, Ordering::SeqCst);
+    }
+
+    fn before(&self, _task: u32) {}
+
+    fn after(&self, _task: u32) {
+        let done = self.done.fetch_add(1, Ordering::SeqCst).wrapping_add(1);
+        if self.takes(self.seconds()) {
+            let _ = self.tell(done);
+        }
+        if done == self.count.load(Ordering::SeqCst) && self.told.load(Ordering::SeqCst) > 0 {
+            let _ = self.clear();
+        }
+    }
+}

@@ -1,0 +1,102 @@
+//! Numbers by keys, the last that was put first, that are forgotten again in the other order.
+
+use std::alloc::{AllocError, Global};
+
+// How many chains there are.
+const CHAINS: usize = 1024;
+
+/// Numbers with their keys, in chains by the last bits of these.
+#[derive(Drop)]
+pub struct Chains {
+    // The last entry of each chain.
+    heads: Vec<Option<usize>>,
+    entries: Vec<Entry>,
+}
+
+// A number with its key, and the entry before it in its chain.
+#[derive(Clone, Copy)]
+struct Entry {
+    key: u128,
+    number: usize,
+    before: Option<usize>,
+}
+
+/// The numbers with a key, the last that was put first.
+#[derive(Clone, Copy)]
+pub struct Walk<'a> {
+    entries: &'a [Entry],
+    key: u128,
+    next: Option<usize>,
+}
+
+// The chain of a key.
+fn chain_of(key: u128) -> usize {
+    (key & 0x3ff) as usize
+}
+
+impl Walk<'_> {
+    /// The next number, if there is one.
+    pub fn step(&mut self) -> Option<usize> {
+        for _ in 0..self.entries.len() {
+            let entry = *self.entries.get(self.next?)?;
+            self.next = entry.before;
+            if entry.key == self.key {
+                return Some(entry.number);
+            }
+        }
+        None
+    }
+}
+
+impl Chains {
+    /// No numbers.
+    pub fn new(alloc: Global) -> Result<Chains, AllocError> {
+        Ok(Chains {
+            heads: vec![in alloc; None; CHAINS]?,
+            entries: Vec::new(alloc),
+        })
+    }
+
+    /// How many numbers there are.
+    pub fn len(&self) -> usize {
+        self.entries.len()
+    }
+
+    /// The numbers with this key.
+    pub fn walk(&self, key: u128) -> Walk<'_> {
+        Walk {
+            entries: &self.entries,
+            key,
+            next: self.heads.get(chain_of(key)).copied().flatten(),
+        }
+    }
+
+    fn set_head(&mut self, chain: usize, head: Option<usize>) {
+        if let Some(place) = self.heads.get_mut(chain) {
+            *place = head;
+        }
+    }
+
+    /// Puts a number under a key.
+    pub fn put(&mut self, key: u128, number: usize) -> Result<(), AllocError> {
+        let chain = chain_of(key);
+        let before = self.heads.get(chain).copied().flatten();
+        let last = self.entries.len();
+        self.entries.push(Entry {
+            key,
+            number,
+            before,
+        })?;
+        self.set_head(chain, Some(last));
+        Ok(())
+    }
+
+    /// Forgets all that were put after the first ones, so many.
+    pub fn forget(&mut self, from: usize) {
+        for _ in from..self.entries.len() {
+            if let Some(entry) = self.entries.pop() {
+                self.set_head(chain_of(entry.key), entry.before);
+            }
+        }
+    }
+}

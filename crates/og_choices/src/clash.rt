@@ -1,0 +1,189 @@
+//! Parts of choices that are at odds with what is known, each by one of its inequalities.
+
+use crate::index::Index;
+use crate::open::Open;
+use crate::part::{Atom, Part};
+use og_inequalities::{Bounds, Inequality, Rows, TOP};
+
+/// The most parts of a choice that are held against each row.
+const PAIRS_LIMIT: usize = 8;
+
+impl Reach {
+    /// How far a look goes at the parts of a choice, where it costs less than what it saves: above
+    /// all choices each row is looked at.
+    pub fn of_level(level: u32) -> Reach {
+        if level == TOP {
+            Reach::Rows
+        } else {
+            Reach::Sight
+        }
+    }
+}
+
+/// What an inequality is at odds with.
+#[derive(Clone, Copy)]
+pub enum Against {
+    /// The bounds of its variables.
+    Bounds,
+    /// This row, and the bounds of the variables that do not cancel out.
+    Row(usize),
+}
+
+/// How far a look goes.
+#[derive(Clone, Copy)]
+pub enum Reach {
+    /// To the bounds, and to the row with the same terms and the other sign.
+    Sight,
+    /// To each row.
+    Rows,
+}
+
+/// An inequality of a part, and what it is at odds with.
+#[derive(Clone, Copy)]
+pub struct Clash<'a> {
+    pub atom: &'a Atom,
+    pub against: Against,
+}
+
+/// What is known on the path of a search.
+#[derive(Clone, Copy)]
+pub struct Facts<'v> {
+    pub rows: &'v Rows,
+    pub base: &'v [usize],
+    pub index: &'v Index,
+    pub bounds: &'v Bounds,
+}
+
+impl Facts<'_> {
+    // The row with the opposite terms, if the two are at odds.
+    fn opposite(self, atom: &Atom) -> Option<usize> {
+        let form = &atom.form;
+        if form.terms.len() < 2 {
+            return None;
+        }
+        let row = self.index.opposite(self.rows, form, atom.direction?)?;
+        let sum = form.constant.checked_add(self.rows.form(row).constant)?;
+        if sum > 0 { Some(row) } else { None }
+    }
+
+    // What the inequality is at odds with, by a look at its own terms.
+    fn against(self, atom: &Atom) -> Option<Against> {
+        if let Some(row) = self.opposite(atom) {
+            return Some(Against::Row(row));
+        }
+        if self.bounds.exclude(&atom.form) {
+            return Some(Against::Bounds);
+        }
+        None
+    }
+
+    // The first row with which the inequality is at odds within the bounds.
+    fn against_row(self, atom: &Atom) -> Option<Against> {
+        atom.direction?;
+        let form = &atom.form;
+        for row in self.base {
+            let other = self.rows.form(*row);
+            if other.terms.len() > 1 && self.bounds.exclude_sum(form, other) {
+                return Some(Against::Row(*row));
+            }
+        }
+        None
+    }
+
+    // The first inequality of the part that is at odds with what is known, by a look at its terms.
+    fn clash_at_sight<'p>(self, part: &'p Part) -> Option<Clash<'p>> {
+        for atom in &part.atoms {
+            if let Some(against) = self.against(atom) {
+                return Some(Clash { atom, against });
+            }
+        }
+        None
+    }
+
+    // The first inequality of the part that is at odds with a row.
+    fn clash_with_row<'p>(self, part: &'p Part) -> Option<Clash<'p>> {
+        for atom in &part.atoms {
+            if let Some(against) = self.against_row(atom) {
+                return Some(Clash { atom, against });
+            }
+        }
+        None
+    }
+
+    /// An inequality of the part that is at odds with what is known.
+    pub fn clash<'p>(self, part: &'p Part, reach: Reach) -> Option<Clash<'p>> {
+        if let Some(clash) = self.clash_at_sight(part) {
+            return Some(clash);
+        }
+        match reach {
+            Reach::Sight => None,
+            Reach::Rows => self.clash_with_row(part),
+        }
+    }
+
+    // Whether the part is at odds with what is known.
+    #[cycle(shutting)]
+    fn is_shut(self, part: &Part, reach: Reach) -> bool {
+        if self.clash(part, reach).is_some() {
+            return true;
+        }
+        for choice in &part.choices {
+            if self.are_shut(&choice.parts, reach) {
+                return true;
+            }
+        }
+        false
+    }
+
+    /// Whether each of the parts is at odds with what is known.
+    #[cycle(shutting)]
+    pub fn are_shut(self, parts: &[Part], reach: Reach) -> bool {
+        for part in parts {
+            if !self.is_shut(part, reach) {
+                return false;
+            }
+        }
+        true
+    }
+
+    // Whether at most so many of the parts are not at odds with what is known, by a look at their
+    // terms.
+    fn are_open(self, parts: &[Part], most: usize) -> bool {
+        let mut left = most;
+        for part in parts {
+            if !self.is_shut(part, Reach::Sight) {
+                let Some(less) = left.checked_sub(1) else {
+                    return false;
+                };
+                left = less;
+            }
+        }
+        true
+    }
+
+    // Whether each part is at odds with what is known. Those that are not so at sight are held
+    // against each row, if the look goes so far and they are few.
+    fn is_refuted(self, parts: &[Part], reach: Reach) -> bool {
+        match reach {
+            Reach::Sight => self.are_shut(parts, reach),
+            Reach::Rows => {
+                let most = PAIRS_LIMIT.min(parts.len() / 2);
+                self.are_open(parts, most) && self.are_shut(parts, reach)
+            }
+        }
+    }
+
+    /// The first choice with the fewest parts, among those that are open and each of whose parts is
+    /// at odds with what is known.
+    pub fn refuted(self, open: &[Open], reach: Reach) -> Option<usize> {
+        let mut best = None;
+        let mut least = usize::MAX;
+        for (i, one) in open.iter().enumerate() {
+            if !one.is_taken && one.parts.len() < least && self.is_refuted(one.parts, reach) {
+                least = one.parts.len();
+                best = Some(i);
+            }
+        }
+        best
+    }
+}

@@ -1,0 +1,17 @@
+//! The facts of a search, its rows by their terms, and its open choices.
+//!
+//! No contract promises anything of them: they tell a search what to look at.
+#![tactic(auto)]
+
+mod chains;
+mod clash;
+mod index;
+mod likeness;
+mod open;
+mod part;
+
+pub use chains::Chains;
+pub use clash::{Against, Clash, Facts, Reach};
+pub use index::Index;
+pub use open::{Common, Open, View, all_hold, common_to_choice, forced, weight};
+pub use part::{Atom, Choice, Part};

@@ -1,0 +1,274 @@
+//! The choices that are open on the path of a search, and which of them is taken next.
+
+use crate::part::{Atom, Known, Part, some_follows, ways, width};
+use og_inequalities::{Bounds, Inequality, Model, Place, Rows};
+use std::alloc::{AllocError, Global};
+
+/// The most parts of a choice that is looked into.
+const LOOK_LIMIT: usize = 32;
+
+/// A choice among the facts on the path.
+#[derive(Clone, Copy)]
+pub struct Open<'a> {
+    pub place: Place,
+    pub parts: &'a [Part],
+    pub size: usize,
+    pub is_taken: bool,
+}
+
+/// An inequality that all parts of a choice imply, and the number of the choice.
+#[derive(Drop)]
+pub struct Common {
+    pub choice: usize,
+    pub form: Inequality,
+}
+
+// The number of a choice, and how many ways it has.
+#[derive(Clone, Copy)]
+struct Candidate {
+    choice: usize,
+    ways: usize,
+}
+
+impl Open<'_> {
+    // Whether the choice is open, and not true of the values if there are some.
+    fn is_wanted(&self, model: Option<&Model>) -> bool {
+        match model {
+            _ if self.is_taken => false,
+            Some(model) => !some_follows(self.parts, Known::Values(model)),
+            None => true,
+        }
+    }
+}
+
+/// How many facts there are in the parts of these choices.
+pub fn weight(open: &[Open]) -> usize {
+    let mut weight = 0usize;
+    for one in open {
+        weight = weight.saturating_add(one.size);
+    }
+    weight
+}
+
+/// Whether each choice that is open holds of the values.
+pub fn all_hold(open: &[Open], model: &Model) -> bool {
+    !open.iter().any(|one| one.is_wanted(Some(model)))
+}
+
+/// The first choice that has no way left, else the first that has one: among those that are false
+/// of the values; or without values, among those with no part that is known.
+pub fn forced(open: &[Open], bounds: &Bounds, model: Option<&Model>) -> Option<usize> {
+    let mut single = None;
+    for (i, one) in open.iter().enumerate() {
+        if !one.is_wanted(model) {
+            continue;
+        }
+        let left = ways(one.parts, bounds, 2);
+        if left == 0 {
+            return Some(i);
+        }
+        if left == 1 && single.is_none() {
+            let is_known = model.is_none() && some_follows(one.parts, Known::Bounds(bounds));
+            if !is_known {
+                single = Some(i);
+            }
+        }
+    }
+    single
+}
+
+// The candidate with fewer ways, the first where both have as many.
+fn narrower(first: Option<Candidate>, second: Candidate) -> Candidate {
+    match first {
+        Some(first) if first.ways <= second.ways => first,
+        _ => second,
+    }
+}
+
+// The first choice with the fewest ways among those that are false of the values.
+fn narrowest(open: &[Open], bounds: &Bounds, model: Option<&Model>) -> Option<Candidate> {
+    let mut best = None;
+    let mut most = usize::MAX;
+    for (choice, one) in open.iter().enumerate() {
+        if one.is_wanted(model) {
+            let ways = ways(one.parts, bounds, most);
+            most = most.min(ways);
+            best = Some(narrower(best, Candidate { choice, ways }));
+        }
+    }
+    best
+}
+
+// The bounds with those that the inequalities of one variable add, if they add some.
+fn bounds_with(part: &Part, bounds: &Bounds) -> Result<Option<Bounds>, AllocError> {
+    let mut own = bounds.copy()?;
+    let mut is_better = false;
+    for atom in &part.atoms {
+        if own.take(&atom.form, None).is_some() {
+            is_better = true;
+        }
+    }
+    if is_better { Ok(Some(own)) } else { Ok(None) }
+}
+
+// Whether a variable of the inequality has no value left.
+fn is_emptied(atom: &Atom, bounds: &Bounds) -> bool {
+    let mut terms = atom.form.terms.iter();
+    terms.any(|term| bounds.is_empty_at(term.var))
+}
+
+/// What a choice is looked at against: the rows and the choices of the path, and the bounds.
+#[derive(Clone, Copy)]
+pub struct View<'v, 'a> {
+    pub rows: &'v Rows,
+    pub base: &'v [usize],
+    pub open: &'v [Open<'a>],
+    pub bounds: &'v Bounds,
+}
+
+impl View<'_, '_> {
+    // Whether a row is false within the bounds.
+    fn some_excluded(self, bounds: &Bounds) -> bool {
+        let mut base = self.base.iter();
+        base.any(|row| bounds.exclude(self.rows.form(*row)))
+    }
+
+    // Whether another open choice has no way left within the bounds.
+    fn some_shut(self, but: usize, bounds: &Bounds) -> bool {
+        let mut open = self.open.iter().enumerate();
+        open.any(|(i, one)| i != but && !one.is_taken && ways(one.parts, bounds, 1) == 0)
+    }
+
+    // Whether these bounds leave each variable of the part a value, and each row and each other
+    // choice a way.
+    fn is_alive_within(self, part: &Part, own: usize, bounds: &Bounds) -> bool {
+        !part.atoms.iter().any(|atom| is_emptied(atom, bounds))
+            && !self.some_excluded(bounds)
+            && !self.some_shut(own, bounds)
+    }
+
+    // Whether the bounds, with those of the part, leave each row and each other choice a way.
+    fn is_alive(self, part: &Part, own: usize) -> Result<bool, AllocError> {
+        if width(part, self.bounds, 1) == 0 {
+            return Ok(false);
+        }
+        match bounds_with(part, self.bounds)? {
+            Some(bounds) => Ok(self.is_alive_within(part, own, &bounds)),
+            None => Ok(true),
+        }
+    }
+
+    // Whether no part of the choice is alive.
+    fn is_dead(self, parts: &[Part], own: usize) -> Result<bool, AllocError> {
+        for part in parts {
+            if self.is_alive(part, own)? {
+                return Ok(false);
+            }
+        }
+        Ok(true)
+    }
+
+    // The first choice with the fewest ways among those of which no part is alive.
+    fn dead_choice(self) -> Result<Option<Candidate>, AllocError> {
+        let mut best = None;
+        for (choice, one) in self.open.iter().enumerate() {
+            if !one.is_taken && one.parts.len() <= LOOK_LIMIT && self.is_dead(one.parts, choice)? {
+                let ways = ways(one.parts, self.bounds, usize::MAX);
+                best = Some(narrower(best, Candidate { choice, ways }));
+            }
+        }
+        Ok(best)
+    }
+
+    /// The choice with the fewest ways among those that are false of the values. Where that has
+    /// three or more, one of which no part is alive comes first.
+    pub fn pick(self, model: Option<&Model>) -> Result<Option<usize>, AllocError> {
+        let Some(best) = narrowest(self.open, self.bounds, model) else {
+            return Ok(None);
+        };
+        if best.ways < 3 {
+            return Ok(Some(best.choice));
+        }
+        Ok(Some(self.dead_choice()?.unwrap_or(best).choice))
+    }
+}
+
+// The greatest constant of the inequalities with these terms.
+fn tightest(part: &Part, form: &Inequality) -> Option<i128> {
+    let mut best: Option<i128> = None;
+    for atom in &part.atoms {
+        if atom.form.is_parallel(form) {
+            let constant = atom.form.constant;
+            best = Some(best.unwrap_or(constant).max(constant));
+        }
+    }
+    best
+}
+
+// The least of the constants with which each part that has a way bounds these terms.
+fn weakest(parts: &[Part], form: &Inequality, bounds: &Bounds) -> Option<i128> {
+    let mut weakest = form.constant;
+    for part in parts {
+        if width(part, bounds, 1) > 0 {
+            weakest = weakest.min(tightest(part, form)?);
+        }
+    }
+    Some(weakest)
+}
+
+// The first part that has a way, if another has one too.
+fn first_of_several<'a>(parts: &'a [Part], bounds: &Bounds) -> Option<&'a Part> {
+    let mut first = None;
+    for part in parts {
+        if width(part, bounds, 1) > 0 {
+            if first.is_some() {
+                return first;
+            }
+            first = Some(part);
+        }
+    }
+    None
+}
+
+// An inequality that each part that has a way implies, and that is false of the values.
+fn common_row(
+    alloc: Global,
+    parts: &[Part],
+    bounds: &Bounds,
+    model: &Model,
+) -> Result<Option<Inequality>, AllocError> {
+    let Some(first) = first_of_several(parts, bounds) else {
+        return Ok(None);
+    };
+    for atom in &first.atoms {
+        if atom.form.terms.is_empty() || atom.form.holds(model) {
+            continue;
+        }
+        if let Some(constant) = weakest(parts, &atom.form, bounds) {
+            let mut row = Inequality::number(alloc, constant);
+            row.terms.extend_from_slice(&atom.form.terms)?;
+            if !row.holds(model) {
+                return Ok(Some(row));
+            }
+        }
+    }
+    Ok(None)
+}
+
+/// The first open choice with an inequality that all its parts imply, and that is false of the
+/// values.
+pub fn common_to_choice(
+    alloc: Global,
+    open: &[Open],
+    bounds: &Bounds,
+    model: &Model,
+) -> Result<Option<Common>, AllocError> {
+    for (choice, one) in open.iter().enumerate() {
+        if !one.is_taken {
+            if let Some(form) = common_row(alloc, one.parts, bounds, model)? {
+                return Ok(Some(Common { choice, form }));
+            }
+        }
+    }
+    Ok(None)
+}

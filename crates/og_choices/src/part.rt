@@ -1,0 +1,195 @@
+//! The facts of a condition in the form in which they are searched.
+
+use crate::likeness::mark_parts;
+use og_inequalities::{Bounds, Inequality, Model};
+use og_linear::Form;
+use std::alloc::{AllocError, Global};
+
+/// An inequality and its place among the facts that it stands with, from 0; and the direction of
+/// its terms, where it becomes a row as it is.
+#[derive(Drop)]
+pub struct Atom {
+    pub index: usize,
+    pub form: Inequality,
+    pub direction: Option<u128>,
+}
+
+/// Facts that stand together: those of a condition, or of a part of a choice.
+#[cycle(part)]
+#[derive(Drop)]
+pub struct Part {
+    alloc: Global,
+    pub atoms: Vec<Atom>,
+    pub choices: Vec<Choice>,
+    pub count: usize,
+}
+
+/// A choice of parts, its place among the facts that it stands with, from 0, how many facts there
+/// are in its parts, in all, and a number that is the same for equal parts.
+#[cycle(part)]
+#[derive(Drop)]
+pub struct Choice {
+    pub index: usize,
+    pub parts: Vec<Part>,
+    pub size: usize,
+    pub mark: u128,
+}
+
+/// What is known of the variables.
+#[derive(Clone, Copy)]
+pub enum Known<'a> {
+    /// Their values.
+    Values(&'a Model),
+    /// Their bounds.
+    Bounds(&'a Bounds),
+}
+
+impl Known<'_> {
+    // Whether the inequality is then true.
+    fn implies(self, form: &Inequality) -> bool {
+        match self {
+            Known::Values(model) => form.holds(model),
+            Known::Bounds(bounds) => bounds.imply(form),
+        }
+    }
+}
+
+// The direction of the terms of an inequality of some variables that becomes a row as it is.
+fn direction_of_row(form: &Inequality) -> Option<u128> {
+    if form.is_large() || form.divisor() != 1 {
+        return None;
+    }
+    Some(form.direction())
+}
+
+impl Part {
+    /// No facts.
+    pub fn new(alloc: Global) -> Part {
+        Part {
+            alloc,
+            atoms: Vec::new(alloc),
+            choices: Vec::new(alloc),
+            count: 0,
+        }
+    }
+
+    // The place of one fact more.
+    fn next_place(&mut self) -> usize {
+        let place = self.count;
+        self.count = place.saturating_add(1);
+        place
+    }
+
+    /// Adds the fact that the form is at most 0. `AllocError` where an allocation was refused.
+    pub fn add_form(&mut self, form: &Form) -> Result<(), AllocError> {
+        let form = Inequality::of_form(self.alloc, form)?;
+        let index = self.next_place();
+        let direction = direction_of_row(&form);
+        self.atoms.push(Atom {
+            index,
+            form,
+            direction,
+        })?;
+        Ok(())
+    }
+
+    /// Adds the fact that all facts of one of the parts are true. `AllocError` where an allocation
+    /// was refused.
+    pub fn add_choice(&mut self, parts: Vec<Part>) -> Result<(), AllocError> {
+        let mut size = 0usize;
+        for part in &parts {
+            size = size.saturating_add(part.size());
+        }
+        let index = self.next_place();
+        let mark = mark_parts(&parts);
+        self.choices.push(Choice {
+            index,
+            parts,
+            size,
+            mark,
+        })?;
+        Ok(())
+    }
+
+    /// Adds a fact that no search looks at.
+    pub fn add_unread(&mut self) {
+        self.next_place();
+    }
+
+    // How many facts there are, with those in the parts of choices.
+    fn size(&self) -> usize {
+        let mut size = self.count;
+        for choice in &self.choices {
+            size = size.saturating_add(choice.size);
+        }
+        size
+    }
+
+    // Whether some inequality is false within the bounds.
+    fn is_barred(&self, bounds: &Bounds) -> bool {
+        self.atoms.iter().any(|atom| bounds.exclude(&atom.form))
+    }
+
+    // Whether each inequality is true by what is known.
+    fn atoms_follow(&self, known: Known) -> bool {
+        self.atoms.iter().all(|atom| known.implies(&atom.form))
+    }
+}
+
+/// How many ways the bounds leave open, counted up to so many: none where an inequality is false or
+/// a choice has no way, those of the choice where the part is a single choice, and else one.
+#[cycle(width)]
+pub fn width(part: &Part, bounds: &Bounds, most: usize) -> usize {
+    if part.is_barred(bounds) {
+        return 0;
+    }
+    let mut last = 1;
+    for choice in &part.choices {
+        last = ways(
+            &choice.parts,
+            bounds,
+            if part.count == 1 { most } else { 1 },
+        );
+        if last == 0 {
+            return 0;
+        }
+    }
+    if part.count == 1 { last } else { 1 }
+}
+
+/// How many ways the bounds leave open in all parts, counted up to so many or a few more.
+#[cycle(width)]
+pub fn ways(parts: &[Part], bounds: &Bounds, most: usize) -> usize {
+    let mut sum = 0usize;
+    for part in parts {
+        sum = sum.saturating_add(width(part, bounds, most));
+        if sum >= most {
+            break;
+        }
+    }
+    sum
+}
+
+#[cycle(following)]
+fn follows(part: &Part, known: Known) -> bool {
+    if !part.atoms_follow(known) {
+        return false;
+    }
+    for choice in &part.choices {
+        if !some_follows(&choice.parts, known) {
+            return false;
+        }
+    }
+    true
+}
+
+/// Whether all facts of some part are true by what is known.
+#[cycle(following)]
+pub fn some_follows(parts: &[Part], known: Known) -> bool {
+    for part in parts {
+        if follows(part, known) {
+            return true;
+        }
+    }
+    false
+}

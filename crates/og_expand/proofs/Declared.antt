@@ -1,0 +1,38 @@
+-- Loops over what is declared.
+use Rattle.std.proofs.Common.{◌≡◌, ℕ, ◌+◌, ◌<◌, ℤ, List, [], ◌∷◌, ◌++◌, Ok, Err, length, map, drop, get_or, refl, sym, ap, ◌∙◌, append_assoc}
+use Rattle.og_parse.specs.declared.raw.RawName.{RawName}
+use Rattle.og_parse.specs.declared.raw.RawAux.{RawAux}
+use Rattle.og_expand.specs.Trees as template
+use Rattle.og_expand.specs.Answer.{Checked, ◌>>=◌}
+use Rattle.og_expand.specs.Scope.{Names, Meaning, declared_with}
+use Rattle.og_expand.specs.Values.{value_of}
+use Rattle.og_expand.specs.Outline.{top, variables_of, auxiliary, auxiliaries_in}
+use Rattle.og_expand.proofs.Lists.{drop_next}
+
+-- what is listed after others
+abbrev pub listed_behind : {X : Type 0} → List X → Checked (Names × List X) → Checked (Names × List X)
+listed_behind xs answer = answer >>= λ rest. Ok (rest.0, xs ++ rest.1)
+
+regroup : {X : Type 0} (xs ys : List X) (answer : Checked (Names × List X)) → listed_behind xs (answer >>= λ rest. Ok (rest.0, ys ++ rest.1)) ≡ listed_behind (xs ++ ys) answer
+regroup xs ys (Ok r) = ap (λ l. Ok (r.0, l)) (sym (append_assoc xs ys r.1))
+regroup xs ys (Err f) = refl
+
+-- an auxiliary or a family of them more
+one_more : (names next : Names) (out new : List RawAux) (a : template.Auxiliary) (others : List template.Auxiliary) (own : List RawName × Meaning) (value : ℤ) → variables_of names a.name a.family ≡ Ok own → value_of (top names) a.value ≡ Ok value → declared_with a.name.name own.1 names ≡ next → new ≡ out ++ map (auxiliary value) own.0
+    → listed_behind out (auxiliaries_in names (a ∷ others)) ≡ listed_behind new (auxiliaries_in next others)
+one_more names next out new a others own value is_own is_value is_next made =
+    ap (λ (o : Checked (List RawName × Meaning)). listed_behind out (o >>= λ x. value_of (top names) a.value >>= λ v. auxiliaries_in (declared_with a.name.name x.1 names) others >>= λ rest. Ok (rest.0, map (auxiliary v) x.0 ++ rest.1))) is_own
+    ∙ ap (λ (o : Checked ℤ). listed_behind out (o >>= λ v. auxiliaries_in (declared_with a.name.name own.1 names) others >>= λ rest. Ok (rest.0, map (auxiliary v) own.0 ++ rest.1))) is_value
+    ∙ ap (λ n. listed_behind out (auxiliaries_in n others >>= λ rest. Ok (rest.0, map (auxiliary value) own.0 ++ rest.1))) is_next
+    ∙ regroup out (map (auxiliary value) own.0) (auxiliaries_in next others)
+    ∙ ap (λ l. listed_behind l (auxiliaries_in next others)) (sym made)
+
+-- a turn of the loop over auxiliaries
+pub auxiliaries_turn : {R : Type 0} (tree : R → template.Auxiliary) (names next : Names) (out new : List RawAux) (all : List R) (i : ℕ) (x : R) (own : List RawName × Meaning) (value : ℤ) (total : Checked (Names × List RawAux)) → i < length all → x ≡ get_or all i x
+    → variables_of names (tree x).name (tree x).family ≡ Ok own → value_of (top names) (tree x).value ≡ Ok value → declared_with (tree x).name.name own.1 names ≡ next → new ≡ out ++ map (auxiliary value) own.0
+    → listed_behind out (auxiliaries_in names (map tree (drop i all))) ≡ total → listed_behind new (auxiliaries_in next (map tree (drop (i + 1) all))) ≡ total
+auxiliaries_turn tree names next out new all i x own value total h is is_own is_value is_next made inv =
+    sym (one_more names next out new (tree x) (map tree (drop (i + 1) all)) own value is_own is_value is_next made)
+    ∙ ap (λ y. listed_behind out (auxiliaries_in names (tree y ∷ map tree (drop (i + 1) all)))) is
+    ∙ ap (λ l. listed_behind out (auxiliaries_in names (map tree l))) (sym (drop_next all i x h))
+    ∙ inv

@@ -1,0 +1,9 @@
+pub mod Counted
+pub mod Declared
+pub mod Joined
+pub mod Lists
+pub mod Naming
+pub mod Put
+pub mod Spliced
+pub mod Trees
+pub mod Values

@@ -1,0 +1,13 @@
+pub mod Trees
+pub mod TreeOf
+pub mod Answer
+pub mod Scope
+pub mod Scoped
+pub mod Values
+pub mod Ranges
+pub mod Sums
+pub mod Assertions
+pub mod Put
+pub mod Statements
+pub mod WholeOf
+pub mod Outline

@@ -1,0 +1,20 @@
+//! The expansion of a template: the tree of the outline that it means, under values of its constants.
+//!
+//! [`expand`] gives the tree with the place of each note and statement in the template.
+#![tactic(auto)]
+
+mod assertions;
+mod binders;
+mod declarations;
+mod expander;
+mod exprs;
+mod fault;
+mod origin;
+mod range;
+mod scope;
+mod statements;
+mod sums;
+mod template;
+
+pub use origin::{Binding, Origin};
+pub use template::{Expanded, expand};

@@ -1,0 +1,3 @@
+pub mod Expanded
+pub mod Words
+pub mod Faults

@@ -1,0 +1,17 @@
+//! Expanding a template: what is printed of it, and the status.
+//!
+//! specs/Expanded.antt says what is promised of an answer.
+#![tactic(auto)]
+
+mod again;
+mod expanding;
+mod fault;
+mod line;
+mod places;
+mod printing;
+mod rows;
+mod template;
+mod words;
+
+pub use expanding::{Reply, expanded};
+pub use fault::ExpandFault;

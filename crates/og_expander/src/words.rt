@@ -1,0 +1,57 @@
+//! The values that words give to constants.
+
+ghost use Rattle.std.specs.Prelude.{map, IfErr};
+ghost use Rattle.og_expander.specs.Words.{IsOneOrOther};
+
+use crate::fault::Refusal;
+use og_expand::Binding;
+use og_template::{Constant, Template};
+use std::alloc::Global;
+
+// The number that a text writes: one digit or more, with or without one `-` before them.
+fn integer(text: &str) -> Option<i64> {
+    if text.as_bytes().first() == Some(&b'+') {
+        return None;
+    }
+    text.parse::<i64>().ok()
+}
+
+fn is_constant(constants: &[Constant], name: &[u8]) -> bool {
+    constants
+        .iter()
+        .any(|constant| constant.name.name.as_slice() == name)
+}
+
+fn is_given(given: &[Binding<'_>], name: &[u8]) -> bool {
+    given.iter().any(|binding| binding.name == name)
+}
+
+// The name and the value that a word gives.
+fn said<'a>(word: &'a str) -> Option<Binding<'a>> {
+    let (name, text) = word.split_once('=')?;
+    Some(Binding {
+        name: name.as_bytes(),
+        value: integer(text)?,
+    })
+}
+
+/// The values that the words give, each NAME=INT of a constant that no word before it names.
+pub(crate) fn given<'a>(
+    alloc: Global,
+    template: &Template,
+    words: &[&'a str],
+) -> Result<Vec<Binding<'a>>, Refusal<'a>>
+    ensures { IfErr result (IsOneOrOther (map (λ w. w.now) words.now)) }
+{
+    let mut given = Vec::new(alloc);
+    for word in words {
+        let Some(binding) = said(word) else {
+            return Err(Refusal::BadValue(word));
+        };
+        if !is_constant(&template.constants, binding.name) || is_given(&given, binding.name) {
+            return Err(Refusal::BadValue(word));
+        }
+        given.push(binding)?;
+    }
+    Ok(given)
+}

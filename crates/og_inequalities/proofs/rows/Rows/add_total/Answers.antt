@@ -1,0 +1,9 @@
+use Rattle.std.proofs.Common.{ap, ◌∙◌}
+use Rattle.og_inequalities.specs.Rows.{weighted}
+use Rattle.og_inequalities.proofs.Following.{sum_justified}
+use Rattle.og_inequalities.proofs.rows.Rows.add_total.Goals as goal
+
+pub add-requires : goal.add-requires
+add-requires c = λ s proper all _.
+    let sums = rw c.in-Some.is at c.in_ok-form.ensures in
+    sum_justified c.args.self.now.rows c.args.sum.items c.in-Some.form s (sums s ∙ ap (λ ps. weighted c.args.self.now.rows ps s) c.deref.ensures.value) all

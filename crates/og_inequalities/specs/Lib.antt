@@ -1,0 +1,4 @@
+pub mod Inequality
+pub mod Bounds
+pub mod Errors
+pub mod Rows

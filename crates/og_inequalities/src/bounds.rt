@@ -1,0 +1,379 @@
+//! Bounds of the variables.
+
+ghost use Rattle.std.specs.Prelude.{◌≡◌, ◌<◌, ℤ, pos, List, ◌+ℤ◌, ◌*ℤ◌, ◌≤ℤ◌, ◌<ℤ◌, ◌↔◌, IfOk, IfSome, IfNone, OnSome, IsTrue, replicate, get_or, length, slice_set, int_lt, if◌then◌else◌};
+ghost use Rattle.og_inequalities.specs.declared.bounds.Side.TheVariants.{Lower, Upper};
+ghost use Rattle.og_linear.specs.Linear.{value_at};
+ghost use Rattle.og_inequalities.specs.Inequality.{left_side, Holds, part_at, sum_at};
+ghost use Rattle.og_inequalities.specs.Bounds.{whole, bound_at, bounded, Within, Meets, Tightens};
+
+use crate::inequality::{Inequality, Term};
+use crate::number::{ceil_div, floor_div, product};
+use std::alloc::{AllocError, Global};
+use std::marker;
+
+/// The least value of a variable.
+pub const LOWEST: i128 = -9_223_372_036_854_775_808;
+
+/// The greatest value of a variable.
+pub const HIGHEST: i128 = 9_223_372_036_854_775_807;
+
+/// A side on which a variable is bounded.
+#[derive(Clone, Copy)]
+pub enum Side {
+    Lower,
+    Upper,
+}
+
+impl Side {
+    /// The side on which a term with this coefficient is least.
+    pub fn of_least(coefficient: i128) -> Side
+        ensures { result ≡ (if int_lt (pos 0) coefficient then Lower else Upper) }
+    {
+        if coefficient > 0 {
+            Side::Lower
+        } else {
+            Side::Upper
+        }
+    }
+
+    /// The side on which a term with this coefficient is greatest.
+    pub fn of_greatest(coefficient: i128) -> Side
+        ensures { result ≡ (if int_lt (pos 0) coefficient then Upper else Lower) }
+    {
+        if coefficient > 0 {
+            Side::Upper
+        } else {
+            Side::Lower
+        }
+    }
+}
+
+/// What an inequality says of one of its variables: it is no less, or no greater, than a value.
+#[derive(Clone, Copy)]
+pub struct Limit {
+    pub side: Side,
+    pub value: i128,
+}
+
+impl Limit {
+    /// What `coefficient * x + rest <= 0` says of x; none where the coefficient is 0 or a number
+    /// leaves `i128`.
+    pub fn of(coefficient: i128, rest: i128) -> Option<Limit>
+        ensures { IfSome result (λ l. (x : ℤ)
+            → ((coefficient *ℤ x +ℤ rest) ≤ℤ pos 0) ↔ Meets l.side l.value x) }
+    {
+        if coefficient > 0 {
+            let value = floor_div(rest.checked_neg()?, coefficient)?;
+            let side = Side::Upper;
+            return Some(Limit { side, value });
+        }
+        let opposite = coefficient.checked_neg()?;
+        if opposite == 0 {
+            return None;
+        }
+        let value = ceil_div(rest, opposite)?;
+        let side = Side::Lower;
+        Some(Limit { side, value })
+    }
+}
+
+// What an inequality of one variable says of that; none of other inequalities, and where a number
+// leaves `i128`.
+fn limit_of(form: &Inequality) -> Option<(u32, Limit)>
+    ensures { IfSome result (λ p. (s : List ℤ)
+        → Holds form.now s ↔ Meets p.1.side p.1.value (value_at s p.0)) }
+{
+    if form.terms.len() != 1 {
+        return None;
+    }
+    let only = form.terms[0];
+    let limit = Limit::of(only.coefficient, form.constant)?;
+    Some((only.var, limit))
+}
+
+/// A bound of a variable, and the row that says so; none where it is the range of `i64`.
+#[derive(Clone, Copy)]
+pub struct Bound {
+    pub value: i128,
+    pub row: Option<usize>,
+}
+
+/// The bounds of one variable.
+#[derive(Clone, Copy)]
+pub struct Interval {
+    lower: Bound,
+    upper: Bound,
+}
+
+impl Interval {
+    // The range of `i64`.
+    fn whole() -> Interval
+        ensures { result ≡ whole }
+    {
+        Interval {
+            lower: Bound {
+                value: LOWEST,
+                row: None,
+            },
+            upper: Bound {
+                value: HIGHEST,
+                row: None,
+            },
+        }
+    }
+}
+
+/// The bounds of all variables. Contracts see those of each variable in turn.
+#[derive(Drop)]
+pub struct Bounds {
+    intervals: Vec<Interval>,
+}
+
+impl marker::Model for Bounds {
+    ghost use Rattle.std.specs.Prelude.{List};
+    ghost use Rattle.og_inequalities.specs.declared.bounds.Interval.{Interval};
+
+    ghost Value = { List Interval };
+
+    ghost view = { λ b. b.intervals.items };
+}
+
+impl Bounds {
+    /// No bounds but the range of `i64`.
+    pub fn new(alloc: Global, variables: usize) -> Result<Bounds, AllocError>
+        ensures { IfOk result (λ b. b ≡ replicate variables whole) }
+    {
+        Ok(Bounds {
+            intervals: vec![in alloc; Interval::whole(); variables]?,
+        })
+    }
+
+    /// Equal bounds.
+    pub fn copy(&self) -> Result<Bounds, AllocError>
+        ensures { IfOk result (λ b. b ≡ self.now) }
+    {
+        Ok(Bounds {
+            intervals: self.intervals.clone()?,
+        })
+    }
+
+    /// The bound of a variable on a side.
+    pub fn get(&self, var: u32, side: Side) -> Bound
+        ensures { result ≡ bound_at self.now var side }
+    {
+        let interval = self.intervals.get(var as usize).copied();
+        let interval = interval.unwrap_or(Interval::whole());
+        match side {
+            Side::Lower => interval.lower,
+            Side::Upper => interval.upper,
+        }
+    }
+
+    /// Whether the limit leaves the variable fewer values than its bound on that side.
+    pub fn is_improved_by(&self, var: u32, limit: Limit) -> bool
+        ensures { IsTrue result ↔ Tightens limit.side limit.value (bound_at self.now var limit.side).value }
+    {
+        let bound = self.get(var, limit.side);
+        match limit.side {
+            Side::Lower => limit.value > bound.value,
+            Side::Upper => limit.value < bound.value,
+        }
+    }
+
+    /// The bound of its variable at which the term is least.
+    pub fn least_at(&self, term: Term) -> Bound
+        ensures { (s : List ℤ) → Within self.now s
+            → (term.coefficient *ℤ result.value) ≤ℤ part_at term s }
+    {
+        self.get(term.var, Side::of_least(term.coefficient))
+    }
+
+    /// The bound of its variable at which the term is greatest.
+    pub fn greatest_at(&self, term: Term) -> Bound
+        ensures { (s : List ℤ) → Within self.now s
+            → part_at term s ≤ℤ (term.coefficient *ℤ result.value) }
+    {
+        self.get(term.var, Side::of_greatest(term.coefficient))
+    }
+
+    // A number that the term is not below at values within the bounds, where it fits.
+    fn least_of(&self, term: Term) -> Option<i128>
+        ensures { IfSome result (λ v. (s : List ℤ) → Within self.now s → v ≤ℤ part_at term s) }
+    {
+        product(term.coefficient, self.least_at(term).value)
+    }
+
+    // A number that the term is not above at values within the bounds, where it fits.
+    fn greatest_of(&self, term: Term) -> Option<i128>
+        ensures { IfSome result (λ v. (s : List ℤ) → Within self.now s → part_at term s ≤ℤ v) }
+    {
+        product(term.coefficient, self.greatest_at(term).value)
+    }
+
+    // The sum, and what the terms are not below at values within the bounds, where it fits.
+    fn add_least(&self, start: i128, terms: &[Term]) -> Option<i128>
+        ensures { IfSome result (λ v. (s : List ℤ) → Within self.now s → v ≤ℤ (start +ℤ sum_at terms.now s)) }
+    {
+        let mut sum = start;
+        for term in terms {
+            sum = sum.checked_add(self.least_of(*term)?)?;
+        }
+        Some(sum)
+    }
+
+    /// A number that the form is not below at values within the bounds, each term where it is
+    /// least; none where a number leaves `i128`.
+    pub fn least(&self, form: &Inequality) -> Option<i128>
+        ensures { IfSome result (λ v. (s : List ℤ) → Within self.now s → v ≤ℤ left_side form.now s) }
+    {
+        self.add_least(form.constant, &form.terms)
+    }
+
+    /// A number that the form is not above at values within the bounds, each term where it is
+    /// greatest; none where a number leaves `i128`.
+    pub fn greatest(&self, form: &Inequality) -> Option<i128>
+        ensures { IfSome result (λ v. (s : List ℤ) → Within self.now s → left_side form.now s ≤ℤ v) }
+    {
+        let mut sum = form.constant;
+        for term in &form.terms {
+            sum = sum.checked_add(self.greatest_of(*term)?)?;
+        }
+        Some(sum)
+    }
+
+    // A number that the sum of two terms of one variable is not below, where it fits.
+    fn least_of_both(&self, x: Term, y: Term) -> Option<i128>
+        requires { x.var ≡ y.var }
+        ensures { IfSome result (λ v. (s : List ℤ) → Within self.now s → v ≤ℤ (part_at x s +ℤ part_at y s)) }
+    {
+        let var = x.var;
+        let coefficient = x.coefficient.checked_add(y.coefficient)?;
+        self.least_of(Term { var, coefficient })
+    }
+
+    // The sum, and what the terms of both lists are not below at values within the bounds, where it
+    // fits.
+    fn add_least_of_sum(&self, start: i128, a: &[Term], b: &[Term]) -> Option<i128>
+        ensures { IfSome result (λ v. (s : List ℤ) → Within self.now s
+            → v ≤ℤ (start +ℤ (sum_at a.now s +ℤ sum_at b.now s))) }
+    {
+        let mut sum = start;
+        let mut i = 0;
+        let mut j = 0;
+        'both: while i < a.len() && j < b.len() {
+            let (x, y) = (a[i], b[j]);
+            if x.var < y.var {
+                sum = sum.checked_add(self.least_of(x)?)?;
+                i += 1;
+            } else if y.var < x.var {
+                sum = sum.checked_add(self.least_of(y)?)?;
+                j += 1;
+            } else {
+                sum = sum.checked_add(self.least_of_both(x, y)?)?;
+                i += 1;
+                j += 1;
+            }
+        }
+        let with_first = self.add_least(sum, &a[i..])?;
+        self.add_least(with_first, &b[j..])
+    }
+
+    /// A number that the sum of the two forms is not below at values within the bounds, each term of
+    /// the sum where it is least; none where a number leaves `i128`.
+    pub fn least_of_sum(&self, first: &Inequality, second: &Inequality) -> Option<i128>
+        ensures { IfSome result (λ v. (s : List ℤ) → Within self.now s
+            → v ≤ℤ (left_side first.now s +ℤ left_side second.now s)) }
+    {
+        let start = first.constant.checked_add(second.constant)?;
+        self.add_least_of_sum(start, &first.terms, &second.terms)
+    }
+
+    /// Whether the inequality is false at all values within the bounds, as far as sums of the terms'
+    /// least values tell.
+    pub fn exclude(&self, form: &Inequality) -> bool
+        ensures { IsTrue result → (s : List ℤ) → Within self.now s → pos 0 <ℤ left_side form.now s }
+    {
+        match self.least(form) {
+            Some(least) => least > 0,
+            None => false,
+        }
+    }
+
+    /// Whether the sum of the two inequalities is false at all values within the bounds, in the same
+    /// way.
+    pub fn exclude_sum(&self, first: &Inequality, second: &Inequality) -> bool
+        ensures { IsTrue result → (s : List ℤ) → Within self.now s
+            → pos 0 <ℤ (left_side first.now s +ℤ left_side second.now s) }
+    {
+        match self.least_of_sum(first, second) {
+            Some(least) => least > 0,
+            None => false,
+        }
+    }
+
+    /// Whether the inequality is true at all values within the bounds, as far as sums of the terms'
+    /// greatest values tell.
+    pub fn imply(&self, form: &Inequality) -> bool
+        ensures { IsTrue result → (s : List ℤ) → Within self.now s → Holds form.now s }
+    {
+        match self.greatest(form) {
+            Some(greatest) => greatest <= 0,
+            None => false,
+        }
+    }
+
+    /// Whether no value of the variable is left.
+    pub fn is_empty_at(&self, var: u32) -> bool
+        ensures { IsTrue result ↔ ((bound_at self.now var Upper).value <ℤ (bound_at self.now var Lower).value) }
+    {
+        self.get(var, Side::Lower).value > self.get(var, Side::Upper).value
+    }
+
+    /// The row that says as much of its variable as an inequality of one variable, if one does.
+    pub fn implied_by(&self, form: &Inequality) -> Option<usize>
+        ensures { OnSome result ((s : List ℤ) → Within self.now s → Holds form.now s) }
+    {
+        let (var, limit) = limit_of(form)?;
+        if self.is_improved_by(var, limit) {
+            return None;
+        }
+        self.get(var, limit.side).row
+    }
+
+    // Gives the variable a bound on a side.
+    fn set(&mut self, var: u32, side: Side, bound: Bound)
+        requires { var < length self.old }
+        ensures { self.new ≡ slice_set self.old var (bounded side bound (get_or self.old var whole)) }
+    {
+        let interval = self.intervals[var as usize];
+        self.intervals[var as usize] = match side {
+            Side::Lower => Interval {
+                lower: bound,
+                upper: interval.upper,
+            },
+            Side::Upper => Interval {
+                lower: interval.lower,
+                upper: bound,
+            },
+        };
+    }
+
+    /// Takes the bound that an inequality of one variable sets, said by this row if there is one.
+    /// Tells the variable if that got a better bound.
+    pub fn take(&mut self, form: &Inequality, row: Option<usize>) -> Option<u32>
+        ensures within { (s : List ℤ) → Within self.old s → Holds form.now s → Within self.new s }
+        ensures tighter { OnSome result ((s : List ℤ) → Within self.new s → Within self.old s × Holds form.now s) }
+        ensures kept { IfNone result (self.new ≡ self.old) }
+    {
+        let (var, limit) = limit_of(form)?;
+        if var as usize >= self.intervals.len() {
+            return None;
+        }
+        if !self.is_improved_by(var, limit) {
+            return None;
+        }
+        let value = limit.value;
+        self.set(var, limit.side, Bound { value, row });
+        Some(var)
+    }
+}

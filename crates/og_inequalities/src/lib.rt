@@ -1,0 +1,19 @@
+//! Linear inequalities over whole numbers: their arithmetic, bounds of variables, and rows that
+//! follow from facts.
+#![tactic(auto)]
+
+mod bounds;
+mod error;
+mod inequality;
+mod levels;
+mod model;
+mod number;
+mod rows;
+
+pub use bounds::{Bound, Bounds, HIGHEST, Interval, LOWEST, Limit, Side};
+pub use error::{AddError, RowError};
+pub use inequality::{Inequality, Scaled, Term, next_mark};
+pub use levels::{Levels, Place, TOP};
+pub use model::Model;
+pub use number::common;
+pub use rows::{Added, Origin, Row, Rows, Summand};

@@ -1,0 +1,22 @@
+-- Why a word of a run is told as bad.
+use Rattle.std.proofs.Common.{◌≡◌, inl, inr, ℕ, List, Option, Some, None, Vec}
+use Rattle.std.specs.Prelude.{IfSome}
+use Rattle.std.specs.Global.{Global}
+use Rattle.og_remark.specs.Values.{schedule_text, reason_line, IsValueRemark}
+use Rattle.og_remark.specs.declared.values.Gives.TheVariants as gives
+use Rattle.og_program.specs.Served.{IsWordRemark}
+use denote.Ref.{Bor}
+
+-- it gives no value
+pub of_value : (source word : List ℕ) (schedule : Option (Bor (List ℕ))) (why : Option (Vec ℕ Global)) → IfSome why (λ line. IsValueRemark gives.Values source word line.items)
+    → IfSome why (λ line. IsWordRemark source schedule word line.items)
+of_value source word None None h = tt
+of_value source word None (Some line) h = h
+of_value source word (Some schedule) None h = tt
+of_value source word (Some schedule) (Some line) h = inl h
+
+-- it is the schedule
+pub of_schedule : (source word : List ℕ) (schedule : Bor (List ℕ)) (why : Option (Vec ℕ Global)) → word ≡ schedule.now → IfSome why (λ line. line.items ≡ reason_line schedule_text)
+    → IfSome why (λ line. IsWordRemark source (Some schedule) word line.items)
+of_schedule source word schedule None same h = tt
+of_schedule source word schedule (Some line) same h = inr (same, h)

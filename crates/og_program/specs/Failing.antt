@@ -1,0 +1,60 @@
+-- Why a job cannot be done, and how that is told.
+use Rattle.std.specs.Prelude.{◌≡◌, ◌⊎◌, ℕ, Bool, true, false, List, [], codes, Result, Ok, Err, ⊤}
+use Rattle.og_engine.specs.declared.fault.WriteFault.TheVariants as writes
+use Rattle.og_listing.specs.Places.{◌&◌}
+use Rattle.og_pool.specs.declared.fault.PoolFault.{PoolFault}
+use Rattle.og_pool.specs.declared.fault.PoolFault.TheVariants as pool
+use Rattle.og_program.specs.declared.fault.Fault.{Fault}
+use Rattle.og_program.specs.declared.fault.Fault.TheVariants as faults
+use Rattle.og_program.specs.declared.fault.Why.{Why}
+use Rattle.og_program.specs.declared.fault.Why.TheVariants as whys
+
+abbrev pub why_text : Why → List ℕ
+why_text whys.Missing = codes "no such file"
+why_text whys.Forbidden = codes "permission denied"
+why_text whys.Directory = codes "is a directory"
+why_text whys.Failed = codes "cannot be read"
+
+abbrev pub fault_text : Fault → List ℕ
+fault_text (faults.NotRead name why) = codes "og: " & name.now & codes ": " & why_text why & codes "\n"
+fault_text (faults.NotWritten writes.Closed) = []
+fault_text (faults.NotWritten writes.Failed) = codes "og: write failed\n"
+fault_text faults.Memory = codes "og: out of memory\n"
+fault_text faults.Spawn = codes "og: no thread\n"
+
+-- a file that was not read has such a name N; W where standard output was not written, and S where a thread could not be started
+abbrev pub IsFault : (List ℕ → Type 0) → Type 0 → Type 0 → Fault → Type 0
+IsFault N W S (faults.NotRead name why) = N name.now
+IsFault N W S (faults.NotWritten fault) = W
+IsFault N W S faults.Memory = ⊤
+IsFault N W S faults.Spawn = S
+
+-- a file of one name was not read, or memory ran out
+abbrev pub IsReading : List ℕ → Fault → Type 0
+IsReading name fault = IsFault (λ n. n ≡ name) ⊥ ⊥ fault
+
+-- a file of one of two names was not read, or memory ran out
+abbrev pub IsReadingBoth : List ℕ → List ℕ → Fault → Type 0
+IsReadingBoth source certs fault = IsFault (λ n. (n ≡ source) ⊎ (n ≡ certs)) ⊥ ⊥ fault
+
+abbrev pub is_not_read : Fault → Bool
+is_not_read (faults.NotRead name why) = true
+is_not_read (faults.NotWritten fault) = false
+is_not_read faults.Memory = false
+is_not_read faults.Spawn = false
+
+abbrev pub is_not_written : Fault → Bool
+is_not_written (faults.NotRead name why) = false
+is_not_written (faults.NotWritten fault) = true
+is_not_written faults.Memory = false
+is_not_written faults.Spawn = false
+
+-- a file was not read
+abbrev pub IsUnread : {A : Type 0} → Result A Fault → Type 0
+IsUnread (Ok a) = ⊥
+IsUnread (Err fault) = is_not_read fault ≡ true
+
+-- want of memory, or of a thread
+abbrev pub of_pool : PoolFault → Fault
+of_pool pool.Memory = faults.Memory
+of_pool pool.Spawn = faults.Spawn

@@ -1,0 +1,289 @@
+//! What goes to standard error beside an answer.
+
+ghost use Rattle.std.specs.Prelude.{◌≡◌, map, None, IfSome};
+ghost use Rattle.og_remark.specs.Missing.{IsMissingRemark};
+ghost use Rattle.og_remark.specs.Remarks.{IsSourceRemark, IsConditionsRemark, IsCheckRemark, IsCertificatesRemark};
+ghost use Rattle.og_remark.specs.Starting.{IsRunRemark, IsProvedRunRemark};
+ghost use Rattle.og_remark.specs.Values.{schedule_text, reason_line, IsValueRemark};
+ghost use Rattle.og_remark.specs.declared.values.Gives.TheVariants as gives;
+ghost use Rattle.og_program.specs.Told.{Noted};
+ghost use Rattle.og_program.specs.Served.{Remarks, RemarksBoth, TellsRan, IsWordRemark, IsExpansionNote, Follows, FollowsExploring, FollowsExpanding};
+
+use crate::outcome::{BadValue, Outcome, Told};
+use og_advice::Names;
+use og_answer::Answer;
+use og_expander::{ExpandFault, Reply as Expanded};
+use og_explorer::Reply as Explored;
+use og_remark::{
+    Gives, certificates_remark, check_remark, conditions_remark, expansion_remark, missing_remark,
+    proved_run_remark, run_remark, schedule_remark, source_remark, value_remark,
+};
+use og_running::{Ran, Reply};
+use std::alloc::Global;
+use std::sync::Wait;
+use std::thread::Threads;
+
+// The status of a refusal.
+const REFUSED: u8 = 2;
+
+// The status where some condition is not certified.
+const LACKING: u8 = 1;
+
+/// An answer about a source, and why it is refused where it is.
+pub(crate) fn beside_source(alloc: Global, name: &str, source: &[u8], answer: Answer) -> Told
+    ensures answer { result.answer ≡ answer }
+    ensures remark { Remarks (IsSourceRemark name.now source.now) result }
+{
+    let note = if answer.status == REFUSED {
+        source_remark(alloc, name, source)
+    } else {
+        Ok(None)
+    };
+    Told { answer, note }
+}
+
+/// An answer about the conditions of a source, and why they are refused where they are.
+pub(crate) fn beside_conditions(alloc: Global, name: &str, source: &[u8], answer: Answer) -> Told
+    ensures answer { result.answer ≡ answer }
+    ensures remark { Remarks (IsConditionsRemark name.now source.now) result }
+{
+    let note = if answer.status == REFUSED {
+        conditions_remark(alloc, name, source)
+    } else {
+        Ok(None)
+    };
+    Told { answer, note }
+}
+
+/// An answer about certificates, and why they are refused where they are.
+pub(crate) fn beside_certificates(alloc: Global, name: &str, certs: &[u8], answer: Answer) -> Told
+    ensures answer { result.answer ≡ answer }
+    ensures remark { Remarks (IsCertificatesRemark name.now certs.now) result }
+{
+    let note = if answer.status == REFUSED {
+        certificates_remark(alloc, name, certs)
+    } else {
+        Ok(None)
+    };
+    Told { answer, note }
+}
+
+/// The certificates that are found for a source, and how many conditions have none, or why the
+/// source is refused.
+pub(crate) fn beside_found(alloc: Global, name: &str, source: &[u8], answer: Answer) -> Told
+    ensures answer { result.answer ≡ answer }
+    ensures remark { RemarksBoth (IsConditionsRemark name.now source.now) (IsMissingRemark name.now source.now result.answer.text.items) result }
+{
+    let note = match answer.status {
+        REFUSED => conditions_remark(alloc, name, source),
+        LACKING => missing_remark(alloc, name, source, &answer.text),
+        _ => Ok(None),
+    };
+    Told { answer, note }
+}
+
+/// The answer of a check, and how many conditions have no certificate, or why the source or the
+/// certificates are refused.
+pub(crate) fn beside_check<H: Threads + Wait + Sync>(
+    rt: &H,
+    alloc: Global,
+    names: Names<'_>,
+    source: &[u8],
+    certs: &[u8],
+    answer: Answer,
+) -> Told
+    ensures answer { result.answer ≡ answer }
+    ensures remark { RemarksBoth (IsCheckRemark names.entry.source.now names.entry.certs.now source.now certs.now) (IsMissingRemark names.entry.source.now source.now certs.now) result }
+{
+    let note = match answer.status {
+        REFUSED => check_remark(rt, alloc, names, source, certs),
+        LACKING => missing_remark(alloc, names.source, source, certs),
+        _ => Ok(None),
+    };
+    Told { answer, note }
+}
+
+// A word that gives no value, and why, where memory for that is not refused.
+fn bad_value<'a>(alloc: Global, gives: Gives, source: &[u8], word: &'a str) -> BadValue<'a>
+    ensures word { result.word ≡ word.entry }
+    ensures why { IfSome result.why (λ line. IsValueRemark gives source.now word.now line.items) }
+{
+    match value_remark(alloc, gives, source, word) {
+        Ok(why) => BadValue { word, why },
+        Err(_) => BadValue { word, why: None },
+    }
+}
+
+// A schedule that is no list of numbers, and what one is, where memory for that is not refused.
+fn bad_schedule(alloc: Global, word: &str) -> BadValue<'_>
+    ensures word { result.word ≡ word.entry }
+    ensures why { IfSome result.why (λ line. line.items ≡ reason_line schedule_text) }
+{
+    match schedule_remark(alloc) {
+        Ok(line) => BadValue {
+            word,
+            why: Some(line),
+        },
+        Err(_) => BadValue { word, why: None },
+    }
+}
+
+// A word of a run that gives no value or is no schedule; which of both, if it may be either, is
+// not told.
+#[tactic(auto, using(crate::proofs::Words::of_value, crate::proofs::Words::of_schedule))]
+fn bad_word<'a>(
+    alloc: Global,
+    source: &[u8],
+    words: &[&str],
+    schedule: Option<&str>,
+    word: &'a str,
+) -> BadValue<'a>
+    ensures word { result.word ≡ word.entry }
+    ensures why { IfSome result.why (λ line. IsWordRemark source.now schedule.entry word.now line.items) }
+{
+    let Some(schedule) = schedule else {
+        return bad_value(alloc, Gives::Values, source, word);
+    };
+    if schedule != word {
+        return bad_value(alloc, Gives::Values, source, word);
+    }
+    if words.contains(&word) {
+        return BadValue { word, why: None };
+    }
+    bad_schedule(alloc, word)
+}
+
+// The answer of a run, and beside it why it is refused, or its line.
+fn beside_ran(alloc: Global, name: &str, source: &[u8], words: &[&str], ran: Ran) -> Told
+    ensures { TellsRan (IsRunRemark name.now source.now (map (λ w. w.now) words.now)) ran result }
+{
+    let Ran { answer, note } = ran;
+    let note = if answer.status == REFUSED {
+        run_remark(alloc, name, source, words)
+    } else {
+        Ok(note)
+    };
+    Told { answer, note }
+}
+
+/// What is told of the reply to a run of a source.
+pub(crate) fn beside_run<'a>(
+    alloc: Global,
+    name: &str,
+    source: &[u8],
+    words: &[&str],
+    schedule: Option<&str>,
+    reply: Reply<'a>,
+) -> Outcome<'a>
+    ensures { Follows (IsRunRemark name.now source.now (map (λ w. w.now) words.now)) (IsWordRemark source.now schedule.entry) reply.entry result }
+{
+    match reply {
+        Reply::Told(ran) => Outcome::Told(beside_ran(alloc, name, source, words, ran)),
+        Reply::BadValue(word) => {
+            Outcome::BadValue(bad_word(alloc, source, words, schedule, word))
+        }
+        Reply::NotMade(line) => Outcome::NotMade(line),
+    }
+}
+
+// The answer of a run by certificates, and beside it why it is refused, or its line.
+fn beside_proved_ran<H: Threads + Wait + Sync>(
+    rt: &H,
+    alloc: Global,
+    names: Names<'_>,
+    source: &[u8],
+    certs: &[u8],
+    words: &[&str],
+    ran: Ran,
+) -> Told
+    ensures { TellsRan (IsProvedRunRemark names.entry.source.now names.entry.certs.now source.now certs.now (map (λ w. w.now) words.now)) ran result }
+{
+    let Ran { answer, note } = ran;
+    let note = if answer.status == REFUSED {
+        proved_run_remark(rt, alloc, names, source, certs, words)
+    } else {
+        Ok(note)
+    };
+    Told { answer, note }
+}
+
+/// What is told of the reply to a run of a source that certificates are to prove safe.
+pub(crate) fn beside_proved_run<'a, H: Threads + Wait + Sync>(
+    rt: &H,
+    alloc: Global,
+    names: Names<'_>,
+    source: &[u8],
+    certs: &[u8],
+    words: &[&str],
+    reply: Reply<'a>,
+) -> Outcome<'a>
+    ensures { Follows (IsProvedRunRemark names.entry.source.now names.entry.certs.now source.now certs.now (map (λ w. w.now) words.now)) (IsWordRemark source.now None) reply.entry result }
+{
+    match reply {
+        Reply::Told(ran) => {
+            Outcome::Told(beside_proved_ran(rt, alloc, names, source, certs, words, ran))
+        }
+        Reply::BadValue(word) => {
+            Outcome::BadValue(bad_value(alloc, Gives::Values, source, word))
+        }
+        Reply::NotMade(line) => Outcome::NotMade(line),
+    }
+}
+
+/// What is told of the reply to an exploration of a source.
+pub(crate) fn beside_exploration<'a>(
+    alloc: Global,
+    name: &str,
+    source: &[u8],
+    reply: Explored<'a>,
+) -> Outcome<'a>
+    ensures { FollowsExploring (IsSourceRemark name.now source.now) (IsValueRemark gives.Ranges source.now) reply.entry result }
+{
+    match reply {
+        Explored::Answer(answer) => Outcome::Told(beside_source(alloc, name, source, answer)),
+        Explored::BadValue(word) => {
+            Outcome::BadValue(bad_value(alloc, Gives::Ranges, source, word))
+        }
+    }
+}
+
+// The line of a fault of a template, and why it is one.
+fn beside_fault(
+    alloc: Global,
+    name: &str,
+    template: &[u8],
+    answer: Answer,
+    fault: &ExpandFault,
+) -> Told
+    ensures answer { result.answer ≡ answer }
+    ensures note { Noted (IsExpansionNote name.now template.now fault.now) result }
+{
+    match expansion_remark(alloc, name, template, fault) {
+        Ok(text) => Told {
+            answer,
+            note: Ok(Some(text)),
+        },
+        Err(refused) => Told {
+            answer,
+            note: Err(refused),
+        },
+    }
+}
+
+/// What is told of the reply to an expansion of a template.
+pub(crate) fn beside_expansion<'a>(
+    alloc: Global,
+    name: &str,
+    template: &[u8],
+    reply: Expanded<'a>,
+) -> Outcome<'a>
+    ensures { FollowsExpanding name.now template.now reply.entry result }
+{
+    match reply {
+        Expanded::Answer(answer) => Outcome::Told(beside_source(alloc, name, template, answer)),
+        Expanded::Refused(answer, fault) => {
+            Outcome::Told(beside_fault(alloc, name, template, answer, &fault))
+        }
+        Expanded::BadValue(word) => Outcome::BadValue(BadValue { word, why: None }),
+    }
+}

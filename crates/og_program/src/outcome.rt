@@ -1,0 +1,33 @@
+//! What a job comes to, before anything of it is written.
+
+use og_answer::Answer;
+use std::alloc::AllocError;
+
+/// An answer, and what goes to standard error beside it.
+#[derive(Debug, Drop)]
+pub struct Told {
+    /// What is printed, and the status.
+    pub answer: Answer,
+    /// What goes to standard error, if anything does; or that memory for it was refused.
+    pub note: Result<Option<Vec<u8>>, AllocError>,
+}
+
+/// A word that gives no variable a value or a range, or a schedule that is no list of numbers.
+#[derive(Debug, Drop)]
+pub struct BadValue<'a> {
+    /// The word.
+    pub word: &'a str,
+    /// The line that says why, if there is one and memory for it was not refused.
+    pub why: Option<Vec<u8>>,
+}
+
+/// What a job comes to.
+#[derive(Debug, Drop)]
+pub enum Outcome<'a> {
+    /// An answer.
+    Told(Told),
+    /// The first word that gives no value.
+    BadValue(BadValue<'a>),
+    /// The line that says which step of the schedule cannot be made, and why.
+    NotMade(Vec<u8>),
+}

@@ -1,0 +1,61 @@
+-- How many conditions have no certificate, as it is told on standard error.
+use Rattle.std.specs.Prelude.{◌≡◌, ◌<◌, ◌≤◌, ◌⊎◌, ℕ, zero, suc, Bool, is_none, List, length, Option, None, Some, Ok, if◌then◌else◌, codes}
+use Rattle.std.specs.Fmt.{decimal}
+use Rattle.og_typed.specs.Syntax.{Program}
+use Rattle.og_cond.specs.Conditions.{conditions}
+use Rattle.og_cond.specs.Limits.{condition_limit}
+use Rattle.og_source.specs.Source.{IsSource}
+use Rattle.og_source.specs.Refused.{IsSourceFault}
+use Rattle.og_source.specs.declared.fault.SourceFault.{SourceFault}
+use Rattle.og_cert_text.specs.Files.{Entries, certificate_of}
+use Rattle.og_cert_text.specs.declared.fault.CertTextFault.{CertTextFault}
+use Rattle.og_cert_read.specs.Read.{Gives, IsWrong}
+use Rattle.og_listing.specs.Places.{◌&◌}
+
+abbrev pub lacks : Entries → ℕ → Bool
+lacks file n = is_none (certificate_of n file)
+
+-- how many of the conditions from 1 up to this number have no certificate
+abbrev pub missing_up_to : Entries → ℕ → ℕ
+missing_up_to file zero = 0
+missing_up_to file (suc n) = if lacks file (suc n) then suc (missing_up_to file n) else missing_up_to file n
+
+-- MISSING of COUNT
+abbrev pub counts_text : ℕ → ℕ → List ℕ
+counts_text missing count = decimal missing & codes " of " & decimal count
+
+abbrev pub missing_text : List ℕ → ℕ → ℕ → List ℕ
+missing_text name missing count = codes "og: " & counts_text missing count & codes " conditions have no certificate; 'og prove " & name & codes "' says why\n"
+
+-- how many conditions the outline has, or nothing where they are more than the limit
+abbrev pub IsCount : Program → Option ℕ → Type 0
+IsCount o (Some n) = n ≡ length (conditions o)
+IsCount o None = condition_limit < length (conditions o)
+
+-- the source is refused, or has too many conditions
+abbrev pub IsRefusedSource : List ℕ → Type 0
+IsRefusedSource source = ((fault : SourceFault) × IsSourceFault source fault) ⊎ ((o : Program) × IsSource source o × (condition_limit < length (conditions o)))
+
+-- how many conditions the source has, or nothing where it is refused
+abbrev pub IsCountOf : List ℕ → Option ℕ → Type 0
+IsCountOf source (Some n) = (o : Program) × IsSource source o × (n ≡ length (conditions o))
+IsCountOf source None = IsRefusedSource source
+
+-- how many conditions up to this one have no certificate in the text, or nothing where it is refused
+abbrev pub IsMissingOf : List ℕ → ℕ → Option ℕ → Type 0
+IsMissingOf certs count (Some n) = (file : Entries) × Gives certs (Ok file) × (n ≡ missing_up_to file count)
+IsMissingOf certs count None = (fault : CertTextFault) × IsWrong certs fault
+
+-- the outline of the source, and the file of the certificates
+pub record AreRead (source certs : List ℕ) (o : Program) (file : Entries) : Type 0 where
+  pub outline : IsSource source o
+  pub certificates : Gives certs (Ok file)
+
+-- that many conditions of the source of this name have no certificate; nothing where all have one, or something is refused
+abbrev pub IsMissingRemark : List ℕ → List ℕ → List ℕ → Option (List ℕ) → Type 0
+IsMissingRemark name source certs (Some text) =
+    (o : Program) × (file : Entries) × AreRead source certs o file × (0 < missing_up_to file (length (conditions o)))
+    × (text ≡ missing_text name (missing_up_to file (length (conditions o))) (length (conditions o)))
+IsMissingRemark name source certs None =
+    IsRefusedSource source ⊎ ((fault : CertTextFault) × IsWrong certs fault)
+    ⊎ ((o : Program) × (file : Entries) × AreRead source certs o file × (missing_up_to file (length (conditions o)) ≡ 0))

@@ -1,0 +1,116 @@
+//! The sums that close parts at sight, where they need no rows but facts and the range of `i64`.
+
+use crate::proof::{Multiple, Name, Proof, Tree};
+use og_choices::{Against, Clash};
+use og_inequalities::{Bounds, Inequality, Levels, Origin, Place, Rows, Side, Term};
+use std::alloc::AllocError;
+
+// What the rows of a sum are taken from.
+#[derive(Clone, Copy)]
+struct Known<'v> {
+    rows: &'v Rows,
+    bounds: &'v Bounds,
+}
+
+// A sum of facts and ends of the range of `i64`, and the levels of the facts.
+#[derive(Drop)]
+struct Ending {
+    used: Levels,
+    end: Vec<Multiple>,
+}
+
+impl Ending {
+    // Adds so many times what a name stands for.
+    fn add(&mut self, name: Name, times: u64) -> Result<bool, AllocError> {
+        self.end.push(Multiple { times, name })?;
+        Ok(true)
+    }
+
+    // Adds so many times a row, if that is a fact. Tells whether it was added.
+    fn add_row(&mut self, rows: &Rows, row: usize, times: u64) -> Result<bool, AllocError> {
+        let Some(Origin::Given(place)) = rows.origin(row) else {
+            return Ok(false);
+        };
+        self.used = self.used.union(rows.used(row));
+        self.add(Name::Given(*place), times)
+    }
+
+    // Adds the bound by which a term cancels out, if that is a fact or an end of the range. Tells
+    // whether it was added.
+    fn add_bound(&mut self, known: Known, term: Term) -> Result<bool, AllocError> {
+        let Ok(times) = u64::try_from(term.coefficient.unsigned_abs()) else {
+            return Ok(false);
+        };
+        if let Some(row) = known.bounds.least_at(term).row {
+            return self.add_row(known.rows, row, times);
+        }
+        let var = term.var;
+        let side = Side::of_least(term.coefficient);
+        self.add(Name::Range { var, side }, times)
+    }
+
+    // Adds the bounds by which all these terms cancel out. Tells whether they were added.
+    fn add_bounds(&mut self, known: Known, terms: &[Term]) -> Result<bool, AllocError> {
+        for term in terms {
+            if !self.add_bound(known, *term)? {
+                return Ok(false);
+            }
+        }
+        Ok(true)
+    }
+
+    // Adds a row, and the bounds of what is left of its sum with the inequality. Tells whether they
+    // were added.
+    fn add_pair(
+        &mut self,
+        known: Known,
+        row: usize,
+        form: &Inequality,
+    ) -> Result<bool, AllocError> {
+        if !self.add_row(known.rows, row, 1)? {
+            return Ok(false);
+        }
+        let other = known.rows.form(row);
+        if other.is_opposite(form) {
+            return Ok(true);
+        }
+        match Inequality::sum(known.rows.alloc(), other.times(1), form.times(1))? {
+            Some(rest) => self.add_bounds(known, &rest.terms),
+            None => Ok(false),
+        }
+    }
+
+    // Adds what an inequality is at odds with. Tells whether it was added.
+    fn add_clash(&mut self, known: Known, clash: Clash) -> Result<bool, AllocError> {
+        let form = &clash.atom.form;
+        if form.is_large() {
+            return Ok(false);
+        }
+        match clash.against {
+            Against::Bounds => self.add_bounds(known, &form.terms),
+            Against::Row(row) => self.add_pair(known, row, form),
+        }
+    }
+}
+
+/// The leaf of a clash at this place, where it needs no rows but facts, and no number is too large.
+pub(crate) fn closing(
+    rows: &Rows,
+    bounds: &Bounds,
+    clash: Clash,
+    place: Place,
+) -> Result<Option<Proof>, AllocError> {
+    let alloc = rows.alloc();
+    let mut sum = Ending {
+        used: Levels::one(place.level),
+        end: Vec::new(alloc),
+    };
+    if !sum.add_clash(Known { rows, bounds }, clash)? {
+        return Ok(None);
+    }
+    sum.add(Name::Given(place), 1)?;
+    let Ending { used, end } = sum;
+    let lines = Vec::new(alloc);
+    let tree = Tree::Leaf { lines, end };
+    Ok(Some(Proof { used, tree }))
+}

@@ -1,0 +1,133 @@
+//! The script of an outline.
+
+ghost use Rattle.std.specs.Prelude.{◌≡◌, ◌≤◌, ◌<◌, ◌^◌, ◌++◌, length, map, IfOk, OnOk};
+ghost use Rattle.og_cond.specs.Limits.{condition_limit};
+ghost use Rattle.og_cond.specs.Seen.{seen};
+ghost use Rattle.og_smt.specs.Script.{prelude_text, ending_text, asked_lines, condition_lines, conditions_lines, declared_line, range_line, variable_lines, variables_lines, IsScript};
+
+use crate::goals::{put_goal, put_range};
+use crate::hypotheses::put_hypotheses;
+use crate::terms::put_variable;
+use og_cond::{Condition, ConditionsError, conditions};
+use og_heading::put_heading;
+use og_listing::Places;
+use og_text::Name;
+use og_typed::Outline;
+use std::alloc::{AllocError, Global};
+
+// What stands before all variables.
+#[tactic(auto, unfolding(crate::specs::Script::prelude_text))]
+fn prelude(alloc: Global) -> Result<Vec<u8>, AllocError>
+    ensures { IfOk result (λ v. v.items ≡ prelude_text) }
+{
+    Vec::from_slice(
+        alloc,
+        b"(set-logic QF_LIA)\n(define-fun i64 ((v Int)) Bool (<= (- 9223372036854775808) v 9223372036854775807))\n",
+    )
+}
+
+#[tactic(auto, unfolding(crate::specs::Script::ending_text))]
+fn put_ending(text: &mut Vec<u8>) -> Result<(), AllocError>
+    ensures { OnOk result (text.new.items ≡ text.old.items ++ ending_text) }
+{
+    text.extend_from_slice(b"))\n(check-sat)\n(pop 1)\n")
+}
+
+// That the goal is false, and the question.
+fn put_asked(text: &mut Vec<u8>, names: &[Name], condition: &Condition) -> Result<(), AllocError>
+    ensures { OnOk result (text.new.items ≡ text.old.items ++ asked_lines names.now (seen condition.now)) }
+{
+    text.extend_from_slice(b"(assert (not ")?;
+    put_goal(text, names, &condition.action, &condition.goal)?;
+    put_ending(text)
+}
+
+fn put_condition(
+    text: &mut Vec<u8>,
+    names: &[Name],
+    places: &Places,
+    number: u128,
+    condition: &Condition,
+) -> Result<(), AllocError>
+    ensures { OnOk result (text.new.items ≡ text.old.items ++ condition_lines names.now places.now number (seen condition.now)) }
+{
+    text.extend_from_slice(b"(push 1)\n; ")?;
+    put_heading(text, places, number, condition)?;
+    put_hypotheses(text, names, condition.hypotheses.as_slice())?;
+    put_asked(text, names, condition)
+}
+
+// All conditions, numbered from 1.
+fn put_conditions(
+    text: &mut Vec<u8>,
+    names: &[Name],
+    places: &Places,
+    conditions: &[Condition],
+) -> Result<(), AllocError>
+    ensures { OnOk result (text.new.items ≡ text.old.items ++ conditions_lines names.now places.now 1 (map seen conditions.now)) }
+{
+    let mut number = 1;
+    for condition in conditions {
+        put_condition(text, names, places, number, condition)?;
+        number += 1;
+    }
+    Ok(())
+}
+
+fn put_declared(text: &mut Vec<u8>, names: &[Name], var: u32) -> Result<(), AllocError>
+    ensures { OnOk result (text.new.items ≡ text.old.items ++ declared_line names.now var) }
+{
+    text.extend_from_slice(b"(declare-const ")?;
+    put_variable(text, names, var)?;
+    text.extend_from_slice(b" Int)\n")
+}
+
+fn put_range_line(text: &mut Vec<u8>, names: &[Name], var: u32) -> Result<(), AllocError>
+    ensures { OnOk result (text.new.items ≡ text.old.items ++ range_line names.now var) }
+{
+    text.extend_from_slice(b"(assert ")?;
+    put_range(text, names, var)?;
+    text.extend_from_slice(b")\n")
+}
+
+// A variable and its range.
+fn put_declaration(text: &mut Vec<u8>, names: &[Name], var: u32) -> Result<(), AllocError>
+    ensures { OnOk result (text.new.items ≡ text.old.items ++ variable_lines names.now var) }
+{
+    put_declared(text, names, var)?;
+    put_range_line(text, names, var)
+}
+
+// All variables.
+fn put_variables(text: &mut Vec<u8>, names: &[Name]) -> Result<(), AllocError>
+    requires { length names.now ≤ 256 }
+    ensures { OnOk result (text.new.items ≡ text.old.items ++ variables_lines names.now 0 names.now) }
+{
+    for var in 0..names.len() {
+        put_declaration(text, names, var as u32)?;
+    }
+    Ok(())
+}
+
+/// The conditions of an outline as a script in SMT-LIB 2, in order, each between `push` and `pop`
+/// with a comment that gives its number, its kind and its places. A condition is true exactly where
+/// the answer to its `check-sat` is `unsat`; the last one is about blocking. A variable `x` is `$x`.
+/// Places are lines and columns of the source, which has at most 1,048,576 bytes; what lies beyond
+/// it is placed at its end.
+///
+/// # Errors
+///
+/// `TooMany` exactly where there are more than 4,000,000 conditions. `Memory` where an allocation
+/// was refused.
+pub fn script(alloc: Global, outline: &Outline, source: &[u8]) -> Result<Vec<u8>, ConditionsError>
+    requires { length source.now ≤ 2 ^ 20 }
+    ensures { IsScript condition_limit outline.now source.now result }
+{
+    outline.follows_rule();
+    let conditions = conditions(alloc, outline)?;
+    let places = Places::new(alloc, source)?;
+    let mut text = prelude(alloc)?;
+    put_variables(&mut text, outline.names())?;
+    put_conditions(&mut text, outline.names(), &places, &conditions)?;
+    Ok(text)
+}
