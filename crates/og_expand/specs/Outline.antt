@@ -76,7 +76,7 @@ named_in names (d ∷ others) = named_in (declared_with d.name.name (Defined d) 
 
 abbrev pub main_of : Scope → Option template.Sequence → Checked (Option outline.Seq)
 main_of scope None = Ok None
-main_of scope (Some sequence) = sequence_of scope sequence >>= λ q. Ok (Some q)
+main_of scope (Some body) = sequence_of scope body >>= λ q. Ok (Some q)
 
 abbrev pub one_process : template.Sequence → Scope → Checked (List outline.Seq)
 one_process body scope = sequence_of scope body >>= λ q. Ok (q ∷ [])
