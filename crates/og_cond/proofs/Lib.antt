@@ -8,3 +8,4 @@ pub mod Exchange
 pub mod Totals
 pub mod SideLists
 pub mod WholeList
+pub mod Grouped

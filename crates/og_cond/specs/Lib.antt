@@ -11,3 +11,4 @@ pub mod Counting
 pub mod Pieces
 pub mod Sides
 pub mod Answer
+pub mod Groups

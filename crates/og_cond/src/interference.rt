@@ -84,8 +84,8 @@ fn add_pairs<'a>(
     Ok(())
 }
 
-// One action against several processes.
-fn add_action<'a>(
+/// One action against several processes.
+pub(crate) fn add_action<'a>(
     conditions: &mut Vec<Condition<'a>>,
     variables: u32,
     action: &Move<'a>,

@@ -6,6 +6,8 @@ mod claim;
 mod condition;
 mod count;
 mod fault;
+mod grouping;
+mod groups;
 mod interference;
 mod kind;
 mod limits;
@@ -19,6 +21,7 @@ mod whole;
 
 pub use condition::{Condition, Goal, Hypothesis, Part};
 pub use fault::{ConditionsError, TooMany};
+pub use groups::Groups;
 pub use kind::Kind;
 pub use limits::CONDITION_LIMIT;
 pub use whole::conditions;

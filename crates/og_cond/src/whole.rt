@@ -4,6 +4,7 @@ ghost use Rattle.std.specs.Prelude.{◌≡◌, ◌++◌, ◌∷◌, [], ◌≤�
 ghost use Rattle.og_typed.specs.Plain.{sequence};
 ghost use Rattle.og_cond.specs.Answer.{IsListed};
 ghost use Rattle.og_cond.specs.Conditions as plain;
+ghost use Rattle.og_cond.specs.Groups.{first_conditions, last_conditions};
 ghost use Rattle.og_cond.specs.Limits.{condition_limit};
 ghost use Rattle.og_cond.specs.Seen.{Adds, hypothesis_of};
 
@@ -197,20 +198,43 @@ fn add_blocking<'a>(
     Ok(())
 }
 
-// All conditions, in order.
-fn add_all<'a>(conditions: &mut Vec<Condition<'a>>, outline: &'a Outline) -> Result<(), AllocError>
-    ensures { OnOk result (Adds conditions.old conditions.new (plain.conditions outline.now)) }
+/// The conditions before interference.
+pub(crate) fn add_first<'a>(
+    conditions: &mut Vec<Condition<'a>>,
+    outline: &'a Outline,
+) -> Result<(), AllocError>
+    ensures { OnOk result (Adds conditions.old conditions.new (first_conditions outline.now)) }
 {
     outline.follows_rule();
     let n = outline.names().len() as u32;
     add_prologue(conditions, n, outline)?;
     add_starts(conditions, n, outline)?;
-    add_local(conditions, n, outline.processes())?;
-    let sides = sides_of(*conditions.allocator(), outline.processes())?;
-    add_crossings(conditions, n, &sides)?;
+    add_local(conditions, n, outline.processes())
+}
+
+/// The conditions after it.
+pub(crate) fn add_last<'a>(
+    conditions: &mut Vec<Condition<'a>>,
+    outline: &'a Outline,
+) -> Result<(), AllocError>
+    ensures { OnOk result (Adds conditions.old conditions.new (last_conditions outline.now)) }
+{
+    outline.follows_rule();
+    let n = outline.names().len() as u32;
     add_end(conditions, n, outline)?;
     add_epilogue(conditions, n, outline)?;
     add_blocking(conditions, n, outline)
+}
+
+// All conditions, in order.
+fn add_all<'a>(conditions: &mut Vec<Condition<'a>>, outline: &'a Outline) -> Result<(), AllocError>
+    ensures { OnOk result (Adds conditions.old conditions.new (plain.conditions outline.now)) }
+{
+    outline.follows_rule();
+    add_first(conditions, outline)?;
+    let sides = sides_of(*conditions.allocator(), outline.processes())?;
+    add_crossings(conditions, outline.names().len() as u32, &sides)?;
+    add_last(conditions, outline)
 }
 
 /// The conditions of an outline, in the order of their numbers, which count from 1. They borrow

@@ -69,8 +69,13 @@ fn put_answer(text: &mut Vec<u8>, names: &[Name], condition: &Condition) -> Resu
     }
 }
 
-// A condition with its facts.
-fn put_condition(
+/// Adds a condition with this number to the text: its number, its kind and its places, and then a line
+/// for each of its facts, or that they are too large.
+///
+/// # Errors
+///
+/// An allocation was refused; the text has what it had, and perhaps a part of this.
+pub fn put_condition(
     text: &mut Vec<u8>,
     names: &[Name],
     places: &Places,

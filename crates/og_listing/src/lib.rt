@@ -9,7 +9,7 @@ mod forms;
 mod places;
 mod words;
 
-pub use conditions::conditions_text;
+pub use conditions::{conditions_text, put_condition};
 pub use forms::{put_constant, put_name, put_times};
 pub use places::{Places, Position};
 pub use words::{put_action_place, put_number, put_position};
