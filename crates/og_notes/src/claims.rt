@@ -1,0 +1,110 @@
+//! The assertions of an outline, and which of them no state meets.
+
+ghost use Rattle.std.specs.Prelude.{◌≡◌, ◌∷◌, [], map, IfOk, OnOk, IsTrue};
+ghost use Rattle.og_places.specs.Seen.{note_of};
+ghost use Rattle.og_typed.specs.Plain.{formula, noted};
+ghost use Rattle.og_notes.specs.Claims.{IsMetByNone, IsFound, AreClaims, inner};
+ghost use Rattle.og_notes.specs.Seen.{claim_of, claims_of, Gains};
+
+use og_cond::{Condition, Goal, Hypothesis, Kind, Part};
+use og_find::find;
+use og_limits::Budget;
+use og_places::{Index, NoteSite};
+use og_typed::{Assert, Note, Outline};
+use std::alloc::{AllocError, Global};
+
+/// What an assertion is for its outline.
+#[derive(Clone, Copy, Debug, PartialEq, Eq)]
+pub(crate) enum Role {
+    Precondition,
+    /// Neither of the two.
+    Inner,
+    Postcondition,
+}
+
+/// An assertion of an outline, and whether it was found that no state meets it.
+#[derive(Debug, Drop)]
+pub(crate) struct Claim<'a> {
+    pub(crate) role: Role,
+    pub(crate) note: &'a Note,
+    pub(crate) unmet: bool,
+}
+
+/// How certificates are searched for of assertions over so many variables.
+#[derive(Clone, Copy)]
+struct Search {
+    alloc: Global,
+    variables: u32,
+    budget: Budget,
+}
+
+impl Search {
+    // Whether a certificate is found that no state meets the assertion.
+    fn is_unmet(self, assertion: &Assert) -> Result<bool, AllocError>
+        ensures { IfOk result (λ yes. IsTrue yes → IsMetByNone (formula assertion.now)) }
+    {
+        let mut hypotheses = Vec::new(self.alloc);
+        hypotheses.push(Hypothesis::Is(Part::Yes(assertion)))?;
+        let condition = Condition {
+            kind: Kind::Start,
+            at: 0,
+            action_at: None,
+            variables: self.variables,
+            hypotheses,
+            goal: Goal::Never,
+            action: None,
+        };
+        Ok(find(self.alloc, &condition, self.budget.facts())?.is_some())
+    }
+
+    // An assertion, and what is found of it.
+    fn claim(self, role: Role, note: &Note) -> Result<Claim<'_>, AllocError>
+        ensures claim { IfOk result (λ c. (c.role ≡ role) × (noted c.note.now ≡ noted note.now)) }
+        ensures found { IfOk result (λ c. IsFound (claim_of c)) }
+    {
+        let unmet = self.is_unmet(&note.assertion)?;
+        Ok(Claim { role, note, unmet })
+    }
+}
+
+// Adds the assertions between the precondition and the postcondition.
+fn add_inner<'a>(
+    claims: &mut Vec<Claim<'a>>,
+    search: Search,
+    sites: &[NoteSite<'a>],
+) -> Result<(), AllocError>
+    ensures { OnOk result (Gains (claims_of claims.old.items) (claims_of claims.new.items) (map inner (map note_of sites.now))) }
+{
+    for site in sites {
+        claims.push(search.claim(Role::Inner, site.note)?)?;
+    }
+    Ok(())
+}
+
+/// The assertions of an outline, and which of them a search within the budget finds to be met by no
+/// state.
+///
+/// # Errors
+///
+/// An allocation was refused.
+pub(crate) fn claims_of<'a>(
+    alloc: Global,
+    outline: &'a Outline,
+    index: &Index<'a>,
+    budget: Budget,
+) -> Result<Vec<Claim<'a>>, AllocError>
+    requires { index.now ≡ outline.now }
+    ensures { IfOk result (λ v. AreClaims outline.now (claims_of v.items)) }
+{
+    outline.follows_rule();
+    let search = Search {
+        alloc,
+        variables: outline.names().len() as u32,
+        budget,
+    };
+    let mut claims = Vec::new(alloc);
+    claims.push(search.claim(Role::Precondition, outline.pre())?)?;
+    add_inner(&mut claims, search, index.notes())?;
+    claims.push(search.claim(Role::Postcondition, outline.post())?)?;
+    Ok(claims)
+}
