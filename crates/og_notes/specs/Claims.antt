@@ -2,11 +2,43 @@
 use Rattle.std.specs.Prelude.{◌≡◌, ℤ, List, [], ◌∷◌, ◌++◌, map, Bool, true, false}
 use Rattle.std.specs.List.{AllByRecursion}
 use Rattle.og_linear.specs.Linear.{IsProper}
-use Rattle.og_typed.specs.Syntax.{Formula, Noted, Program}
+use Rattle.og_typed.specs.Syntax.{Formula, Noted, Statement, Skip, Assign, If, While, Await, Otherwise, Nothing, Else, Sequence, Last, Then, Program}
 use Rattle.og_typed.specs.Truth.{truth}
-use Rattle.og_places.specs.Sites.{NoteSite, all_notes}
+use Rattle.og_places.specs.Sites.{of_program}
 use Rattle.og_notes.specs.declared.claims.Role.{Role}
 use Rattle.og_notes.specs.declared.claims.Role.TheVariants as roles
+
+-- ---- all of them
+
+-- those of a part, in text order
+abbrev mutual
+  pub notes : Sequence → List Noted
+  notes (Last note) = note ∷ []
+  notes (Then before stmt at rest) = item_notes before stmt ++ notes rest
+
+  pub item_notes : Noted → Statement → List Noted
+  item_notes before Skip = before ∷ []
+  item_notes before (Assign x e) = before ∷ []
+  item_notes before (If b branch other) = before ∷ (notes branch ++ else_notes other)
+  item_notes before (While b body) = before ∷ notes body
+  item_notes before (Await b body) = before ∷ []
+
+  pub else_notes : Otherwise → List Noted
+  else_notes Nothing = []
+  else_notes (Else branch) = notes branch
+
+-- all but the precondition and the postcondition
+abbrev pub inner_notes : Program → List Noted
+inner_notes = of_program (λ part. notes)
+
+abbrev pub inner : Noted → Role × Noted
+inner note = (roles.Inner, note)
+
+-- the precondition, those in between, and the postcondition
+abbrev pub assertions : Program → List (Role × Noted)
+assertions o = (roles.Precondition, o.pre) ∷ (map inner (inner_notes o) ++ (roles.Postcondition, o.post) ∷ [])
+
+-- ---- what is found of them
 
 -- it is false in every state of i64 values
 abbrev pub IsMetByNone : Formula → Type 0
@@ -18,20 +50,12 @@ pub record Claim : Type 0 where
   pub note : Noted
   pub unmet : Bool
 
--- what was found of it is so
-abbrev pub IsFound : Claim → Type 0
-IsFound c = c.unmet ≡ true → IsMetByNone c.note.assertion
-
--- the assertion alone
 abbrev pub claimed : Claim → Role × Noted
 claimed c = (c.role, c.note)
 
-abbrev pub inner : NoteSite → Role × Noted
-inner site = (roles.Inner, site.note)
-
--- every assertion: the precondition, those between in text order, and the postcondition
-abbrev pub assertions : Program → List (Role × Noted)
-assertions o = (roles.Precondition, o.pre) ∷ (map inner (all_notes o) ++ (roles.Postcondition, o.post) ∷ [])
+-- what was found of it is so
+abbrev pub IsFound : Claim → Type 0
+IsFound c = c.unmet ≡ true → IsMetByNone c.note.assertion
 
 -- they are the assertions of the outline, and what was found of each is so
 pub record AreClaims (o : Program) (claims : List Claim) : Type 0 where

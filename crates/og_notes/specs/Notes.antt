@@ -8,8 +8,7 @@ use Rattle.og_print.specs.Print.{program_text}
 use Rattle.og_listing.specs.Places.{◌&◌, position_of, position_text}
 use Rattle.og_wording.specs.Assertions.{assertion_text}
 use Rattle.og_wording.specs.Values.{names_text}
-use Rattle.og_places.specs.Sites.{StatementSite, all_statements}
-use Rattle.og_notes.specs.Steps.{shared}
+use Rattle.og_notes.specs.Steps.{Step, all_steps, shared}
 use Rattle.og_notes.specs.Claims.{Claim}
 use Rattle.og_notes.specs.declared.claims.Role.{Role}
 use Rattle.og_notes.specs.declared.claims.Role.TheVariants as roles
@@ -61,12 +60,12 @@ module _ (source : List ℕ) where
         then codes "the " & placed_text (step_text stmt) at & codes " touches " & names_text names [] vars & codes ", which other processes assign: one step of the proof, maybe not one of the machine\n"
         else []
 
-    -- a step, where it touches more than one variable that is no auxiliary, is below n, and is assigned by some other process
-    abbrev pub step_line : List StatementSite → ℕ → StatementSite → List ℕ
-    step_line sites n site = wide_line site.piece.stmt site.piece.at (shared sites n site)
+    -- a step, where it touches more than one variable below n that some step of another process assigns
+    abbrev pub step_line : List Step → ℕ → Step → List ℕ
+    step_line all n step = wide_line step.stmt step.at (shared all n step)
 
-    abbrev pub step_lines : List StatementSite → ℕ → List ℕ
-    step_lines sites n = flat_map (step_line sites n) sites
+    abbrev pub step_lines : List Step → ℕ → List ℕ
+    step_lines all n = flat_map (step_line all n) all
 
 -- the precondition, the postcondition, and each assertion that no state meets
 abbrev pub claims_text : Program → List ℕ → List Claim → List ℕ
@@ -89,6 +88,6 @@ auxiliaries_text o (x ∷ xs) =
 abbrev pub notes_text : Program → List ℕ → List Claim → List ℕ
 notes_text o source claims =
     claims_text o source claims
-    & step_lines source o.names (all_statements o) o.vars
+    & step_lines source o.names (all_steps o) o.vars
     & (unblocked_line & definitions_line)
     & auxiliaries_text o (auxiliaries o)

@@ -1,14 +1,45 @@
--- The variables of a step that other processes assign.
-use Rattle.std.specs.Prelude.{ℕ, List, [], ◌∷◌, filter, Bool, false, not, ◌==◌, ◌&&◌, ◌||◌}
+-- The steps of an outline, and which variables of a step other processes assign.
+use Rattle.std.specs.Prelude.{ℕ, List, [], ◌∷◌, ◌++◌, filter, Bool, false, not, ◌==◌, ◌&&◌, ◌||◌}
 use Rattle.std.specs.List.{list_any, range_with_len}
 use Rattle.og_linear.specs.Linear.{is_term}
-use Rattle.og_typed.specs.Syntax.{Simple, Pass, Set, Statement, Skip, Assign, If, While, Await}
+use Rattle.og_typed.specs.Syntax.{Simple, Pass, Set, Statement, Skip, Assign, If, While, Await, Otherwise, Nothing, Else, Sequence, Last, Then, Program}
 use Rattle.og_typed.specs.Occurs.{occurs}
-use Rattle.og_places.specs.Sites.{StatementSite}
+use Rattle.og_places.specs.Sites.{of_program}
 use Rattle.og_places.specs.declared.sites.Part.{Part}
 use Rattle.og_places.specs.declared.sites.Part.TheVariants as parts
 
--- the variable x is read or assigned by an assignment of an await
+-- a statement of a part of a program with its place, for the step that it begins with: the assignment, the test, or the whole await
+pub record Step : Type 0 where
+  pub part : Part
+  pub stmt : Statement
+  pub at : ℕ
+
+-- ---- all of them
+
+-- those of a part, in text order
+module _ (part : Part) where
+  abbrev mutual
+    pub steps : Sequence → List Step
+    steps (Last note) = []
+    steps (Then before stmt at rest) = item_steps stmt at ++ steps rest
+
+    pub item_steps : Statement → ℕ → List Step
+    item_steps Skip at = record { part = part; stmt = Skip; at = at } ∷ []
+    item_steps (Assign x e) at = record { part = part; stmt = Assign x e; at = at } ∷ []
+    item_steps (If b branch other) at = record { part = part; stmt = If b branch other; at = at } ∷ (steps branch ++ else_steps other)
+    item_steps (While b body) at = record { part = part; stmt = While b body; at = at } ∷ steps body
+    item_steps (Await b body) at = record { part = part; stmt = Await b body; at = at } ∷ []
+
+    pub else_steps : Otherwise → List Step
+    else_steps Nothing = []
+    else_steps (Else branch) = steps branch
+
+abbrev pub all_steps : Program → List Step
+all_steps = of_program steps
+
+-- ---- their variables
+
+-- an assignment of an await reads or assigns the variable x
 abbrev pub is_used : ℕ → Simple → Bool
 is_used x Pass = false
 is_used x (Set y e) = y == x || is_term x e.terms
@@ -17,7 +48,7 @@ abbrev pub is_set : ℕ → Simple → Bool
 is_set x Pass = false
 is_set x (Set y e) = y == x
 
--- the step that the statement begins with reads or assigns the variable x: the assignment, the test, or the whole await
+-- the step reads or assigns the variable x
 abbrev pub touches : ℕ → Statement → Bool
 touches x Skip = false
 touches x (Assign y e) = y == x || is_term x e.terms
@@ -41,14 +72,15 @@ is_beside (parts.Process p) parts.Epilogue = false
 is_beside parts.Prologue other = false
 is_beside parts.Epilogue other = false
 
--- some statement of another process assigns the variable x
-abbrev pub is_assigned_beside : List StatementSite → Part → ℕ → Bool
-is_assigned_beside sites part x = list_any (λ site. is_beside part site.part && assigns x site.piece.stmt) sites
+module _ (all : List Step) where
+  -- some step of another process assigns the variable x
+  abbrev pub is_assigned_beside : Part → ℕ → Bool
+  is_assigned_beside part x = list_any (λ step. is_beside part step.part && assigns x step.stmt) all
 
--- the step touches the variable x, and some statement of another process assigns it
-abbrev pub is_shared : List StatementSite → StatementSite → ℕ → Bool
-is_shared sites site x = touches x site.piece.stmt && is_assigned_beside sites site.part x
+  -- the step touches the variable x, and some step of another process assigns it
+  abbrev pub is_shared : Step → ℕ → Bool
+  is_shared step x = touches x step.stmt && is_assigned_beside step.part x
 
--- the variables below n of which that is so
-abbrev pub shared : List StatementSite → ℕ → StatementSite → List ℕ
-shared sites n site = filter (is_shared sites site) (range_with_len 0 n)
+  -- the variables below n of which that is so
+  abbrev pub shared : ℕ → Step → List ℕ
+  shared n step = filter (is_shared step) (range_with_len 0 n)

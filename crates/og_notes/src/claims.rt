@@ -1,15 +1,13 @@
 //! The assertions of an outline, and which of them no state meets.
 
 ghost use Rattle.std.specs.Prelude.{◌≡◌, ◌∷◌, [], map, IfOk, OnOk, IsTrue};
-ghost use Rattle.og_places.specs.Seen.{note_of};
 ghost use Rattle.og_typed.specs.Plain.{formula, noted};
-ghost use Rattle.og_notes.specs.Claims.{IsMetByNone, IsFound, AreClaims, inner};
-ghost use Rattle.og_notes.specs.Seen.{claim_of, claims_of, Gains};
+ghost use Rattle.og_notes.specs.Claims.{IsMetByNone, IsFound, AreClaims, inner, inner_notes};
+ghost use Rattle.og_notes.specs.Seen.{claim_of, claims_of, notes_of, Gains};
 
 use og_cond::{Condition, Goal, Hypothesis, Kind, Part};
 use og_find::find;
 use og_limits::Budget;
-use og_places::{Index, NoteSite};
 use og_typed::{Assert, Note, Outline};
 use std::alloc::{AllocError, Global};
 
@@ -71,18 +69,18 @@ impl Search {
 fn add_inner<'a>(
     claims: &mut Vec<Claim<'a>>,
     search: Search,
-    sites: &[NoteSite<'a>],
+    notes: &[&'a Note],
 ) -> Result<(), AllocError>
-    ensures { OnOk result (Gains (claims_of claims.old.items) (claims_of claims.new.items) (map inner (map note_of sites.now))) }
+    ensures { OnOk result (Gains (claims_of claims.old.items) (claims_of claims.new.items) (map inner (notes_of notes.now))) }
 {
-    for site in sites {
-        claims.push(search.claim(Role::Inner, site.note)?)?;
+    for note in notes {
+        claims.push(search.claim(Role::Inner, note)?)?;
     }
     Ok(())
 }
 
-/// The assertions of an outline, and which of them a search within the budget finds to be met by no
-/// state.
+/// The assertions of an outline, which has these between the precondition and the postcondition; and
+/// which of them a search within the budget finds to be met by no state.
 ///
 /// # Errors
 ///
@@ -90,10 +88,10 @@ fn add_inner<'a>(
 pub(crate) fn claims_of<'a>(
     alloc: Global,
     outline: &'a Outline,
-    index: &Index<'a>,
+    notes: &[&'a Note],
     budget: Budget,
 ) -> Result<Vec<Claim<'a>>, AllocError>
-    requires { index.now ≡ outline.now }
+    requires { notes_of notes.now ≡ inner_notes outline.now }
     ensures { IfOk result (λ v. AreClaims outline.now (claims_of v.items)) }
 {
     outline.follows_rule();
@@ -104,7 +102,7 @@ pub(crate) fn claims_of<'a>(
     };
     let mut claims = Vec::new(alloc);
     claims.push(search.claim(Role::Precondition, outline.pre())?)?;
-    add_inner(&mut claims, search, index.notes())?;
+    add_inner(&mut claims, search, notes)?;
     claims.push(search.claim(Role::Postcondition, outline.post())?)?;
     Ok(claims)
 }

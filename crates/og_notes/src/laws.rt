@@ -2,7 +2,7 @@
 
 ghost use Rattle.og_notes.specs.Law.{SharedAreThese, StepsAreTold, UnmetAreTold};
 
-/// The variables that are told of a step are those that it touches and that some statement of another
+/// The variables that are told of a step are those that it touches and that some step of another
 /// process assigns. The line of each step of which something is told stands in the notes, and so does
 /// that of each assertion that was found to be met by no state.
 ///

@@ -11,6 +11,7 @@ mod laws;
 mod lines;
 mod notes;
 mod steps;
+mod walk;
 
 pub use laws::notes_laws;
 pub use notes::noted;

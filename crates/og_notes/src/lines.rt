@@ -1,15 +1,14 @@
 //! The lines of the notes.
 
-ghost use Rattle.std.specs.Prelude.{◌≡◌, ◌++◌, map, flat_map, OnOk};
-ghost use Rattle.og_places.specs.Seen.{statement_of};
+ghost use Rattle.std.specs.Prelude.{◌≡◌, ◌++◌, flat_map, OnOk};
 ghost use Rattle.og_typed.specs.Plain.{noted, statement};
 ghost use Rattle.og_notes.specs.Notes as line;
-ghost use Rattle.og_notes.specs.Seen.{claim_of, claims_of};
+ghost use Rattle.og_notes.specs.Seen.{claim_of, claims_of, steps_of};
 
 use crate::claims::{Claim, Role};
 use crate::steps::shared;
+use crate::walk::Step;
 use og_listing::{Places, put_position};
-use og_places::StatementSite;
 use og_text::Name;
 use og_typed::{Item, Note, Stmt};
 use og_wording::{put_assertion, put_names};
@@ -127,20 +126,20 @@ fn put_wide(
 }
 
 /// Adds a line for each step to the text that touches more than one variable below `vars` which some
-/// statement of another process assigns.
+/// step of another process assigns.
 pub(crate) fn put_steps(
     text: &mut Vec<u8>,
     places: &Places,
     names: &[Name],
-    sites: &[StatementSite],
+    steps: &[Step],
     vars: u32,
 ) -> Result<(), AllocError>
-    ensures { OnOk result (text.new.items ≡ text.old.items ++ line.step_lines places.now names.now (map statement_of sites.now) vars) }
+    ensures { OnOk result (text.new.items ≡ text.old.items ++ line.step_lines places.now names.now (steps_of steps.now) vars) }
 {
     let alloc = *text.allocator();
-    for site in sites {
-        let shared = shared(alloc, sites, site, vars)?;
-        put_wide(text, places, names, site.item, &shared)?;
+    for step in steps {
+        let shared = shared(alloc, steps, step, vars)?;
+        put_wide(text, places, names, step.item, &shared)?;
     }
     Ok(())
 }

@@ -1,23 +1,22 @@
 //! The notes on an outline, and the answer for a source.
 
-ghost use Rattle.std.specs.Prelude.{◌≡◌, ◌≤◌, ◌^◌, ◌++◌, length, map, IfOk, OnOk};
+ghost use Rattle.std.specs.Prelude.{◌≡◌, ◌≤◌, ◌^◌, ◌++◌, length, IfOk, OnOk};
 ghost use Rattle.og_erase.specs.Collected.{raw_of};
 ghost use Rattle.og_parse.specs.TreeOf.{tree_of};
-ghost use Rattle.og_places.specs.Seen.{statement_of};
-ghost use Rattle.og_places.specs.Sites.{all_statements};
 ghost use Rattle.og_print.specs.Print.{program_text};
 ghost use Rattle.og_typed.specs.Erase.{erased};
 ghost use Rattle.og_notes.specs.Noted.{IsNotesText, IsNotes, IsNoted};
 ghost use Rattle.og_notes.specs.Notes as wanted;
-ghost use Rattle.og_notes.specs.Seen.{claims_of};
+ghost use Rattle.og_notes.specs.Seen.{claims_of, steps_of};
+ghost use Rattle.og_notes.specs.Steps.{all_steps};
 
 use crate::claims::{Claim, claims_of};
 use crate::lines::{put_all_unmet, put_claim, put_steps};
+use crate::walk::{Step, walk_of};
 use og_answer::Answer;
 use og_erase::erase;
 use og_limits::Budget;
 use og_listing::Places;
-use og_places::{Index, StatementSite};
 use og_print::print_program;
 use og_source::Source;
 use og_typed::Outline;
@@ -91,20 +90,20 @@ fn put_claims(
     put_all_unmet(text, places, claims)
 }
 
-// The notes, by the outline's statements and assertions.
+// The notes, by the outline's steps and assertions.
 fn put_notes(
     text: &mut Vec<u8>,
     outline: &Outline,
     places: &Places,
-    sites: &[StatementSite],
+    steps: &[Step],
     claims: &[Claim],
 ) -> Result<(), AllocError>
-    requires { map statement_of sites.now ≡ all_statements outline.now }
+    requires { steps_of steps.now ≡ all_steps outline.now }
     ensures { OnOk result (text.new.items ≡ text.old.items ++ wanted.notes_text outline.now places.now (claims_of claims.now)) }
 {
     let auxiliaries = auxiliaries(*text.allocator(), outline)?;
     put_claims(text, outline, places, claims)?;
-    put_steps(text, places, outline.names(), sites, outline.vars())?;
+    put_steps(text, places, outline.names(), steps, outline.vars())?;
     put_meaning(text)?;
     put_auxiliaries(text, outline, &auxiliaries)
 }
@@ -120,10 +119,10 @@ fn notes_text(
     ensures { IfOk result (λ text. IsNotesText outline.now source.now text.items) }
 {
     let places = Places::new(alloc, source)?;
-    let index = Index::new(alloc, outline)?;
-    let claims = claims_of(alloc, outline, &index, budget)?;
+    let walk = walk_of(alloc, outline)?;
+    let claims = claims_of(alloc, outline, &walk.notes, budget)?;
     let mut text = Vec::new(alloc);
-    put_notes(&mut text, outline, &places, index.statements(), &claims)?;
+    put_notes(&mut text, outline, &places, &walk.steps, &claims)?;
     Ok(text)
 }
 

@@ -1,17 +1,18 @@
 //! The variables of a step that other processes assign.
 
-ghost use Rattle.std.specs.Prelude.{◌≡◌, map, IfOk};
-ghost use Rattle.og_places.specs.Seen.{statement_of};
+ghost use Rattle.std.specs.Prelude.{◌≡◌, IfOk};
 ghost use Rattle.og_typed.specs.Plain.{simple, statement};
-ghost use Rattle.og_notes.specs.Steps as step;
+ghost use Rattle.og_notes.specs.Seen.{step_of, steps_of};
+ghost use Rattle.og_notes.specs.Steps as plain;
 
-use og_places::{Part, StatementSite};
+use crate::walk::Step;
+use og_places::Part;
 use og_typed::{Basic, Stmt};
 use std::alloc::{AllocError, Global};
 
 // Whether the variable is read or assigned.
 fn is_used(var: u32, basic: &Basic) -> bool
-    ensures { result ≡ step.is_used var (simple basic.now) }
+    ensures { result ≡ plain.is_used var (simple basic.now) }
 {
     match basic {
         Basic::Skip => false,
@@ -21,7 +22,7 @@ fn is_used(var: u32, basic: &Basic) -> bool
 
 // Whether the variable is assigned.
 fn is_set(var: u32, basic: &Basic) -> bool
-    ensures { result ≡ step.is_set var (simple basic.now) }
+    ensures { result ≡ plain.is_set var (simple basic.now) }
 {
     match basic {
         Basic::Skip => false,
@@ -31,7 +32,7 @@ fn is_set(var: u32, basic: &Basic) -> bool
 
 // Whether the step that the statement begins with reads or assigns the variable.
 fn touches(var: u32, stmt: &Stmt) -> bool
-    ensures { result ≡ step.touches var (statement stmt.now) }
+    ensures { result ≡ plain.touches var (statement stmt.now) }
 {
     match stmt {
         Stmt::Skip => false,
@@ -45,7 +46,7 @@ fn touches(var: u32, stmt: &Stmt) -> bool
 
 // Whether that step assigns the variable.
 fn assigns(var: u32, stmt: &Stmt) -> bool
-    ensures { result ≡ step.assigns var (statement stmt.now) }
+    ensures { result ≡ plain.assigns var (statement stmt.now) }
 {
     match stmt {
         Stmt::Assign(target, _) => *target == var,
@@ -56,7 +57,7 @@ fn assigns(var: u32, stmt: &Stmt) -> bool
 
 // Whether two parts are different processes.
 fn is_beside(part: Part, other: Part) -> bool
-    ensures { result ≡ step.is_beside part other }
+    ensures { result ≡ plain.is_beside part other }
 {
     match (part, other) {
         (Part::Process(process), Part::Process(other)) => process != other,
@@ -64,37 +65,37 @@ fn is_beside(part: Part, other: Part) -> bool
     }
 }
 
-// Whether some statement of another process assigns the variable.
-fn is_assigned_beside(sites: &[StatementSite], part: Part, var: u32) -> bool
-    ensures { result ≡ step.is_assigned_beside (map statement_of sites.now) part var }
+// Whether some step of another process assigns the variable.
+fn is_assigned_beside(steps: &[Step], part: Part, var: u32) -> bool
+    ensures { result ≡ plain.is_assigned_beside (steps_of steps.now) part var }
 {
-    sites.iter().any(|site| is_beside(part, site.part) && assigns(var, &site.item.stmt))
+    steps.iter().any(|step| is_beside(part, step.part) && assigns(var, &step.item.stmt))
 }
 
-// Whether the step touches the variable, and some statement of another process assigns it.
-fn is_shared(sites: &[StatementSite], site: &StatementSite, var: u32) -> bool
-    ensures { result ≡ step.is_shared (map statement_of sites.now) (statement_of site.now) var }
+// Whether the step touches the variable, and some step of another process assigns it.
+fn is_shared(steps: &[Step], step: &Step, var: u32) -> bool
+    ensures { result ≡ plain.is_shared (steps_of steps.now) (step_of step.now) var }
 {
-    touches(var, &site.item.stmt) && is_assigned_beside(sites, site.part, var)
+    touches(var, &step.item.stmt) && is_assigned_beside(steps, step.part, var)
 }
 
-/// The variables below `vars` that the step of the statement touches, and that some of these
-/// statements assigns which is of another process.
+/// The variables below `vars` that the step touches, and that some of the steps assigns which is of
+/// another process.
 ///
 /// # Errors
 ///
 /// An allocation was refused.
 pub(crate) fn shared(
     alloc: Global,
-    sites: &[StatementSite],
-    site: &StatementSite,
+    steps: &[Step],
+    step: &Step,
     vars: u32,
 ) -> Result<Vec<u32>, AllocError>
-    ensures { IfOk result (λ v. v.items ≡ step.shared (map statement_of sites.now) vars (statement_of site.now)) }
+    ensures { IfOk result (λ v. v.items ≡ plain.shared (steps_of steps.now) vars (step_of step.now)) }
 {
     let mut shared = Vec::new(alloc);
     for var in 0..vars {
-        if is_shared(sites, site, var) {
+        if is_shared(steps, step, var) {
             shared.push(var)?;
         }
     }

@@ -1,6 +1,6 @@
 //! An outline's assertions and statements, found by their places.
 
-ghost use Rattle.std.specs.Prelude.{◌≡◌, map, IfOk, IfSome};
+ghost use Rattle.std.specs.Prelude.{◌≡◌, IfOk, IfSome};
 ghost use Rattle.og_places.specs.Seen.{note_of, statement_of, IsOneOf};
 ghost use Rattle.og_places.specs.Sites.{all_notes, all_statements};
 
@@ -42,20 +42,6 @@ impl<'a> Index<'a> {
     {
         let sites = sites_of(alloc, outline)?;
         Ok(Index { outline, sites })
-    }
-
-    /// Every assertion but the precondition and the postcondition, in text order. Takes no memory.
-    pub fn notes(&self) -> &[NoteSite<'a>]
-        ensures { map note_of result.now ≡ all_notes self.now }
-    {
-        &self.sites.notes
-    }
-
-    /// Every statement outside awaits, in text order. Takes no memory.
-    pub fn statements(&self) -> &[StatementSite<'a>]
-        ensures { map statement_of result.now ≡ all_statements self.now }
-    {
-        &self.sites.statements
     }
 
     /// The assertion whose `{` stands at the byte offset `at`. Takes no memory.
