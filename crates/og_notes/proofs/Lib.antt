@@ -1,1 +1,2 @@
 pub mod WalkItems
+pub mod Telling

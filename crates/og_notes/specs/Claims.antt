@@ -12,24 +12,24 @@ use Rattle.og_notes.specs.declared.claims.Role.TheVariants as roles
 
 -- those of a part, in text order
 abbrev mutual
-  pub notes : Sequence → List Noted
-  notes (Last note) = note ∷ []
-  notes (Then before stmt at rest) = item_notes before stmt ++ notes rest
+  pub sequence_notes : Sequence → List Noted
+  sequence_notes (Last note) = note ∷ []
+  sequence_notes (Then before stmt at rest) = item_notes before stmt ++ sequence_notes rest
 
   pub item_notes : Noted → Statement → List Noted
   item_notes before Skip = before ∷ []
   item_notes before (Assign x e) = before ∷ []
-  item_notes before (If b branch other) = before ∷ (notes branch ++ else_notes other)
-  item_notes before (While b body) = before ∷ notes body
+  item_notes before (If b branch other) = before ∷ (sequence_notes branch ++ else_notes other)
+  item_notes before (While b body) = before ∷ sequence_notes body
   item_notes before (Await b body) = before ∷ []
 
   pub else_notes : Otherwise → List Noted
   else_notes Nothing = []
-  else_notes (Else branch) = notes branch
+  else_notes (Else branch) = sequence_notes branch
 
 -- all but the precondition and the postcondition
 abbrev pub inner_notes : Program → List Noted
-inner_notes = of_program (λ part. notes)
+inner_notes = of_program (λ part. sequence_notes)
 
 abbrev pub inner : Noted → Role × Noted
 inner note = (roles.Inner, note)

@@ -43,17 +43,17 @@ Extends old new notes more =
     (notes_of new.notes.items ≡ notes_of old.notes.items ++ notes) × (steps_of new.steps.items ≡ steps_of old.steps.items ++ more)
 
 abbrev pub Adds : Walk → Walk → Part → Sequence → Type 0
-Adds old new part q = Extends old new (claims.notes q) (steps.steps part q)
+Adds old new part q = Extends old new (claims.sequence_notes q) (steps.sequence_steps part q)
 
 abbrev pub AddsItem : Walk → Walk → Part → Item → Type 0
 AddsItem old new part item =
     Extends old new (claims.item_notes (noted item.before) (statement item.stmt)) (steps.item_steps part (statement item.stmt) item.at)
 
 abbrev pub AddsMain : Walk → Walk → Part → Option Sequence → Type 0
-AddsMain old new part q = Extends old new (of_main (λ p. claims.notes) part q) (of_main steps.steps part q)
+AddsMain old new part q = Extends old new (of_main (λ p. claims.sequence_notes) part q) (of_main steps.sequence_steps part q)
 
 abbrev pub AddsProcesses : Walk → Walk → ℕ → List Sequence → Type 0
-AddsProcesses old new n qs = Extends old new (of_processes (λ p. claims.notes) n qs) (of_processes steps.steps n qs)
+AddsProcesses old new n qs = Extends old new (of_processes (λ p. claims.sequence_notes) n qs) (of_processes steps.sequence_steps n qs)
 
 -- all of an outline
 abbrev pub HasAll : Program → Walk → Type 0

@@ -19,23 +19,23 @@ pub record Step : Type 0 where
 -- those of a part, in text order
 module _ (part : Part) where
   abbrev mutual
-    pub steps : Sequence → List Step
-    steps (Last note) = []
-    steps (Then before stmt at rest) = item_steps stmt at ++ steps rest
+    pub sequence_steps : Sequence → List Step
+    sequence_steps (Last note) = []
+    sequence_steps (Then before stmt at rest) = item_steps stmt at ++ sequence_steps rest
 
     pub item_steps : Statement → ℕ → List Step
     item_steps Skip at = record { part = part; stmt = Skip; at = at } ∷ []
     item_steps (Assign x e) at = record { part = part; stmt = Assign x e; at = at } ∷ []
-    item_steps (If b branch other) at = record { part = part; stmt = If b branch other; at = at } ∷ (steps branch ++ else_steps other)
-    item_steps (While b body) at = record { part = part; stmt = While b body; at = at } ∷ steps body
+    item_steps (If b branch other) at = record { part = part; stmt = If b branch other; at = at } ∷ (sequence_steps branch ++ else_steps other)
+    item_steps (While b body) at = record { part = part; stmt = While b body; at = at } ∷ sequence_steps body
     item_steps (Await b body) at = record { part = part; stmt = Await b body; at = at } ∷ []
 
     pub else_steps : Otherwise → List Step
     else_steps Nothing = []
-    else_steps (Else branch) = steps branch
+    else_steps (Else branch) = sequence_steps branch
 
 abbrev pub all_steps : Program → List Step
-all_steps = of_program steps
+all_steps = of_program sequence_steps
 
 -- ---- their variables
 

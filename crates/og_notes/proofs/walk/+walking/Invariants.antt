@@ -1,9 +1,9 @@
 use Rattle.std.proofs.Common.{◌≡◌, ◌++◌, drop}
 use Rattle.og_typed.specs.declared.statement.Seq.{out-Seq}
 use Rattle.og_typed.specs.Plain.{noted, sequence}
-use Rattle.og_notes.specs.Claims.{notes}
+use Rattle.og_notes.specs.Claims.{sequence_notes}
 use Rattle.og_notes.specs.Seen.{notes_of, steps_of}
-use Rattle.og_notes.specs.Steps.{steps}
+use Rattle.og_notes.specs.Steps.{sequence_steps}
 use Rattle.og_notes.proofs.WalkItems.{notes_from, steps_from}
 use Rattle.og_notes.proofs.walk.+walking.Given as goal
 
@@ -17,6 +17,6 @@ decreases-add_item l = goal.size-add_item l
 abbrev pub invariant-add_seq-loop-item : goal.invariant-add_seq-loop-item
 invariant-add_seq-loop-item l =
     (notes_of l.walk.notes.items ++ notes_from (drop l.item-index l.item-items) (noted (out-Seq l.seq).last)
-    ≡ notes_of l.fn.walk.notes.items ++ notes (sequence l.seq))
+    ≡ notes_of l.fn.walk.notes.items ++ sequence_notes (sequence l.seq))
     × (steps_of l.walk.steps.items ++ steps_from l.part (drop l.item-index l.item-items) (noted (out-Seq l.seq).last)
-    ≡ steps_of l.fn.walk.steps.items ++ steps l.part (sequence l.seq))
+    ≡ steps_of l.fn.walk.steps.items ++ sequence_steps l.part (sequence l.seq))
