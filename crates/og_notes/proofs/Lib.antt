@@ -1,2 +1,4 @@
 pub mod WalkItems
+pub mod Ranges
+pub mod Claiming
 pub mod Telling

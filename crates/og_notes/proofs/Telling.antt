@@ -8,7 +8,7 @@ use Rattle.og_typed.specs.Syntax.{Program}
 use Rattle.og_notes.specs.Claims.{Claim}
 use Rattle.og_notes.specs.Law.{IsIn, IsAssignedBeside, SharedAreThese, StepsAreTold, UnmetAreTold}
 use Rattle.og_notes.specs.Notes.{claim_line, unmet_line, step_line, step_lines, claims_text, unblocked_line, definitions_line, auxiliaries, auxiliaries_text}
-use Rattle.og_notes.specs.Steps.{Step, all_steps, touches, assigns, is_beside, is_assigned_beside, is_shared, shared}
+use Rattle.og_notes.specs.Steps.{Step, all_steps, touches, assigns, is_beside, is_set_beside, is_assigned_beside, is_shared, shared}
 
 -- ---- elements of lists, by cases on the list
 
@@ -86,13 +86,13 @@ was_below n x h =
 
 beside_to : (all : List Step) (step : Step) (x : ℕ) → is_assigned_beside all step.part x ≡ true → IsAssignedBeside all step x
 beside_to all step x h =
-    let some = some_passes (λ other. is_beside step.part other.part && assigns x other.stmt) all h in
+    let some = some_passes (is_set_beside step.part x) all h in
     let both = and_parts (is_beside step.part some.0.part) (assigns x some.0.stmt) some.2 in
     (some.0, contains all some.0 some.1, both.0, both.1)
 
 beside_from : (all : List Step) (step : Step) (x : ℕ) → IsAssignedBeside all step x → is_assigned_beside all step.part x ≡ true
 beside_from all step x h =
-    passes_some (λ other. is_beside step.part other.part && assigns x other.stmt) all h.0 (and_from (is_beside step.part h.0.part) (assigns x h.0.stmt) h.2 h.3) (member all h.0 h.1)
+    passes_some (is_set_beside step.part x) all h.0 (and_from (is_beside step.part h.0.part) (assigns x h.0.stmt) h.2 h.3) (member all h.0 h.1)
 
 pub shared_are_these : SharedAreThese
 shared_are_these all n x step = (

@@ -1,5 +1,5 @@
 -- The notes on an outline, as they are printed.
-use Rattle.std.specs.Prelude.{ℕ, ◌-◌, nat_lt, List, [], ◌∷◌, length, flat_map, if◌then◌else◌, codes}
+use Rattle.std.specs.Prelude.{ℕ, ◌-◌, ◌==◌, nat_lt, List, [], length, flat_map, if◌then◌else◌, codes}
 use Rattle.std.specs.List.{range_with_len}
 use Rattle.og_typed.specs.Syntax.{Noted, Statement, Skip, Assign, If, While, Await, Program}
 use Rattle.og_typed.specs.Erase.{erased}
@@ -80,9 +80,9 @@ auxiliaries o = range_with_len o.vars (length o.names - o.vars)
 
 -- these auxiliaries, with the program that is left without them, where there are some
 abbrev pub auxiliaries_text : Program → List ℕ → List ℕ
-auxiliaries_text o [] = codes "auxiliary variables: none\n"
-auxiliaries_text o (x ∷ xs) =
-    codes "auxiliary variables: " & names_text o.names [] (x ∷ xs) & codes "\nthe program without them:\n" & program_text (raw_of (erased o))
+auxiliaries_text o vars =
+    if length vars == 0 then codes "auxiliary variables: none\n"
+    else codes "auxiliary variables: " & names_text o.names [] vars & codes "\nthe program without them:\n" & program_text (raw_of (erased o))
 
 -- the notes on an outline of whose assertions this is found
 abbrev pub notes_text : Program → List ℕ → List Claim → List ℕ

@@ -72,10 +72,14 @@ is_beside (parts.Process p) parts.Epilogue = false
 is_beside parts.Prologue other = false
 is_beside parts.Epilogue other = false
 
+-- the step is of another process and assigns the variable x
+abbrev pub is_set_beside : Part → ℕ → Step → Bool
+is_set_beside part x step = is_beside part step.part && assigns x step.stmt
+
 module _ (all : List Step) where
-  -- some step of another process assigns the variable x
+  -- some step is
   abbrev pub is_assigned_beside : Part → ℕ → Bool
-  is_assigned_beside part x = list_any (λ step. is_beside part step.part && assigns x step.stmt) all
+  is_assigned_beside part x = list_any (is_set_beside part x) all
 
   -- the step touches the variable x, and some step of another process assigns it
   abbrev pub is_shared : Step → ℕ → Bool

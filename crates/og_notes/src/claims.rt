@@ -1,6 +1,8 @@
 //! The assertions of an outline, and which of them no state meets.
 
-ghost use Rattle.std.specs.Prelude.{◌≡◌, ◌∷◌, [], map, IfOk, OnOk, IsTrue};
+ghost use Rattle.std.specs.Prelude.{◌≡◌, true, map, IfOk, OnOk};
+ghost use Rattle.og_cond.specs.Seen.{seen};
+ghost use Rattle.og_cond.specs.Valid.{IsValid};
 ghost use Rattle.og_typed.specs.Plain.{formula, noted};
 ghost use Rattle.og_notes.specs.Claims.{IsMetByNone, IsFound, AreClaims, inner, inner_notes};
 ghost use Rattle.og_notes.specs.Seen.{claim_of, claims_of, notes_of, Gains};
@@ -37,13 +39,13 @@ struct Search {
 }
 
 impl Search {
-    // Whether a certificate is found that no state meets the assertion.
-    fn is_unmet(self, assertion: &Assert) -> Result<bool, AllocError>
-        ensures { IfOk result (λ yes. IsTrue yes → IsMetByNone (formula assertion.now)) }
+    // The condition that no state meets the assertion.
+    fn never(self, assertion: &Assert) -> Result<Condition<'_>, AllocError>
+        ensures { IfOk result (λ c. IsValid (seen c) → IsMetByNone (formula assertion.now)) }
     {
         let mut hypotheses = Vec::new(self.alloc);
         hypotheses.push(Hypothesis::Is(Part::Yes(assertion)))?;
-        let condition = Condition {
+        Ok(Condition {
             kind: Kind::Start,
             at: 0,
             action_at: None,
@@ -51,8 +53,18 @@ impl Search {
             hypotheses,
             goal: Goal::Never,
             action: None,
-        };
-        Ok(find(self.alloc, &condition, self.budget.facts())?.is_some())
+        })
+    }
+
+    // Whether a certificate is found that no state meets the assertion.
+    fn is_unmet(self, assertion: &Assert) -> Result<bool, AllocError>
+        ensures { IfOk result (λ yes. yes ≡ true → IsMetByNone (formula assertion.now)) }
+    {
+        let condition = self.never(assertion)?;
+        match find(self.alloc, &condition, self.budget.facts())? {
+            Some(_) => Ok(true),
+            None => Ok(false),
+        }
     }
 
     // An assertion, and what is found of it.
@@ -66,6 +78,7 @@ impl Search {
 }
 
 // Adds the assertions between the precondition and the postcondition.
+#[tactic(auto, using(crate::proofs::Claiming::found_more))]
 fn add_inner<'a>(
     claims: &mut Vec<Claim<'a>>,
     search: Search,
@@ -85,6 +98,7 @@ fn add_inner<'a>(
 /// # Errors
 ///
 /// An allocation was refused.
+#[tactic(auto, using(crate::proofs::Claiming::found_more))]
 pub(crate) fn claims_of<'a>(
     alloc: Global,
     outline: &'a Outline,

@@ -24,6 +24,7 @@ use og_wording::put_names;
 use std::alloc::{AllocError, Global};
 
 // The auxiliary variables by number.
+#[tactic(auto, using(crate::proofs::Ranges::range_next, crate::proofs::Ranges::range_done))]
 fn auxiliaries(alloc: Global, outline: &Outline) -> Result<Vec<u32>, AllocError>
     ensures { IfOk result (λ v. v.items ≡ wanted.auxiliaries outline.now) }
 {

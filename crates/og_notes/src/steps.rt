@@ -1,6 +1,7 @@
 //! The variables of a step that other processes assign.
 
-ghost use Rattle.std.specs.Prelude.{◌≡◌, IfOk};
+ghost use Rattle.std.specs.Prelude.{◌≡◌, map, IfOk};
+ghost use Rattle.std.specs.List.{list_any};
 ghost use Rattle.og_typed.specs.Plain.{simple, statement};
 ghost use Rattle.og_notes.specs.Seen.{step_of, steps_of};
 ghost use Rattle.og_notes.specs.Steps as plain;
@@ -30,6 +31,30 @@ fn is_set(var: u32, basic: &Basic) -> bool
     }
 }
 
+// Whether one of the assignments reads or assigns the variable.
+fn is_used_in(var: u32, body: &[Basic]) -> bool
+    ensures { result ≡ list_any (plain.is_used var) (map simple body.now) }
+{
+    for basic in body {
+        if is_used(var, basic) {
+            return true;
+        }
+    }
+    false
+}
+
+// Whether one of the assignments assigns the variable.
+fn is_set_in(var: u32, body: &[Basic]) -> bool
+    ensures { result ≡ list_any (plain.is_set var) (map simple body.now) }
+{
+    for basic in body {
+        if is_set(var, basic) {
+            return true;
+        }
+    }
+    false
+}
+
 // Whether the step that the statement begins with reads or assigns the variable.
 fn touches(var: u32, stmt: &Stmt) -> bool
     ensures { result ≡ plain.touches var (statement stmt.now) }
@@ -38,9 +63,7 @@ fn touches(var: u32, stmt: &Stmt) -> bool
         Stmt::Skip => false,
         Stmt::Assign(target, form) => *target == var || form.mentions(var),
         Stmt::If(test, _, _) | Stmt::While(test, _) => test.mentions(var),
-        Stmt::Await(guard, body) => {
-            guard.mentions(var) || body.iter().any(|basic| is_used(var, basic))
-        }
+        Stmt::Await(guard, body) => guard.mentions(var) || is_used_in(var, body),
     }
 }
 
@@ -50,7 +73,7 @@ fn assigns(var: u32, stmt: &Stmt) -> bool
 {
     match stmt {
         Stmt::Assign(target, _) => *target == var,
-        Stmt::Await(_, body) => body.iter().any(|basic| is_set(var, basic)),
+        Stmt::Await(_, body) => is_set_in(var, body),
         Stmt::Skip | Stmt::If(..) | Stmt::While(..) => false,
     }
 }
@@ -65,11 +88,23 @@ fn is_beside(part: Part, other: Part) -> bool
     }
 }
 
+// Whether the step is of another process and assigns the variable.
+fn is_set_beside(part: Part, step: &Step, var: u32) -> bool
+    ensures { result ≡ plain.is_set_beside part var (step_of step.now) }
+{
+    is_beside(part, step.part) && assigns(var, &step.item.stmt)
+}
+
 // Whether some step of another process assigns the variable.
 fn is_assigned_beside(steps: &[Step], part: Part, var: u32) -> bool
     ensures { result ≡ plain.is_assigned_beside (steps_of steps.now) part var }
 {
-    steps.iter().any(|step| is_beside(part, step.part) && assigns(var, &step.item.stmt))
+    for step in steps {
+        if is_set_beside(part, step, var) {
+            return true;
+        }
+    }
+    false
 }
 
 // Whether the step touches the variable, and some step of another process assigns it.
@@ -85,6 +120,7 @@ fn is_shared(steps: &[Step], step: &Step, var: u32) -> bool
 /// # Errors
 ///
 /// An allocation was refused.
+#[tactic(auto, using(crate::proofs::Ranges::filter_next, crate::proofs::Ranges::filter_done))]
 pub(crate) fn shared(
     alloc: Global,
     steps: &[Step],
