@@ -33,7 +33,7 @@ step_text (Await b body) = codes "await"
 
 -- of what a yes speaks, and what carries it
 abbrev pub unblocked_line : List ℕ
-unblocked_line = codes "\"unblocked: yes\" speaks of the whole program: until all processes have ended, one of them can step; a single one may wait for ever\n"
+unblocked_line = codes "unblocked is said of the whole program: until all processes have ended, one of them can step; a single one may wait for ever\n"
 
 abbrev pub definitions_line : List ℕ
 definitions_line = codes "a yes is carried by 948 lines of definitions, from the bytes of the source to its runs: docs/THEOREM.md\n"

@@ -33,48 +33,43 @@ pub(crate) struct Claim<'a> {
 /// How certificates are searched for of assertions over so many variables.
 #[derive(Clone, Copy)]
 struct Search {
-    alloc: Global,
     variables: u32,
     budget: Budget,
 }
 
-impl Search {
-    // The condition that no state meets the assertion.
-    fn never(self, assertion: &Assert) -> Result<Condition<'_>, AllocError>
-        ensures { IfOk result (λ c. IsValid (seen c) → IsMetByNone (formula assertion.now)) }
-    {
-        let mut hypotheses = Vec::new(self.alloc);
-        hypotheses.push(Hypothesis::Is(Part::Yes(assertion)))?;
-        Ok(Condition {
-            kind: Kind::Start,
-            at: 0,
-            action_at: None,
-            variables: self.variables,
-            hypotheses,
-            goal: Goal::Never,
-            action: None,
-        })
-    }
+// The condition that no state meets the assertion.
+fn never(alloc: Global, search: Search, assertion: &Assert) -> Result<Condition<'_>, AllocError>
+    ensures { IfOk result (λ c. IsValid (seen c) → IsMetByNone (formula assertion.now)) }
+{
+    let mut hypotheses = Vec::new(alloc);
+    hypotheses.push(Hypothesis::Is(Part::Yes(assertion)))?;
+    Ok(Condition {
+        kind: Kind::Start,
+        at: 0,
+        action_at: None,
+        variables: search.variables,
+        hypotheses,
+        goal: Goal::Never,
+        action: None,
+    })
+}
 
-    // Whether a certificate is found that no state meets the assertion.
-    fn is_unmet(self, assertion: &Assert) -> Result<bool, AllocError>
-        ensures { IfOk result (λ yes. yes ≡ true → IsMetByNone (formula assertion.now)) }
-    {
-        let condition = self.never(assertion)?;
-        match find(self.alloc, &condition, self.budget.facts())? {
-            Some(_) => Ok(true),
-            None => Ok(false),
-        }
-    }
+// Whether a certificate is found that no state meets the assertion.
+fn is_unmet(alloc: Global, search: Search, assertion: &Assert) -> Result<bool, AllocError>
+    ensures { IfOk result (λ yes. yes ≡ true → IsMetByNone (formula assertion.now)) }
+{
+    let condition = never(alloc, search, assertion)?;
+    let found = find(alloc, &condition, search.budget.facts())?;
+    Ok(found.is_some())
+}
 
-    // An assertion, and what is found of it.
-    fn claim(self, role: Role, note: &Note) -> Result<Claim<'_>, AllocError>
-        ensures claim { IfOk result (λ c. (c.role ≡ role) × (noted c.note.now ≡ noted note.now)) }
-        ensures found { IfOk result (λ c. IsFound (claim_of c)) }
-    {
-        let unmet = self.is_unmet(&note.assertion)?;
-        Ok(Claim { role, note, unmet })
-    }
+// An assertion, and what is found of it.
+fn claim(alloc: Global, search: Search, role: Role, note: &Note) -> Result<Claim<'_>, AllocError>
+    ensures claim { IfOk result (λ c. (c.role ≡ role) × (noted c.note.now ≡ noted note.now)) }
+    ensures found { IfOk result (λ c. IsFound (claim_of c)) }
+{
+    let unmet = is_unmet(alloc, search, &note.assertion)?;
+    Ok(Claim { role, note, unmet })
 }
 
 // Adds the assertions between the precondition and the postcondition.
@@ -86,8 +81,9 @@ fn add_inner<'a>(
 ) -> Result<(), AllocError>
     ensures { OnOk result (Gains (claims_of claims.old.items) (claims_of claims.new.items) (map inner (notes_of notes.now))) }
 {
+    let alloc = *claims.allocator();
     for note in notes {
-        claims.push(search.claim(Role::Inner, note)?)?;
+        claims.push(claim(alloc, search, Role::Inner, note)?)?;
     }
     Ok(())
 }
@@ -109,14 +105,11 @@ pub(crate) fn claims_of<'a>(
     ensures { IfOk result (λ v. AreClaims outline.now (claims_of v.items)) }
 {
     outline.follows_rule();
-    let search = Search {
-        alloc,
-        variables: outline.names().len() as u32,
-        budget,
-    };
+    let variables = outline.names().len() as u32;
+    let search = Search { variables, budget };
     let mut claims = Vec::new(alloc);
-    claims.push(search.claim(Role::Precondition, outline.pre())?)?;
+    claims.push(claim(alloc, search, Role::Precondition, outline.pre())?)?;
     add_inner(&mut claims, search, notes)?;
-    claims.push(search.claim(Role::Postcondition, outline.post())?)?;
+    claims.push(claim(alloc, search, Role::Postcondition, outline.post())?)?;
     Ok(claims)
 }

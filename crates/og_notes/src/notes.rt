@@ -69,7 +69,7 @@ fn put_meaning(text: &mut Vec<u8>) -> Result<(), AllocError>
     ensures { OnOk result (text.new.items ≡ text.old.items ++ (wanted.unblocked_line ++ wanted.definitions_line)) }
 {
     text.extend_from_slice(
-        b"\"unblocked: yes\" speaks of the whole program: until all processes have ended, one of them can step; a single one may wait for ever\n",
+        b"unblocked is said of the whole program: until all processes have ended, one of them can step; a single one may wait for ever\n",
     )?;
     text.extend_from_slice(
         b"a yes is carried by 948 lines of definitions, from the bytes of the source to its runs: docs/THEOREM.md\n",

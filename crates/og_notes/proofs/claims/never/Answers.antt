@@ -3,7 +3,7 @@ use Rattle.og_cond.specs.Condition.{Is, Yes}
 use Rattle.og_cond.specs.Seen.{hypothesis_of}
 use Rattle.og_typed.specs.Plain.{formula}
 use Rattle.og_notes.proofs.Claiming.{met_by_none}
-use Rattle.og_notes.proofs.claims.Search.never.Goals as goal
+use Rattle.og_notes.proofs.claims.never.Goals as goal
 
 pub returns : goal.returns
 returns c =
