@@ -1,5 +1,5 @@
 -- Numbers one after another.
-use Rattle.std.proofs.Common.{◌≡◌, ◌+◌, ◌-◌, ◌<◌, ◌≤◌, ℕ, suc, Bool, cond, List, [], ◌∷◌, ap, arith}
+use Rattle.std.proofs.Common.{◌≡◌, ◌∙◌, ◌+◌, ◌-◌, ◌<◌, ◌≤◌, ◌++◌, ℕ, suc, Bool, true, false, cond, List, [], ◌∷◌, ap, sym, append_assoc, arith}
 use Rattle.std.specs.Prelude.{filter}
 use Rattle.std.specs.List.{range_with_len}
 
@@ -14,3 +14,24 @@ filter_next p i n lt = ap (filter p) (range_next i n lt)
 
 pub filter_done : (p : ℕ → Bool) (i n : ℕ) → n ≤ i → filter p (range_with_len i (n - i)) ≡ []
 filter_done p i n h = ap (filter p) (range_done i n h)
+
+-- a number more is added
+pub added_next : (before after whole : List ℕ) (i n : ℕ) → i < n → after ≡ before ++ i ∷ [] → before ++ range_with_len i (n - i) ≡ whole → after ++ range_with_len (i + 1) (n - (i + 1)) ≡ whole
+added_next before after whole i n lt made e =
+    let later = range_with_len (i + 1) (n - (i + 1)) in
+    ap (λ (l : List ℕ). l ++ later) made ∙ (append_assoc before (i ∷ []) later ∙ (ap (λ (l : List ℕ). before ++ l) (sym (range_next i n lt)) ∙ e))
+
+-- one that passes the test is added, and another one is not
+pub kept_next : (p : ℕ → Bool) (before after whole : List ℕ) (i n : ℕ) → i < n → p i ≡ true → after ≡ before ++ i ∷ [] → before ++ filter p (range_with_len i (n - i)) ≡ whole
+    → after ++ filter p (range_with_len (i + 1) (n - (i + 1))) ≡ whole
+kept_next p before after whole i n lt passes made e =
+    let later = filter p (range_with_len (i + 1) (n - (i + 1))) in
+    ap (λ (l : List ℕ). l ++ later) made
+    ∙ (append_assoc before (i ∷ []) later
+    ∙ (ap (λ (l : List ℕ). before ++ l) (sym (filter_next p i n lt ∙ ap (λ (b : Bool). cond b (i ∷ later) later) passes)) ∙ e))
+
+pub left_next : (p : ℕ → Bool) (before whole : List ℕ) (i n : ℕ) → i < n → p i ≡ false → before ++ filter p (range_with_len i (n - i)) ≡ whole
+    → before ++ filter p (range_with_len (i + 1) (n - (i + 1))) ≡ whole
+left_next p before whole i n lt fails e =
+    let later = filter p (range_with_len (i + 1) (n - (i + 1))) in
+    ap (λ (l : List ℕ). before ++ l) (sym (filter_next p i n lt ∙ ap (λ (b : Bool). cond b (i ∷ later) later) fails)) ∙ e

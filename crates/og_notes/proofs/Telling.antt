@@ -52,7 +52,7 @@ was_kept p (y ∷ ys) x m = go (p y) refl (was_kept p ys x) m
 
 some_passes : {X : Type 0} (p : X → Bool) (xs : List X) → list_any p xs ≡ true → (x : X) × Member xs x × (p x ≡ true)
 some_passes p [] e = absurd (true≢false (sym e))
-some_passes p (y ∷ ys) e = go (p y) refl (some_passes p ys) e
+some_passes {X = X} p (y ∷ ys) e = go (p y) refl (some_passes p ys) e
   where
     go : (b : Bool) → p y ≡ b → (list_any p ys ≡ true → (x : X) × Member ys x × (p x ≡ true)) → (b || list_any p ys) ≡ true → (x : X) × ((y ≡ x) ⊎ Member ys x) × (p x ≡ true)
     go true is later h = (y, inl refl, is)

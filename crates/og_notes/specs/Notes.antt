@@ -78,11 +78,15 @@ claims_text o source claims =
 abbrev pub auxiliaries : Program → List ℕ
 auxiliaries o = range_with_len o.vars (length o.names - o.vars)
 
--- these auxiliaries, with the program that is left without them, where there are some
+-- auxiliaries, with the program that is left without them
+abbrev pub some_auxiliaries_text : Program → List ℕ → List ℕ
+some_auxiliaries_text o vars =
+    codes "auxiliary variables: " & names_text o.names [] vars & codes "\nthe program without them:\n" & program_text (raw_of (erased o))
+
+-- the same of these, where there are some
 abbrev pub auxiliaries_text : Program → List ℕ → List ℕ
 auxiliaries_text o vars =
-    if length vars == 0 then codes "auxiliary variables: none\n"
-    else codes "auxiliary variables: " & names_text o.names [] vars & codes "\nthe program without them:\n" & program_text (raw_of (erased o))
+    if length vars == 0 then codes "auxiliary variables: none\n" else some_auxiliaries_text o vars
 
 -- the notes on an outline of whose assertions this is found
 abbrev pub notes_text : Program → List ℕ → List Claim → List ℕ

@@ -30,11 +30,11 @@ pub(crate) struct Claim<'a> {
     pub(crate) unmet: bool,
 }
 
-/// How certificates are searched for of assertions over so many variables.
+/// How certificates are searched for: over how many variables, and with how many facts at most.
 #[derive(Clone, Copy)]
 struct Search {
     variables: u32,
-    budget: Budget,
+    facts: u64,
 }
 
 // The condition that no state meets the assertion.
@@ -59,12 +59,12 @@ fn is_unmet(alloc: Global, search: Search, assertion: &Assert) -> Result<bool, A
     ensures { IfOk result (λ yes. yes ≡ true → IsMetByNone (formula assertion.now)) }
 {
     let condition = never(alloc, search, assertion)?;
-    let found = find(alloc, &condition, search.budget.facts())?;
+    let found = find(alloc, &condition, search.facts)?;
     Ok(found.is_some())
 }
 
 // An assertion, and what is found of it.
-fn claim(alloc: Global, search: Search, role: Role, note: &Note) -> Result<Claim<'_>, AllocError>
+fn examined(alloc: Global, search: Search, role: Role, note: &Note) -> Result<Claim<'_>, AllocError>
     ensures claim { IfOk result (λ c. (c.role ≡ role) × (noted c.note.now ≡ noted note.now)) }
     ensures found { IfOk result (λ c. IsFound (claim_of c)) }
 {
@@ -83,7 +83,7 @@ fn add_inner<'a>(
 {
     let alloc = *claims.allocator();
     for note in notes {
-        claims.push(claim(alloc, search, Role::Inner, note)?)?;
+        claims.push(examined(alloc, search, Role::Inner, note)?)?;
     }
     Ok(())
 }
@@ -105,11 +105,13 @@ pub(crate) fn claims_of<'a>(
     ensures { IfOk result (λ v. AreClaims outline.now (claims_of v.items)) }
 {
     outline.follows_rule();
-    let variables = outline.names().len() as u32;
-    let search = Search { variables, budget };
+    let search = Search {
+        variables: outline.names().len() as u32,
+        facts: budget.facts(),
+    };
     let mut claims = Vec::new(alloc);
-    claims.push(claim(alloc, search, Role::Precondition, outline.pre())?)?;
+    claims.push(examined(alloc, search, Role::Precondition, outline.pre())?)?;
     add_inner(&mut claims, search, notes)?;
-    claims.push(claim(alloc, search, Role::Postcondition, outline.post())?)?;
+    claims.push(examined(alloc, search, Role::Postcondition, outline.post())?)?;
     Ok(claims)
 }

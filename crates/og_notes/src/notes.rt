@@ -50,6 +50,21 @@ fn program_text(alloc: Global, outline: &Outline) -> Result<Vec<u8>, AllocError>
     text
 }
 
+// Auxiliary variables, and the program that is left without them.
+fn put_some_auxiliaries(
+    text: &mut Vec<u8>,
+    outline: &Outline,
+    vars: &[u32],
+) -> Result<(), AllocError>
+    ensures { OnOk result (text.new.items ≡ text.old.items ++ wanted.some_auxiliaries_text outline.now vars.now) }
+{
+    let program = program_text(*text.allocator(), outline)?;
+    text.extend_from_slice(b"auxiliary variables: ")?;
+    put_names(text, outline.names(), vars)?;
+    text.extend_from_slice(b"\nthe program without them:\n")?;
+    text.extend_from_slice(&program)
+}
+
 // These auxiliary variables, and the program that is left without them, where there are some.
 fn put_auxiliaries(text: &mut Vec<u8>, outline: &Outline, vars: &[u32]) -> Result<(), AllocError>
     ensures { OnOk result (text.new.items ≡ text.old.items ++ wanted.auxiliaries_text outline.now vars.now) }
@@ -57,11 +72,7 @@ fn put_auxiliaries(text: &mut Vec<u8>, outline: &Outline, vars: &[u32]) -> Resul
     if vars.is_empty() {
         return text.extend_from_slice(b"auxiliary variables: none\n");
     }
-    let program = program_text(*text.allocator(), outline)?;
-    text.extend_from_slice(b"auxiliary variables: ")?;
-    put_names(text, outline.names(), vars)?;
-    text.extend_from_slice(b"\nthe program without them:\n")?;
-    text.extend_from_slice(&program)
+    put_some_auxiliaries(text, outline, vars)
 }
 
 // What is to be known of every yes.
