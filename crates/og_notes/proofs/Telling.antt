@@ -1,11 +1,9 @@
 -- What stands in the notes.
-use Rattle.std.proofs.Common.{◌≡◌, ◌∙◌, ◌⊎◌, ◌<◌, ◌+◌, ◌&&◌, ◌||◌, ◌++◌, inl, inr, refl, sym, ap, ℕ, zero, suc, Bool, true, false, cond, List, [], ◌∷◌, length, append_assoc, arith}
+use Rattle.std.proofs.Common.{◌≡◌, ◌∙◌, ◌⊎◌, ◌<◌, ◌||◌, ◌++◌, inl, inr, refl, sym, ap, ℕ, zero, suc, Bool, true, false, cond, List, [], ◌∷◌, length, append_assoc, arith}
 use Rattle.std.specs.Prelude.{Contains, filter, flat_map, slice_index_or, codes}
 use Rattle.std.specs.List.{list_any, range_with_len}
 use Rattle.std.proofs.lemmas.Bool.{and_parts, and_from, true≢false}
 use Rattle.std.proofs.lemmas.List.FromFn.{length-range_with_len, get_or-range_with_len}
-use Rattle.og_typed.specs.Syntax.{Program}
-use Rattle.og_notes.specs.Claims.{Claim}
 use Rattle.og_notes.specs.Law.{IsIn, IsAssignedBeside, SharedAreThese, StepsAreTold, UnmetAreTold}
 use Rattle.og_notes.specs.Notes.{claim_line, unmet_line, step_line, step_lines, claims_text, unblocked_line, definitions_line, auxiliaries, auxiliaries_text}
 use Rattle.og_notes.specs.Steps.{Step, all_steps, touches, assigns, is_beside, is_set_beside, is_assigned_beside, is_shared, shared}

@@ -1,5 +1,5 @@
 -- What stands in the notes.
-use Rattle.std.specs.Prelude.{◌≡◌, ◌<◌, ◌↔◌, ℕ, List, ◌++◌, length, true, Contains}
+use Rattle.std.specs.Prelude.{◌≡◌, ◌<◌, ◌↔◌, ℕ, List, ◌++◌, true, Contains}
 use Rattle.og_typed.specs.Syntax.{Program}
 use Rattle.og_notes.specs.Steps.{Step, all_steps, touches, assigns, is_beside, shared}
 use Rattle.og_notes.specs.Claims.{Claim}
