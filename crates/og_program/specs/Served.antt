@@ -24,6 +24,7 @@ use Rattle.og_explorer.specs.declared.exploring.Reply.TheVariants as explorings
 use Rattle.og_input.specs.Joined.{IsSplit}
 use Rattle.og_judge.specs.Proven.{IsProvenSource}
 use Rattle.og_judge.specs.NeverStuck.{IsNeverStuckSource}
+use Rattle.og_notes.specs.Noted.{IsNoted}
 use Rattle.og_remark.specs.Expansion.{IsExpansionRemark}
 use Rattle.og_remark.specs.Missing.{IsMissingRemark}
 use Rattle.og_remark.specs.Remarks.{IsSourceRemark, IsConditionsRemark, IsCheckRemark, IsCertificatesRemark}
@@ -79,6 +80,9 @@ Checks json name certs_name source certs t =
 abbrev pub Proves : Bool → List ℕ → List ℕ → Told → Type 0
 Proves json name source t =
     IsProving json source t.answer × Warrants json source t.answer.text.items t.answer.status × Remarks (IsConditionsRemark name source) t
+
+abbrev pub NotesOn : List ℕ → List ℕ → Told → Type 0
+NotesOn name source t = IsNoted source t.answer × Remarks (IsSourceRemark name source) t
 
 -- how conditions are listed, by the flags that are given
 abbrev pub form_of : Bool → Bool → Form
@@ -180,6 +184,7 @@ abbrev pub Comes : (List ℕ → Option (List ℕ)) → Option (List ℕ) → Jo
 Comes files input jobs.Joined = OfJoined input
 Comes files input (jobs.Prove source budget workers json) = OfSource files input source.now (λ s. OnTold (Proves json source.now s))
 Comes files input (jobs.Check source certs workers json) = OfBoth files input source.now certs.now (λ s c. OnTold (Checks json source.now certs.now s c))
+Comes files input (jobs.Notes source budget) = OfSource files input source.now (λ s. OnTold (NotesOn source.now s))
 Comes files input (jobs.Conditions source triples smt2) = OfSource files input source.now (λ s. OnTold (Lists (form_of triples smt2) source.now s))
 Comes files input (jobs.Find source budget workers version) = OfSource files input source.now (λ s. OnTold (Finds version source.now s))
 Comes files input (jobs.Erase source readable) = OfSource files input source.now (λ s. OnTold (Erases readable source.now s))
@@ -210,6 +215,7 @@ abbrev pub Opens : Job → List ℕ → Type 0
 Opens jobs.Joined = λ name. name ≡ codes "-"
 Opens (jobs.Prove source budget workers json) = λ name. name ≡ source.now
 Opens (jobs.Check source certs workers json) = λ name. (name ≡ source.now) ⊎ (name ≡ certs.now)
+Opens (jobs.Notes source budget) = λ name. name ≡ source.now
 Opens (jobs.Conditions source triples smt2) = λ name. name ≡ source.now
 Opens (jobs.Find source budget workers version) = λ name. name ≡ source.now
 Opens (jobs.Erase source readable) = λ name. name ≡ source.now
@@ -228,6 +234,7 @@ abbrev pub lacks : (List ℕ → Bool) → Job → Bool
 lacks missing jobs.Joined = false
 lacks missing (jobs.Prove source budget workers json) = lacks_bytes missing source.now
 lacks missing (jobs.Check source certs workers json) = lacks_bytes missing source.now || lacks_certs missing source.now certs.now
+lacks missing (jobs.Notes source budget) = lacks_bytes missing source.now
 lacks missing (jobs.Conditions source triples smt2) = lacks_bytes missing source.now
 lacks missing (jobs.Find source budget workers version) = lacks_bytes missing source.now
 lacks missing (jobs.Erase source readable) = lacks_bytes missing source.now
@@ -246,6 +253,7 @@ abbrev pub reads_input : Job → Bool
 reads_input jobs.Joined = true
 reads_input (jobs.Prove source budget workers json) = not (is_file source.now)
 reads_input (jobs.Check source certs workers json) = not (is_file source.now) || not (is_file certs.now)
+reads_input (jobs.Notes source budget) = not (is_file source.now)
 reads_input (jobs.Conditions source triples smt2) = not (is_file source.now)
 reads_input (jobs.Find source budget workers version) = not (is_file source.now)
 reads_input (jobs.Erase source readable) = not (is_file source.now)
@@ -269,6 +277,7 @@ abbrev pub StartsThreads : (List ℕ → Option (List ℕ)) → Option (List ℕ
 StartsThreads files input jobs.Joined = ⊥
 StartsThreads files input (jobs.Prove source budget workers json) = 1 < workers
 StartsThreads files input (jobs.Check source certs workers json) = 1 < workers
+StartsThreads files input (jobs.Notes source budget) = ⊥
 StartsThreads files input (jobs.Conditions source triples smt2) = ⊥
 StartsThreads files input (jobs.Find source budget workers version) = 1 < workers
 StartsThreads files input (jobs.Erase source readable) = ⊥
@@ -313,6 +322,7 @@ abbrev pub IsProvenIn : (List ℕ → Option (List ℕ)) → Option (List ℕ) �
 IsProvenIn files input jobs.Joined = Reads joined_of input HasProvenSource
 IsProvenIn files input (jobs.Prove source budget workers json) = Reads source_of (bytes_in files input source.now) IsProvenSource
 IsProvenIn files input (jobs.Check source certs workers json) = Reads source_of (bytes_in files input source.now) IsProvenSource
+IsProvenIn files input (jobs.Notes source budget) = ⊤
 IsProvenIn files input (jobs.Conditions source triples smt2) = ⊤
 IsProvenIn files input (jobs.Find source budget workers version) = ⊤
 IsProvenIn files input (jobs.Erase source readable) = ⊤
@@ -328,6 +338,7 @@ IsNeverStuckIn files input before after (jobs.Prove source budget workers json) 
     Wrote (SaysUnblocked json) before after → Reads source_of (bytes_in files input source.now) IsNeverStuckSource
 IsNeverStuckIn files input before after (jobs.Check source certs workers json) =
     Wrote (SaysUnblocked json) before after → Reads source_of (bytes_in files input source.now) IsNeverStuckSource
+IsNeverStuckIn files input before after (jobs.Notes source budget) = ⊤
 IsNeverStuckIn files input before after (jobs.Conditions source triples smt2) = ⊤
 IsNeverStuckIn files input before after (jobs.Find source budget workers version) = ⊤
 IsNeverStuckIn files input before after (jobs.Erase source readable) = ⊤

@@ -4,7 +4,7 @@ ghost use Rattle.std.specs.Prelude.{◌≡◌, true, IfErr, IfOk};
 ghost use Rattle.og_engine.specs.Inputs.{certs_of, Reads};
 ghost use Rattle.og_program.specs.Failing.{IsReading, IsUnread};
 ghost use Rattle.og_program.specs.Named.{bytes_in, is_file, lacks_bytes};
-ghost use Rattle.og_program.specs.Served.{form_of, OfSource, OnTold, Lists, Erases, Migrates};
+ghost use Rattle.og_program.specs.Served.{form_of, OfSource, OnTold, NotesOn, Lists, Erases, Migrates};
 
 use crate::beside::{beside_certificates, beside_conditions, beside_source};
 use crate::fault::Fault;
@@ -12,8 +12,28 @@ use crate::files::Files;
 use crate::outcome::Outcome;
 use crate::reading::{certificate_bytes, source_bytes};
 use og_engine::{Form, erased, listed, migrated};
+use og_limits::Budget;
+use og_notes::noted;
 use std::alloc::Global;
 use std::io::Read;
+
+/// What a reviewer of a yes is told of the outline of a source.
+pub(crate) fn notes<'a, F: Files, I: Read>(
+    alloc: Global,
+    files: &F,
+    name: &'a str,
+    budget: Budget,
+    input: &mut I,
+) -> Result<Outcome<'a>, Fault<'a>>
+    ensures came { IfOk result (OfSource (F.contents files.now) (I.remaining input.old) name.now (λ s. OnTold (NotesOn name.now s))) }
+    ensures fault { IfErr result (IsReading name.now) }
+    ensures missing { lacks_bytes (F.is_missing files.now) name.now ≡ true → IsUnread result }
+    ensures kept { is_file name.now ≡ true → I.remaining input.new ≡ I.remaining input.old }
+{
+    let source = source_bytes(alloc, files, name, input)?;
+    let answer = noted(alloc, &source, budget)?;
+    Ok(Outcome::Told(beside_source(alloc, name, &source, answer)))
+}
 
 /// How conditions are listed, by the flags that are given.
 pub(crate) fn form_of(triples: bool, smt2: bool) -> Form

@@ -4,7 +4,7 @@ ghost use Rattle.std.specs.Prelude.{◌≡◌, true, false, map, string_bytes, I
 ghost use Rattle.og_program.specs.Failing.{IsFault, IsUnread};
 ghost use Rattle.og_program.specs.Served.{lacks, reads_input, Comes, Opens, StartsThreads, FailsToRead, Ends, EndsJob, EndsUsage, EndsWords, IsProvenIn, IsNeverStuckIn};
 
-use crate::commands::{conditions, erase, form_of, migrate};
+use crate::commands::{conditions, erase, form_of, migrate, notes};
 use crate::ended::Ended;
 use crate::expanding::expand;
 use crate::exploring::explore;
@@ -62,6 +62,7 @@ impl<'r, F: Files, G: Gate, H: Threads + Wait + Sync> Program<'r, F, G, H> {
                 };
                 self.check(Names { source, certs }, options, input)
             }
+            Job::Notes { source, budget } => notes(alloc, files, source, *budget, input),
             Job::Conditions {
                 source,
                 triples,

@@ -77,6 +77,9 @@ prover = command (codes "prove") (source ∷ budget ∷ workers ∷ flag (codes 
 abbrev pub check : Shape
 check = command (codes "check") (source ∷ certs ∷ workers ∷ flag (codes "json") ∷ [])
 
+abbrev pub notes : Shape
+notes = command (codes "notes") (source ∷ budget ∷ [])
+
 abbrev pub conditions : Shape
 conditions = command (codes "conditions") (source ∷ flag (codes "triples") ∷ smt2_flag ∷ [])
 
@@ -106,5 +109,5 @@ without_commands = record { top = record (new_shape (codes "og")) { has_version 
 abbrev pub og : App
 og = record {
   top = record (new_shape (codes "og")) { is_leaf = false; no_binary_name = true; disable_help_subcommand = true; subcommand_required = true; has_version = true };
-  subs = prover ∷ check ∷ conditions ∷ finder ∷ erase ∷ run ∷ explorer ∷ expander ∷ migrate ∷ [];
+  subs = prover ∷ check ∷ notes ∷ conditions ∷ finder ∷ erase ∷ run ∷ explorer ∷ expander ∷ migrate ∷ [];
 }

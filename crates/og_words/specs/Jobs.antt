@@ -12,6 +12,7 @@ use Rattle.og_words.specs.declared.job.Usage.TheVariants as usages
 abbrev pub verb_name : Verb → List ℕ
 verb_name verbs.Prove = codes "prove"
 verb_name verbs.Check = codes "check"
+verb_name verbs.Notes = codes "notes"
 verb_name verbs.Conditions = codes "conditions"
 verb_name verbs.Find = codes "find"
 verb_name verbs.Erase = codes "erase"
@@ -25,6 +26,7 @@ abbrev pub command_of : Job → Option (List ℕ)
 command_of jobs.Joined = None
 command_of (jobs.Prove source budget workers json) = Some (codes "prove")
 command_of (jobs.Check source certs workers json) = Some (codes "check")
+command_of (jobs.Notes source budget) = Some (codes "notes")
 command_of (jobs.Conditions source triples smt2) = Some (codes "conditions")
 command_of (jobs.Find source budget workers version) = Some (codes "find")
 command_of (jobs.Erase source readable) = Some (codes "erase")
@@ -42,6 +44,8 @@ Holds rows (jobs.Prove source budget workers json) =
 Holds rows (jobs.Check source certs workers json) =
     (text_of (codes "SOURCE") rows ≡ Some source.now) × (text_of (codes "CERTS") rows ≡ Some certs.now)
     × (number_of (codes "workers") rows ≡ Some workers) × (json ≡ is_given (codes "json") rows)
+Holds rows (jobs.Notes source budget) =
+    (text_of (codes "SOURCE") rows ≡ Some source.now) × (number_of (codes "budget") rows ≡ Some budget)
 Holds rows (jobs.Conditions source triples smt2) =
     (text_of (codes "SOURCE") rows ≡ Some source.now) × (triples ≡ is_given (codes "triples") rows) × (smt2 ≡ is_given (codes "smt2") rows)
 Holds rows (jobs.Find source budget workers version) =

@@ -93,6 +93,18 @@ fn check_command<'a>(alloc: Global) -> Result<Command<'a>, AllocError>
         .arg(json_arg(alloc))
 }
 
+fn notes_command<'a>(alloc: Global) -> Result<Command<'a>, AllocError>
+    ensures { IfOk result (IsCommand line.notes) }
+{
+    let budget = budget_arg(alloc).help(
+        "How many steps a search may make for each assertion, 1 to 1000000000",
+    );
+    Command::new(alloc, "notes")
+        .about("Tell what a yes of an outline claims and what it does not")
+        .arg(source_arg(alloc))?
+        .arg(budget)
+}
+
 fn triples_arg<'a>(alloc: Global) -> Arg<'a>
     ensures { IsArg (line.flag (codes "triples")) result }
 {
@@ -302,12 +314,13 @@ fn with_word<'a>(
     program.subcommand(word?)
 }
 
-// Adds the words that judge outlines.
+// Adds the words that judge outlines, and the one that tells of their judgements.
 fn with_verdicts<'a>(alloc: Global, program: Command<'a>) -> Result<Command<'a>, AllocError>
-    ensures { IfOk result (λ r. app_of r ≡ with_subcommand (with_subcommand (app_of program.entry) line.prover) line.check) }
+    ensures { IfOk result (λ r. app_of r ≡ with_subcommand (with_subcommand (with_subcommand (app_of program.entry) line.prover) line.check) line.notes) }
 {
     let program = with_word(program, prove_command(alloc))?;
-    with_word(program, check_command(alloc))
+    let program = with_word(program, check_command(alloc))?;
+    with_word(program, notes_command(alloc))
 }
 
 // Adds the words that print the conditions of outlines, and their certificates.

@@ -12,6 +12,7 @@ use std::alloc::{AllocError, AllocFailed, Global};
 pub(crate) enum Verb {
     Prove,
     Check,
+    Notes,
     Conditions,
     Find,
     Erase,
@@ -44,6 +45,12 @@ pub enum Job<'a> {
         workers: Workers,
         /// Whether the report is to be JSON.
         json: bool,
+    },
+    /// Tell what a yes of an outline claims and what it does not.
+    Notes {
+        source: &'a str,
+        /// How many steps each search may make.
+        budget: Budget,
     },
     /// Print every condition, with its facts where nothing else is asked for.
     Conditions {

@@ -19,6 +19,7 @@ fn verb_of(word: &str) -> Option<Verb>
     match word {
         "prove" => Some(Verb::Prove),
         "check" => Some(Verb::Check),
+        "notes" => Some(Verb::Notes),
         "conditions" => Some(Verb::Conditions),
         "find" => Some(Verb::Find),
         "erase" => Some(Verb::Erase),
@@ -100,6 +101,15 @@ fn check_job<'a>(m: &ArgMatches<'a>) -> Option<Job<'a>>
         workers: workers_of(m)?,
         json: has_flag(m, "json"),
     })
+}
+
+fn notes_job<'a>(m: &ArgMatches<'a>) -> Option<Job<'a>>
+    ensures command { IfSome result (λ job. command_of job ≡ Some (verb_name Verb.Notes)) }
+    ensures holds { IfSome result (Holds (rows_of (found_of m.now))) }
+{
+    let source = text_of(m, "SOURCE")?;
+    let budget = budget_of(m)?;
+    Some(Job::Notes { source, budget })
 }
 
 fn conditions_job<'a>(m: &ArgMatches<'a>) -> Option<Job<'a>>
@@ -234,6 +244,7 @@ fn job_of<'a>(alloc: Global, verb: Verb, m: &ArgMatches<'a>) -> Result<Option<Jo
     match verb {
         Verb::Prove => Ok(prove_job(m)),
         Verb::Check => Ok(check_job(m)),
+        Verb::Notes => Ok(notes_job(m)),
         Verb::Conditions => Ok(conditions_job(m)),
         Verb::Find => Ok(find_job(m)),
         Verb::Erase => Ok(erase_job(m)),
