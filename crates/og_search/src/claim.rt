@@ -34,7 +34,7 @@ pub fn search_among(
     budget: u64,
 ) -> Result<Claim, AllocError> {
     let mut search = Search::new(alloc, part, variables, budget)?;
-    let found = match search.run(part) {
+    let found = match search.run() {
         Ok(proof) => certificate(alloc, &proof.tree, part.count),
         Err(stop) => Err(stop),
     };

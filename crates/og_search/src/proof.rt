@@ -1,7 +1,10 @@
 //! What a search found, before the facts have their numbers.
 
-use og_inequalities::{Inequality, Levels, Place, Side, TOP};
+use og_inequalities::{Inequality, Levels, Place, Side};
 use std::alloc::{AllocError, Global};
+
+/// How far a refutation is followed for forms to be lifted.
+const LIFT_LIMIT: u32 = 70;
 
 /// A fact, an end of the range of `i64`, or a line of the same leaf.
 #[derive(Clone, Copy)]
@@ -123,8 +126,8 @@ fn into_last_large(mut cases: Vec<Case>) -> Option<Tree> {
 }
 
 impl Tree {
-    // Its last case that is no leaf, or the first side of a branch.
-    fn main(&self) -> Option<&Tree> {
+    // The tree in which it goes on: the last case that is no leaf, or the first side of a branch.
+    fn spine(&self) -> Option<&Tree> {
         match self {
             Tree::Leaf { .. } => None,
             Tree::Split { cases, .. } => last_large(cases),
@@ -132,24 +135,24 @@ impl Tree {
         }
     }
 
-    /// Whether there is a branch on the way through its main parts whose second side needs the
+    /// Whether the tree, or one in which it goes on, is a branch whose second side needs the
     /// condition's own facts alone.
     pub(crate) fn is_lifting(&self) -> bool {
         let mut tree = self;
-        for _ in 0..TOP {
+        for _ in 0..LIFT_LIMIT {
             if matches!(tree, Tree::Branch(sides) if sides.is_general) {
                 return true;
             }
-            match tree.main() {
-                Some(main) => tree = main,
+            match tree.spine() {
+                Some(next) => tree = next,
                 None => break,
             }
         }
         false
     }
 
-    // The tree that `main` tells of, and what is lifted from round it.
-    fn into_main(self) -> (Option<Tree>, Option<Lifted>) {
+    // The same tree, and the form of the branch round it, if that is such a branch.
+    fn into_spine(self) -> (Option<Tree>, Option<Lifted>) {
         match self {
             Tree::Leaf { .. } => (None, None),
             Tree::Split { cases, .. } => (into_last_large(cases), None),
@@ -166,19 +169,19 @@ impl Tree {
         }
     }
 
-    /// The forms of those branches, the last one first.
+    /// The forms of the outermost of those branches, the last one first.
     pub(crate) fn into_lifted(self, alloc: Global) -> Result<Vec<Lifted>, AllocError> {
         let mut forms = Vec::new(alloc);
         let mut left = Some(self);
-        for _ in 0..TOP {
+        for _ in 0..LIFT_LIMIT {
             let Some(tree) = left else {
                 break;
             };
-            let (main, lifted) = tree.into_main();
+            let (next, lifted) = tree.into_spine();
             if let Some(lifted) = lifted {
                 forms.push(lifted)?;
             }
-            left = main;
+            left = next;
         }
         forms.reverse();
         Ok(forms)

@@ -21,6 +21,9 @@ const GAP_LIMIT: u128 = 1 << 120;
 /// How often a search lifts forms from the first parts of a choice.
 const MOST_LIFTS: u32 = 4;
 
+/// The lowest level to which forms are lifted, so that levels are left below them.
+const LIFT_LEVEL: u32 = 130;
+
 /// The greatest size of a refutation, over all its leaves: more takes too much memory.
 const MOST: u64 = 500_000;
 
@@ -70,8 +73,8 @@ pub(crate) struct Search<'a> {
     marks: Chains,
     // The values that were tried last.
     model: Model,
-    // The condition's own inequalities, and their numbers by their directions.
-    own: &'a [Atom],
+    // The facts of the condition, and the numbers of its inequalities by their directions.
+    facts: &'a Part,
     directions: Chains,
     // The place of an own fact that closed a part, the last one of several in order.
     near: usize,
@@ -113,7 +116,7 @@ impl<'a> Search<'a> {
             open: Vec::new(alloc),
             marks: Chains::new(alloc, facts.choices.len())?,
             model: Model::new(alloc, variables as usize)?,
-            own: &facts.atoms,
+            facts,
             directions: facts.directions()?,
             near: 0,
             next: None,
@@ -144,7 +147,7 @@ impl<'a> Search<'a> {
             base: &self.base,
             index: &self.index,
             bounds,
-            own: self.own,
+            own: &self.facts.atoms,
             directions: &self.directions,
             near: self.near,
         }
@@ -570,7 +573,7 @@ impl<'a> Search<'a> {
 
     // Whether forms may be lifted from the parts at this level.
     fn may_lift(&self, level: u32) -> bool {
-        self.lifts > 0 && level.saturating_add(1) == self.trunk
+        self.lifts > 0 && level >= LIFT_LEVEL && level.saturating_add(1) == self.trunk
     }
 
     // Goes into the parts of a choice. A refutation that needs no fact of its part stands for all.
@@ -648,8 +651,8 @@ impl<'a> Search<'a> {
     }
 
     /// A refutation of the facts, if the search finds one.
-    pub(crate) fn run(&mut self, facts: &'a Part) -> Result<Proof, Stop> {
+    pub(crate) fn run(&mut self) -> Result<Proof, Stop> {
         let bounds = Bounds::new(self.alloc, self.variables as usize)?;
-        self.at_level(TOP, Entry::Part(facts), &bounds)
+        self.at_level(TOP, Entry::Part(self.facts), &bounds)
     }
 }
