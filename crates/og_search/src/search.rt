@@ -225,6 +225,21 @@ impl<'a> Search<'a> {
         Ok(taken)
     }
 
+    // The choice with the fewest ways, at the values among those that are false of them. Where that
+    // has three or more, one of which no part is alive comes first.
+    fn pick(&mut self, bounds: &Bounds, at_values: bool) -> Result<Option<usize>, Stop> {
+        let model = if at_values { Some(&self.model) } else { None };
+        let Some(best) = self.view(bounds).narrowest(model) else {
+            return Ok(None);
+        };
+        if best.ways < 3 {
+            return Ok(Some(best.choice));
+        }
+        self.spend_looks()?;
+        let dead = self.view(bounds).dead_choice()?;
+        Ok(Some(dead.unwrap_or(best).choice))
+    }
+
     // Takes a step for a level, and one for each 1,000 facts that are looked through there.
     fn spend_level(&mut self) -> Result<(), Stop> {
         let thousands = (weight(&self.open) / 1000) as u64;
@@ -329,8 +344,7 @@ impl<'a> Search<'a> {
                 next: Some(common.choice),
             });
         }
-        self.spend_looks()?;
-        let choice = self.view(bounds).pick(Some(&self.model))?;
+        let choice = self.pick(bounds, true)?;
         Ok(Decision::Split(choice.ok_or(Stop::Stuck)?))
     }
 
@@ -352,8 +366,7 @@ impl<'a> Search<'a> {
 
     // What is done where no values were found.
     fn decide_without(&mut self, gap: Option<Gap>, bounds: &Bounds) -> Result<Decision, Stop> {
-        self.spend_looks()?;
-        match self.view(bounds).pick(None)? {
+        match self.pick(bounds, false)? {
             Some(i) => Ok(Decision::Split(i)),
             None => self.branch_at(gap.ok_or(Stop::Stuck)?),
         }
@@ -475,7 +488,7 @@ impl<'a> Search<'a> {
         reach: Reach,
     ) -> Result<Option<Proof>, Stop> {
         if let Some(clash) = self.facts(bounds).clash(part, reach) {
-            self.rows.spend((part.count as u64).saturating_add(1))?;
+            self.rows.spend((part.count as u64 / 16).saturating_add(1))?;
             return self.close_clash(clash, level, bounds);
         }
         for choice in &part.choices {
