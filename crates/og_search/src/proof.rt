@@ -117,9 +117,11 @@ fn last_large(cases: &[Case]) -> Option<&Tree> {
 
 // The same, and the other cases are let go.
 fn into_last_large(mut cases: Vec<Case>) -> Option<Tree> {
-    while let Some(case) = cases.pop() {
-        if !matches!(case.tree, Tree::Leaf { .. }) {
-            return Some(case.tree);
+    for _ in 0..cases.len() {
+        if let Some(case) = cases.pop() {
+            if !matches!(case.tree, Tree::Leaf { .. }) {
+                return Some(case.tree);
+            }
         }
     }
     None
