@@ -2,14 +2,13 @@
 
 use std::alloc::{AllocError, Global};
 
-// How many chains there are.
-const CHAINS: usize = 1024;
-
 /// Numbers with their keys, in chains by the last bits of these.
 #[derive(Drop)]
 pub struct Chains {
     // The last entry of each chain.
     heads: Vec<Option<usize>>,
+    // The bits of a key that tell its chain.
+    mask: u128,
     entries: Vec<Entry>,
 }
 
@@ -29,9 +28,16 @@ pub struct Walk<'a> {
     next: Option<usize>,
 }
 
-// The chain of a key.
-fn chain_of(key: u128) -> usize {
-    (key & 0x3ff) as usize
+// How many chains there are for so many numbers: a power of two, so that a search among few facts
+// does not begin with a long table.
+fn chains_for(numbers: usize) -> usize {
+    if numbers < 64 {
+        16
+    } else if numbers < 512 {
+        128
+    } else {
+        1024
+    }
 }
 
 impl Walk<'_> {
@@ -49,12 +55,19 @@ impl Walk<'_> {
 }
 
 impl Chains {
-    /// No numbers.
-    pub fn new(alloc: Global) -> Result<Chains, AllocError> {
+    /// No numbers, where so many are expected: there may be more.
+    pub fn new(alloc: Global, expected: usize) -> Result<Chains, AllocError> {
+        let chains = chains_for(expected);
         Ok(Chains {
-            heads: vec![in alloc; None; CHAINS]?,
+            heads: vec![in alloc; None; chains]?,
+            mask: (chains as u128).saturating_sub(1),
             entries: Vec::new(alloc),
         })
+    }
+
+    // The chain of a key.
+    fn chain_of(&self, key: u128) -> usize {
+        usize::try_from(key & self.mask).unwrap_or(0)
     }
 
     /// How many numbers there are.
@@ -67,7 +80,7 @@ impl Chains {
         Walk {
             entries: &self.entries,
             key,
-            next: self.heads.get(chain_of(key)).copied().flatten(),
+            next: self.heads.get(self.chain_of(key)).copied().flatten(),
         }
     }
 
@@ -79,7 +92,7 @@ impl Chains {
 
     /// Puts a number under a key.
     pub fn put(&mut self, key: u128, number: usize) -> Result<(), AllocError> {
-        let chain = chain_of(key);
+        let chain = self.chain_of(key);
         let before = self.heads.get(chain).copied().flatten();
         let last = self.entries.len();
         self.entries.push(Entry {
@@ -95,7 +108,7 @@ impl Chains {
     pub fn forget(&mut self, from: usize) {
         for _ in from..self.entries.len() {
             if let Some(entry) = self.entries.pop() {
-                self.set_head(chain_of(entry.key), entry.before);
+                self.set_head(self.chain_of(entry.key), entry.before);
             }
         }
     }

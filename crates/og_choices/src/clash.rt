@@ -1,5 +1,6 @@
 //! Parts of choices that are at odds with what is known, each by one of its inequalities.
 
+use crate::chains::Chains;
 use crate::index::Index;
 use crate::open::Open;
 use crate::part::{Atom, Part};
@@ -7,6 +8,12 @@ use og_inequalities::{Bounds, Inequality, Rows, TOP};
 
 /// The most parts of a choice that are held against each row.
 const PAIRS_LIMIT: usize = 8;
+
+/// The most facts of one direction that are held against an inequality.
+const LOOK_LIMIT: usize = 64;
+
+/// How many facts there may be between those that are at odds with one part and the next.
+const STRIDE: usize = 8;
 
 impl Reach {
     /// How far a look goes at the parts of a choice, where it costs less than what it saves: above
@@ -23,6 +30,8 @@ impl Reach {
 /// What an inequality is at odds with.
 #[derive(Clone, Copy)]
 pub enum Against {
+    /// The condition's own fact at this place, with the same terms and the other sign.
+    Fact(usize),
     /// The bounds of its variables.
     Bounds,
     /// This row, and the bounds of the variables that do not cancel out.
@@ -52,9 +61,48 @@ pub struct Facts<'v> {
     pub base: &'v [usize],
     pub index: &'v Index,
     pub bounds: &'v Bounds,
+    /// The condition's own inequalities.
+    pub own: &'v [Atom],
+    /// Their numbers by their directions.
+    pub directions: &'v Chains,
+    /// A place among them: of several that an inequality is at odds with, one of the next is taken.
+    pub near: usize,
 }
 
 impl Facts<'_> {
+    // The place of the own fact with the opposite terms with which the inequality is at odds: the
+    // first one that stands near, else the first.
+    fn own_opposite(self, atom: &Atom) -> Option<usize> {
+        let mut walk = self.directions.walk(atom.direction?);
+        let mut best: Option<usize> = None;
+        for _ in 0..LOOK_LIMIT {
+            let Some(number) = walk.step() else {
+                break;
+            };
+            if let Some(fact) = self.own.get(number) {
+                if fact.is_at_odds(atom) {
+                    best = Some(self.better(best, fact.index));
+                }
+            }
+        }
+        best
+    }
+
+    // That place of the two that stands near, the first one where both do or neither.
+    fn better(self, first: Option<usize>, second: usize) -> usize {
+        match first {
+            Some(first) if self.is_near(first) == self.is_near(second) => first.min(second),
+            Some(first) if self.is_near(first) => first,
+            _ => second,
+        }
+    }
+
+    /// Whether a place is among the next ones.
+    pub fn is_near(self, index: usize) -> bool {
+        let from = self.near.saturating_sub(1);
+        index >= from && index <= self.near.saturating_add(STRIDE)
+    }
+
     // The row with the opposite terms, if the two are at odds.
     fn opposite(self, atom: &Atom) -> Option<usize> {
         let form = &atom.form;
@@ -68,6 +116,9 @@ impl Facts<'_> {
 
     // What the inequality is at odds with, by a look at its own terms.
     fn against(self, atom: &Atom) -> Option<Against> {
+        if let Some(index) = self.own_opposite(atom) {
+            return Some(Against::Fact(index));
+        }
         if let Some(row) = self.opposite(atom) {
             return Some(Against::Row(row));
         }

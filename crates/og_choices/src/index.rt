@@ -11,10 +11,10 @@ pub struct Index {
 }
 
 impl Index {
-    /// No rows.
-    pub fn new(alloc: Global) -> Result<Index, AllocError> {
+    /// No rows, where so many are expected.
+    pub fn new(alloc: Global, expected: usize) -> Result<Index, AllocError> {
         Ok(Index {
-            chains: Chains::new(alloc)?,
+            chains: Chains::new(alloc, expected)?,
         })
     }
 

@@ -13,5 +13,5 @@ mod part;
 pub use chains::Chains;
 pub use clash::{Against, Clash, Facts, Reach};
 pub use index::Index;
-pub use open::{Common, Open, View, all_hold, common_to_choice, forced, weight};
+pub use open::{Candidate, Common, Open, View, all_hold, common_to_choice, forced, weight};
 pub use part::{Atom, Choice, Part};

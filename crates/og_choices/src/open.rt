@@ -23,11 +23,11 @@ pub struct Common {
     pub form: Inequality,
 }
 
-// The number of a choice, and how many ways it has.
+/// The number of a choice, and how many ways it has.
 #[derive(Clone, Copy)]
-struct Candidate {
-    choice: usize,
-    ways: usize,
+pub struct Candidate {
+    pub choice: usize,
+    pub ways: usize,
 }
 
 impl Open<'_> {
@@ -41,11 +41,13 @@ impl Open<'_> {
     }
 }
 
-/// How many facts there are in the parts of these choices.
+/// How many facts there are in the parts of those of these choices that are not taken.
 pub fn weight(open: &[Open]) -> usize {
     let mut weight = 0usize;
     for one in open {
-        weight = weight.saturating_add(one.size);
+        if !one.is_taken {
+            weight = weight.saturating_add(one.size);
+        }
     }
     weight
 }
@@ -168,8 +170,15 @@ impl View<'_, '_> {
         Ok(true)
     }
 
-    // The first choice with the fewest ways among those of which no part is alive.
-    fn dead_choice(self) -> Result<Option<Candidate>, AllocError> {
+    /// The first choice with the fewest ways among those that are false of the values, or among all
+    /// where there are no values.
+    pub fn narrowest(self, model: Option<&Model>) -> Option<Candidate> {
+        narrowest(self.open, self.bounds, model)
+    }
+
+    /// The first choice with the fewest ways among those of which no part is alive. This looks into
+    /// all choices for each part of a choice.
+    pub fn dead_choice(self) -> Result<Option<Candidate>, AllocError> {
         let mut best = None;
         for (choice, one) in self.open.iter().enumerate() {
             if !one.is_taken && one.parts.len() <= LOOK_LIMIT && self.is_dead(one.parts, choice)? {
@@ -178,18 +187,6 @@ impl View<'_, '_> {
             }
         }
         Ok(best)
-    }
-
-    /// The choice with the fewest ways among those that are false of the values. Where that has
-    /// three or more, one of which no part is alive comes first.
-    pub fn pick(self, model: Option<&Model>) -> Result<Option<usize>, AllocError> {
-        let Some(best) = narrowest(self.open, self.bounds, model) else {
-            return Ok(None);
-        };
-        if best.ways < 3 {
-            return Ok(Some(best.choice));
-        }
-        Ok(Some(self.dead_choice()?.unwrap_or(best).choice))
     }
 }
 

@@ -1,5 +1,6 @@
 //! The facts of a condition in the form in which they are searched.
 
+use crate::chains::Chains;
 use crate::likeness::mark_parts;
 use og_inequalities::{Bounds, Inequality, Model};
 use og_linear::Form;
@@ -62,7 +63,27 @@ fn direction_of_row(form: &Inequality) -> Option<u128> {
     Some(form.direction())
 }
 
+impl Atom {
+    /// Whether the terms of the two are opposite, and their sum is above 0.
+    pub(crate) fn is_at_odds(&self, other: &Atom) -> bool {
+        let sum = self.form.constant.checked_add(other.form.constant);
+        matches!(sum, Some(sum) if sum > 0) && self.form.is_opposite(&other.form)
+    }
+}
+
 impl Part {
+    /// The numbers of the inequalities by the directions of their terms, where they have one.
+    /// `AllocError` where an allocation was refused.
+    pub fn directions(&self) -> Result<Chains, AllocError> {
+        let mut directions = Chains::new(self.alloc, self.atoms.len())?;
+        for (number, atom) in self.atoms.iter().enumerate() {
+            if let Some(direction) = atom.direction {
+                directions.put(direction, number)?;
+            }
+        }
+        Ok(directions)
+    }
+
     /// No facts.
     pub fn new(alloc: Global) -> Part {
         Part {
@@ -116,8 +137,8 @@ impl Part {
         self.next_place();
     }
 
-    // How many facts there are, with those in the parts of choices.
-    fn size(&self) -> usize {
+    /// How many facts there are, with those in the parts of choices.
+    pub fn size(&self) -> usize {
         let mut size = self.count;
         for choice in &self.choices {
             size = size.saturating_add(choice.size);

@@ -33,8 +33,8 @@ pub fn search_among(
     variables: u32,
     budget: u64,
 ) -> Result<Claim, AllocError> {
-    let mut search = Search::new(alloc, variables, budget)?;
-    let found = match search.run(part) {
+    let mut search = Search::new(alloc, part, variables, budget)?;
+    let found = match search.run() {
         Ok(proof) => certificate(alloc, &proof.tree, part.count),
         Err(stop) => Err(stop),
     };

@@ -2,7 +2,7 @@
 
 use crate::proof::{Multiple, Name, Proof, Tree};
 use og_choices::{Against, Clash};
-use og_inequalities::{Bounds, Inequality, Levels, Origin, Place, Rows, Side, Term};
+use og_inequalities::{Bounds, Inequality, Levels, Origin, Place, Rows, Side, TOP, Term};
 use std::alloc::AllocError;
 
 // What the rows of a sum are taken from.
@@ -24,6 +24,13 @@ impl Ending {
     fn add(&mut self, name: Name, times: u64) -> Result<bool, AllocError> {
         self.end.push(Multiple { times, name })?;
         Ok(true)
+    }
+
+    // Adds the condition's own fact at the place.
+    fn add_own(&mut self, index: usize) -> Result<bool, AllocError> {
+        let level = TOP;
+        self.used = self.used.union(Levels::one(level));
+        self.add(Name::Given(Place { level, index }), 1)
     }
 
     // Adds so many times a row, if that is a fact. Tells whether it was added.
@@ -87,6 +94,7 @@ impl Ending {
             return Ok(false);
         }
         match clash.against {
+            Against::Fact(index) => self.add_own(index),
             Against::Bounds => self.add_bounds(known, &form.terms),
             Against::Row(row) => self.add_pair(known, row, form),
         }

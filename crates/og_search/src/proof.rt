@@ -1,6 +1,10 @@
 //! What a search found, before the facts have their numbers.
 
 use og_inequalities::{Inequality, Levels, Place, Side};
+use std::alloc::{AllocError, Global};
+
+/// How far a refutation is followed for forms to be lifted.
+const LIFT_LIMIT: u32 = 70;
 
 /// A fact, an end of the range of `i64`, or a line of the same leaf.
 #[derive(Clone, Copy)]
@@ -61,7 +65,9 @@ pub(crate) struct Case {
     pub(crate) tree: Tree,
 }
 
-/// A form that is at most 0, or at least 1, at this level, and what refutes either.
+/// A form that is at most 0, or at least 1, at this level, and what refutes either; whether the
+/// second needs the condition's own facts alone, and the choice that it goes into first, if it was
+/// told one.
 #[cycle(proof)]
 #[derive(Drop)]
 pub(crate) struct Sides {
@@ -69,6 +75,16 @@ pub(crate) struct Sides {
     pub(crate) form: Inequality,
     pub(crate) first: Tree,
     pub(crate) second: Tree,
+    pub(crate) is_general: bool,
+    pub(crate) next: Option<usize>,
+}
+
+/// A form that is at most 0 by the condition's own facts, and the choice that shows it, if one was
+/// told.
+#[derive(Drop)]
+pub(crate) struct Lifted {
+    pub(crate) form: Inequality,
+    pub(crate) next: Option<usize>,
 }
 
 impl Line {
@@ -89,7 +105,90 @@ fn size_of_lines(lines: &[Line]) -> u64 {
     size
 }
 
+// The tree of the last case that is no leaf.
+fn last_large(cases: &[Case]) -> Option<&Tree> {
+    for case in cases.iter().rev() {
+        if !matches!(case.tree, Tree::Leaf { .. }) {
+            return Some(&case.tree);
+        }
+    }
+    None
+}
+
+// The same, and the other cases are let go.
+fn into_last_large(mut cases: Vec<Case>) -> Option<Tree> {
+    for _ in 0..cases.len() {
+        if let Some(case) = cases.pop() {
+            if !matches!(case.tree, Tree::Leaf { .. }) {
+                return Some(case.tree);
+            }
+        }
+    }
+    None
+}
+
 impl Tree {
+    // The tree in which it goes on: the last case that is no leaf, or the first side of a branch.
+    fn spine(&self) -> Option<&Tree> {
+        match self {
+            Tree::Leaf { .. } => None,
+            Tree::Split { cases, .. } => last_large(cases),
+            Tree::Branch(sides) => Some(&sides.first),
+        }
+    }
+
+    /// Whether the tree, or one in which it goes on, is a branch whose second side needs the
+    /// condition's own facts alone.
+    pub(crate) fn is_lifting(&self) -> bool {
+        let mut tree = self;
+        for _ in 0..LIFT_LIMIT {
+            if matches!(tree, Tree::Branch(sides) if sides.is_general) {
+                return true;
+            }
+            match tree.spine() {
+                Some(next) => tree = next,
+                None => break,
+            }
+        }
+        false
+    }
+
+    // The same tree, and the form of the branch round it, if that is such a branch.
+    fn into_spine(self) -> (Option<Tree>, Option<Lifted>) {
+        match self {
+            Tree::Leaf { .. } => (None, None),
+            Tree::Split { cases, .. } => (into_last_large(cases), None),
+            Tree::Branch(sides) => {
+                let sides = Box::into_inner(sides);
+                let (form, next) = (sides.form, sides.next);
+                let lifted = if sides.is_general {
+                    Some(Lifted { form, next })
+                } else {
+                    None
+                };
+                (Some(sides.first), lifted)
+            }
+        }
+    }
+
+    /// The forms of the outermost of those branches, the last one first.
+    pub(crate) fn into_lifted(self, alloc: Global) -> Result<Vec<Lifted>, AllocError> {
+        let mut forms = Vec::new(alloc);
+        let mut left = Some(self);
+        for _ in 0..LIFT_LIMIT {
+            let Some(tree) = left else {
+                break;
+            };
+            let (next, lifted) = tree.into_spine();
+            if let Some(lifted) = lifted {
+                forms.push(lifted)?;
+            }
+            left = next;
+        }
+        forms.reverse();
+        Ok(forms)
+    }
+
     /// The size of a leaf: its lines and multiples, and four for itself; 0 for other trees.
     pub(crate) fn size(&self) -> u64 {
         match self {

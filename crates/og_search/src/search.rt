@@ -2,7 +2,7 @@
 
 use crate::closing::closing;
 use crate::leaf::leaf;
-use crate::proof::{Case, Proof, Sides, Tree};
+use crate::proof::{Case, Lifted, Proof, Sides, Tree};
 use crate::stop::{Halt, Stop};
 use og_choices::{
     Against, Atom, Chains, Choice, Clash, Facts, Index, Open, Part, Reach, View, all_hold,
@@ -17,6 +17,12 @@ const EAGER_LEVEL: u32 = 50;
 
 /// The greatest number, in magnitude, at which a variable's values are divided.
 const GAP_LIMIT: u128 = 1 << 120;
+
+/// How often a search lifts forms from the first parts of a choice.
+const MOST_LIFTS: u32 = 4;
+
+/// The lowest level to which forms are lifted, so that levels are left below them.
+const LIFT_LEVEL: u32 = 130;
 
 /// The greatest size of a refutation, over all its leaves: more takes too much memory.
 const MOST: u64 = 500_000;
@@ -42,6 +48,15 @@ enum Decision {
     },
 }
 
+// What comes of going into the parts of a choice.
+#[derive(Drop)]
+enum Parts {
+    // All are refuted.
+    Refuted(Proof),
+    // Forms were met, one at least, that are at most 0 whatever the part.
+    Lifted(Vec<Lifted>),
+}
+
 /// A search among the facts of a condition.
 #[derive(Drop)]
 pub(crate) struct Search<'a> {
@@ -58,15 +73,37 @@ pub(crate) struct Search<'a> {
     marks: Chains,
     // The values that were tried last.
     model: Model,
+    // The facts of the condition, and the numbers of its inequalities by their directions.
+    facts: &'a Part,
+    directions: Chains,
+    // The place of an own fact that closed a part, the last one of several in order.
+    near: usize,
     // The choice to be taken next, whatever the values.
     next: Option<usize>,
+    // The forms to be branched on next, the last one first, before any choice.
+    lifted: Vec<Lifted>,
+    // The lowest level above which there are first sides of branches alone, and how often forms may
+    // still be lifted to it.
+    trunk: u32,
+    lifts: u32,
     // How much larger the leaves may grow, those that were dropped again included.
     room: u64,
+}
+
+// Whether these are the levels of the condition's own facts alone.
+fn rests_on_own_facts(used: Levels) -> bool {
+    for level in 0..TOP {
+        if used.has(level) {
+            return false;
+        }
+    }
+    true
 }
 
 impl<'a> Search<'a> {
     pub(crate) fn new(
         alloc: Global,
+        facts: &'a Part,
         variables: u32,
         budget: u64,
     ) -> Result<Search<'a>, AllocError> {
@@ -75,11 +112,17 @@ impl<'a> Search<'a> {
             variables,
             rows: Rows::new(alloc, budget),
             base: Vec::new(alloc),
-            index: Index::new(alloc)?,
+            index: Index::new(alloc, facts.size())?,
             open: Vec::new(alloc),
-            marks: Chains::new(alloc)?,
+            marks: Chains::new(alloc, facts.choices.len())?,
             model: Model::new(alloc, variables as usize)?,
+            facts,
+            directions: facts.directions()?,
+            near: 0,
             next: None,
+            lifted: Vec::new(alloc),
+            trunk: TOP,
+            lifts: MOST_LIFTS,
             room: MOST,
         })
     }
@@ -104,6 +147,9 @@ impl<'a> Search<'a> {
             base: &self.base,
             index: &self.index,
             bounds,
+            own: &self.facts.atoms,
+            directions: &self.directions,
+            near: self.near,
         }
     }
 
@@ -177,6 +223,21 @@ impl<'a> Search<'a> {
             }
         }
         Ok(taken)
+    }
+
+    // The choice with the fewest ways, at the values among those that are false of them. Where that
+    // has three or more, one of which no part is alive comes first.
+    fn pick(&mut self, bounds: &Bounds, at_values: bool) -> Result<Option<usize>, Stop> {
+        let model = if at_values { Some(&self.model) } else { None };
+        let Some(best) = self.view(bounds).narrowest(model) else {
+            return Ok(None);
+        };
+        if best.ways < 3 {
+            return Ok(Some(best.choice));
+        }
+        self.spend_looks()?;
+        let dead = self.view(bounds).dead_choice()?;
+        Ok(Some(dead.unwrap_or(best).choice))
     }
 
     // Takes a step for a level, and one for each 1,000 facts that are looked through there.
@@ -283,8 +344,7 @@ impl<'a> Search<'a> {
                 next: Some(common.choice),
             });
         }
-        self.spend_looks()?;
-        let choice = self.view(bounds).pick(Some(&self.model))?;
+        let choice = self.pick(bounds, true)?;
         Ok(Decision::Split(choice.ok_or(Stop::Stuck)?))
     }
 
@@ -306,8 +366,7 @@ impl<'a> Search<'a> {
 
     // What is done where no values were found.
     fn decide_without(&mut self, gap: Option<Gap>, bounds: &Bounds) -> Result<Decision, Stop> {
-        self.spend_looks()?;
-        match self.view(bounds).pick(None)? {
+        match self.pick(bounds, false)? {
             Some(i) => Ok(Decision::Split(i)),
             None => self.branch_at(gap.ok_or(Stop::Stuck)?),
         }
@@ -317,6 +376,9 @@ impl<'a> Search<'a> {
     fn go_on(&mut self, level: u32, bounds: &Bounds) -> Result<Decision, Halt> {
         if let Some(i) = self.next.take() {
             return Ok(Decision::Split(i));
+        }
+        if let Some(Lifted { form, next }) = self.lifted.pop() {
+            return Ok(Decision::Branch { form, next });
         }
         let reach = Reach::of_level(level);
         if let Some(i) = self.refuted(bounds, reach) {
@@ -360,6 +422,7 @@ impl<'a> Search<'a> {
         match halt {
             Halt::Contradiction(row) => {
                 self.next = None;
+                self.lifted.truncate(0);
                 self.close(row)
             }
             Halt::Stop(stop) => Err(stop),
@@ -373,11 +436,21 @@ impl<'a> Search<'a> {
         let added = self.rows.add_fact(form, Place { level, index })?;
         if let Added::Row(row) = added {
             match clash.against {
-                Against::Bounds => self.rows.add_with_bounds(row, None, bounds)?,
+                Against::Fact(_) | Against::Bounds => {
+                    self.rows.add_with_bounds(row, None, bounds)?
+                }
                 Against::Row(other) => self.rows.add_pair(other, row, bounds)?,
             };
         }
         Ok(())
+    }
+
+    // Notes the place of an own fact that closes a part, if it is among the next ones: so parts that
+    // stand in the order of an assertion are closed by the facts of that one assertion.
+    fn go_near(&mut self, index: usize, bounds: &Bounds) {
+        if self.facts(bounds).is_near(index) {
+            self.near = self.near.max(index);
+        }
     }
 
     // The leaf of a part with a clash, if its sum is a contradiction.
@@ -390,6 +463,9 @@ impl<'a> Search<'a> {
         let index = clash.atom.index;
         if let Some(proof) = closing(&self.rows, bounds, clash, Place { level, index })? {
             self.rows.spend(1)?;
+            if let Against::Fact(index) = clash.against {
+                self.go_near(index, bounds);
+            }
             return Ok(Some(self.keep(proof)?));
         }
         let mark = self.rows.len();
@@ -412,7 +488,7 @@ impl<'a> Search<'a> {
         reach: Reach,
     ) -> Result<Option<Proof>, Stop> {
         if let Some(clash) = self.facts(bounds).clash(part, reach) {
-            self.rows.spend((part.count as u64).saturating_add(1))?;
+            self.rows.spend((part.count as u64 / 16).saturating_add(1))?;
             return self.close_clash(clash, level, bounds);
         }
         for choice in &part.choices {
@@ -489,22 +565,47 @@ impl<'a> Search<'a> {
         };
         let below = level.checked_sub(1).ok_or(Stop::Stuck)?;
         match decision {
-            Decision::Split(i) => self.split(below, i, &own),
+            Decision::Split(i) => self.split_at(below, i, &own),
             Decision::Branch { form, next } => self.branch(below, form, next, &own),
         }
     }
 
+    // Goes into the parts of a choice, or first into the sides of the forms that were met there.
+    #[cycle(search)]
+    fn split_at(&mut self, below: u32, i: usize, bounds: &Bounds) -> Result<Proof, Stop> {
+        match self.split(below, i, bounds)? {
+            Parts::Refuted(proof) => Ok(proof),
+            Parts::Lifted(forms) => {
+                self.lifted = forms;
+                self.lifts = self.lifts.saturating_sub(1);
+                let Lifted { form, next } = self.lifted.pop().ok_or(Stop::Stuck)?;
+                self.branch(below, form, next, bounds)
+            }
+        }
+    }
+
+    // Whether forms may be lifted from the parts at this level.
+    fn may_lift(&self, level: u32) -> bool {
+        self.lifts > 0 && level >= LIFT_LEVEL && level.saturating_add(1) == self.trunk
+    }
+
     // Goes into the parts of a choice. A refutation that needs no fact of its part stands for all.
     #[cycle(search)]
-    fn split(&mut self, below: u32, i: usize, bounds: &Bounds) -> Result<Proof, Stop> {
+    fn split(&mut self, below: u32, i: usize, bounds: &Bounds) -> Result<Parts, Stop> {
         let choice = self.set_taken(i, true).ok_or(Stop::Stuck)?;
         let mut used = Levels::one(choice.place.level);
         let mut cases = Vec::with_capacity(self.alloc, choice.parts.len())?;
+        self.near = 0;
         for part in choice.parts {
             let proof = self.refute_part(part, below, bounds)?;
             if !proof.used.has(below) {
                 self.set_taken(i, false);
-                return Ok(proof);
+                return Ok(Parts::Refuted(proof));
+            }
+            let is_early = cases.len() < choice.parts.len() / 2;
+            if is_early && self.may_lift(below) && proof.tree.is_lifting() {
+                self.set_taken(i, false);
+                return Ok(Parts::Lifted(proof.tree.into_lifted(self.alloc)?));
             }
             used = used.union(proof.used.without(below));
             cases.push(Case {
@@ -514,13 +615,13 @@ impl<'a> Search<'a> {
             })?;
         }
         self.set_taken(i, false);
-        Ok(Proof {
+        Ok(Parts::Refuted(Proof {
             used,
             tree: Tree::Split {
                 choice: choice.place,
                 cases,
             },
-        })
+        }))
     }
 
     // Goes into both sides of a form.
@@ -533,7 +634,12 @@ impl<'a> Search<'a> {
         bounds: &Bounds,
     ) -> Result<Proof, Stop> {
         let other = form.otherwise(self.alloc)?.ok_or(Stop::Stuck)?;
+        let trunk = self.trunk;
+        if self.may_lift(below) {
+            self.trunk = below;
+        }
         let first = self.at_level(below, Entry::Side(form.copy()?), bounds)?;
+        self.trunk = trunk;
         if !first.used.has(below) {
             return Ok(first);
         }
@@ -547,7 +653,9 @@ impl<'a> Search<'a> {
             level: below,
             form,
             first: first.tree,
+            is_general: rests_on_own_facts(second.used.without(below)),
             second: second.tree,
+            next,
         };
         Ok(Proof {
             used,
@@ -556,8 +664,8 @@ impl<'a> Search<'a> {
     }
 
     /// A refutation of the facts, if the search finds one.
-    pub(crate) fn run(&mut self, facts: &'a Part) -> Result<Proof, Stop> {
+    pub(crate) fn run(&mut self) -> Result<Proof, Stop> {
         let bounds = Bounds::new(self.alloc, self.variables as usize)?;
-        self.at_level(TOP, Entry::Part(facts), &bounds)
+        self.at_level(TOP, Entry::Part(self.facts), &bounds)
     }
 }
