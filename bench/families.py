@@ -7,8 +7,8 @@ usage: bench/families.py PROGRAM [--z3 Z3] [--folder FOLDER] [--most SECONDS] [-
 Runs `PROGRAM find` by one worker on outlines of rising sizes, one family after the
 other, made in FOLDER (a temporary one by default), and prints a table: the conditions, how many have
 a certificate, processor seconds and the most memory of `find`, the bytes of its certificates in
-version 2 for each condition, and the processor seconds of z3 (by default the one on the path) on the same facts,
-with how many times as long that is. A family ends after `find` or z3 took longer than SECONDS (60 by
+version 2 for each condition, those of `check`, and the processor seconds of z3 (by default the one on the path)
+on the same facts, with how many times as long that is as either. A family ends after `find` or z3 took longer than SECONDS (60 by
 default). The second form prints one outline. PROGRAM is crates/og/out/og after `rt run` in
 crates/og.
 """
@@ -22,7 +22,36 @@ import tempfile
 
 from bench import write
 from find import headers, text_for_z3
-from prove import fork_and_join, lock
+
+
+def lock(processes):
+    """Each process takes a lock, works inside, and gives it back; an auxiliary says who is inside."""
+    flags = ["in%d" % k for k in range(processes)]
+    total = " + ".join(flags)
+    lines = ["var lock; aux %s;" % ", ".join("%s = 0" % f for f in flags), "{lock = 0}", "cobegin"]
+    shared = "lock = %s and lock <= 1 and %s" % (total, " and ".join("%s >= 0" % f for f in flags))
+    for own in flags:
+        out, inside = "{%s = 0 and %s}" % (own, shared), "{%s = 1 and %s}" % (own, shared)
+        if own != flags[0]:
+            lines.append("//")
+        lines += [out, "await lock = 0 then begin lock := 1; %s := 1 end" % own,
+                  inside, "skip", inside, "await true then begin lock := 0; %s := 0 end" % own, out]
+    return "\n".join(lines + ["coend", "{lock = 0}", ""])
+
+
+def fork_and_join(children):
+    """A parent waits until all children have added 1; auxiliaries tell which of them have."""
+    added, done = ["a%d" % k for k in range(children)], ["d%d" % k for k in range(children)]
+    pairs = list(zip(added, done))
+    known = "x = %s and %s" % (" + ".join(added), " and ".join("0 <= %s and %s <= 1 and %s = %s" % (a, a, d, a) for a, d in pairs))
+    lines = ["var x, %s; aux %s;" % (", ".join(done), ", ".join("%s = 0" % a for a in added)),
+             "{x = 0 and %s}" % " and ".join("%s = 0" % d for d in done), "cobegin", "{%s}" % known,
+             "await %s = %d then skip" % (" + ".join(done), children),
+             "{x = %d and %s}" % (children, " and ".join("%s = 1 and %s = 1" % pair for pair in pairs))]
+    for a, d in pairs:
+        lines += ["//", "{%s and %s = 0}" % (known, a), "await true then begin x := x + 1; %s := 1; %s := 1 end" % (a, d),
+                  "{%s and %s = 1}" % (known, a)]
+    return "\n".join(lines + ["coend", "{x = %d}" % children, ""])
 
 
 def joined(facts):
@@ -148,13 +177,16 @@ def measure(program, z3, folder, name, path):
     listing = run([program, "conditions", path])[2]
     count = listing.count("cond ")
     ours, room, found = run([program, "find", path, "--workers", "1"])
-    short = run([program, "migrate", write(folder, "made.cert", found)])[2]
+    certs = write(folder, "made.cert", found)
+    short = run([program, "migrate", certs])[2]
+    checking = run([program, "check", path, certs])[0]
     row = [name, str(count), str(headers(found)), "%.2f s" % ours, "%.0f MB" % room,
-           "%.0f" % (len(short) / count)]
+           "%.0f" % (len(short) / count), "%.2f s" % checking]
     theirs = 0.0
     if z3:
         theirs, _, answers = run([z3, write(folder, "asked.smt2", text_for_z3(listing))])
-        row += [str(answers.split().count("unsat")), "%.2f s" % theirs, "%.0f" % (theirs / max(ours, 0.001))]
+        row += [str(answers.split().count("unsat")), "%.2f s" % theirs,
+                "%.0f" % (theirs / max(ours, 0.001)), "%.0f" % (theirs / max(checking, 0.001))]
     print("| %s |" % " | ".join(row), flush=True)
     return max(ours, theirs)
 
@@ -171,8 +203,8 @@ def main():
     parser.add_argument("--only", choices=list(FAMILIES))
     given = parser.parse_args()
     program = os.path.abspath(given.program)
-    print("| Outline | Conditions | Found | `og find` | Most memory | Bytes a condition | z3: unsat | z3 | Times |")
-    print("|-|-|-|-|-|-|-|-|-|")
+    print("| Outline | Conditions | Found | `og find` | Most memory | Bytes a condition | `og check` | z3: unsat | z3 | Times `find` | Times `check` |")
+    print("|-|-|-|-|-|-|-|-|-|-|-|")
     with tempfile.TemporaryDirectory() as room:
         folder = given.folder or room
         for family, (make, sizes) in FAMILIES.items():

@@ -5,8 +5,8 @@ usage: bench/prove.py PROGRAM [--rounds N] [--folder FOLDER]
 
 Runs PROGRAM on outlines of examples/ and on outlines that it makes in FOLDER (a temporary one by
 default), in rounds: in each round every way of an outline once, one after the other. Prints two
-tables of medians over the rounds: `prove` held against `find` and then `check`, by one worker; and
-`find` and `prove` by four workers held against one. Stops where the ways of an outline print
+tables of medians over the rounds: `prove` held against `find` and then `check`, by one worker; and,
+of large outlines, `find` and `prove` by four workers held against one. Stops where the ways of an outline print
 different certificates or reports. PROGRAM is crates/og/out/og after `rt run` in crates/og.
 """
 
@@ -19,37 +19,8 @@ import tempfile
 import time
 
 from bench import outline, write
+from families import FAMILIES
 from find import semaphore
-
-
-def lock(processes):
-    """Each process takes a lock, works inside, and gives it back; an auxiliary says who is inside."""
-    flags = ["in%d" % k for k in range(processes)]
-    total = " + ".join(flags)
-    lines = ["var lock; aux %s;" % ", ".join("%s = 0" % f for f in flags), "{lock = 0}", "cobegin"]
-    shared = "lock = %s and lock <= 1 and %s" % (total, " and ".join("%s >= 0" % f for f in flags))
-    for own in flags:
-        out, inside = "{%s = 0 and %s}" % (own, shared), "{%s = 1 and %s}" % (own, shared)
-        if own != flags[0]:
-            lines.append("//")
-        lines += [out, "await lock = 0 then begin lock := 1; %s := 1 end" % own,
-                  inside, "skip", inside, "await true then begin lock := 0; %s := 0 end" % own, out]
-    return "\n".join(lines + ["coend", "{lock = 0}", ""])
-
-
-def fork_and_join(children):
-    """A parent waits until all children have added 1; auxiliaries tell which of them have."""
-    added, done = ["a%d" % k for k in range(children)], ["d%d" % k for k in range(children)]
-    pairs = list(zip(added, done))
-    known = "x = %s and %s" % (" + ".join(added), " and ".join("0 <= %s and %s <= 1 and %s = %s" % (a, a, d, a) for a, d in pairs))
-    lines = ["var x, %s; aux %s;" % (", ".join(done), ", ".join("%s = 0" % a for a in added)),
-             "{x = 0 and %s}" % " and ".join("%s = 0" % d for d in done), "cobegin", "{%s}" % known,
-             "await %s = %d then skip" % (" + ".join(done), children),
-             "{x = %d and %s}" % (children, " and ".join("%s = 1 and %s = 1" % pair for pair in pairs))]
-    for a, d in pairs:
-        lines += ["//", "{%s and %s = 0}" % (known, a), "await true then begin x := x + 1; %s := 1; %s := 1 end" % (a, d),
-                  "{%s and %s = 1}" % (known, a)]
-    return "\n".join(lines + ["coend", "{x = %d}" % children, ""])
 
 
 def timed(words, stdin=None):
@@ -90,6 +61,10 @@ def by_workers(program, command, path, rounds):
     return [statistics.median(seconds[it]) for it in ("1", "4")]
 
 
+# The large outlines that several workers search, by their families.
+LARGE = (("fork and join", 48), ("lock", 64), ("counter", 64), ("barrier", 64), ("readers and writers", 24))
+
+
 def main():
     parser = argparse.ArgumentParser()
     parser.add_argument("program")
@@ -100,9 +75,9 @@ def main():
     with tempfile.TemporaryDirectory() as room:
         folder = given.folder or room
         paths = [(name, os.path.join(examples, name)) for name in ("counter.og", "semaphore.og", "wrong.og")]
-        made = [("8 processes of 40 statements", outline(8, 40)), ("lock, 16 processes", lock(16)),
-                ("semaphore, 12 processes", semaphore(12, 3)), ("lock, 32 processes", lock(32)),
-                ("semaphore, 20 processes", semaphore(20, 3)), ("fork and join, 24 children", fork_and_join(24))]
+        made = [("8 processes of 40 statements", outline(8, 40)), ("semaphore, 12 processes", semaphore(12, 3)),
+                ("semaphore, 20 processes", semaphore(20, 3))]
+        made += [("%s, %d" % it, FAMILIES[it[0]][0](it[1])) for it in (("lock", 16), ("lock", 32), ("fork and join", 24))]
         for number, (name, text) in enumerate(made):
             paths.append((name, write(folder, "made%d.og" % number, text)))
         print("| Outline | `find` and `check` | `prove` | Ratio |\n|-|-|-|-|")
@@ -110,7 +85,9 @@ def main():
             apart, together = by_one_worker(given.program, folder, path, given.rounds)
             print("| %s | %.3f s | %.3f s | %.2f |" % (name, apart, together, together / apart), flush=True)
         print("\n| Outline | Command | One worker | Four | Times as fast |\n|-|-|-|-|-|")
-        for name, path in paths[-3:]:
+        for family, size in LARGE:
+            name = "%s, %d" % (family, size)
+            path = write(folder, "large.og", FAMILIES[family][0](size))
             for command in ("find", "prove"):
                 one, four = by_workers(given.program, command, path, given.rounds)
                 print("| %s | `%s` | %.3f s | %.3f s | %.2f |" % (name, command, one, four, one / four), flush=True)

@@ -44,19 +44,6 @@ fn part_of_condition(alloc: Global, condition: &Condition) -> Result<Option<Part
     }
 }
 
-/// A mark of the condition's facts: the same for equal facts, and for others only by a chance of a
-/// hash. None where it has no facts, since they are too many or too large.
-///
-/// # Errors
-///
-/// `AllocError` where an allocation was refused.
-pub fn mark(alloc: Global, condition: &Condition) -> Result<Option<u128>, AllocError> {
-    match part_of_condition(alloc, condition)? {
-        Some(part) => Ok(Some(part.mark())),
-        None => Ok(None),
-    }
-}
-
 /// Whether the conditions have equal facts.
 ///
 /// # Errors

@@ -1,6 +1,6 @@
 //! Whether the verdicts of searches hold for all conditions of their groups.
 
-ghost use Rattle.std.specs.Prelude.{◌<◌, length, map, IfOk, IsTrue};
+ghost use Rattle.std.specs.Prelude.{◌≡◌, ◌<◌, Some, length, map, slice_get, IfOk, IsTrue};
 ghost use Rattle.og_cond.specs.Seen.{seen};
 ghost use Rattle.og_find.specs.Found.{IsVerdict};
 ghost use Rattle.og_finder.specs.Findings.{IsServed};
@@ -10,13 +10,15 @@ use og_draws::Numbered;
 use og_find::{Verdict, examine, has_equal_facts, is_verdict};
 use std::alloc::{AllocError, Global};
 
-/// Each condition is held against the verdict at its place, and searched where that is not shown to
-/// be true of it.
+/// Each condition is held against the verdict at its place, if that was not done before, and searched
+/// where that is not shown to be true of it.
 #[derive(Clone, Copy)]
 pub(crate) struct Checking<'a, 'c> {
     pub(crate) conditions: &'a [Condition<'c>],
     pub(crate) places: &'a [usize],
     pub(crate) firsts: &'a [usize],
+    // For each condition the place of a verdict that was seen to be true of it, if one was.
+    pub(crate) known: &'a [Option<usize>],
     pub(crate) verdicts: &'a [Verdict],
     pub(crate) budget: u64,
 }
@@ -38,24 +40,34 @@ fn is_shared(
 }
 
 impl<'a, 'c> Checking<'a, 'c> {
-    // Whether the verdict at the condition's place is that of its own search, or is shared.
+    // Whether the place is that of a verdict which was seen to be true of the condition.
+    fn is_known(&self, index: usize, place: usize) -> bool
+        ensures { IsTrue result → slice_get self.now.known.now index ≡ Some (Some place) }
+    {
+        match self.known.get(index) {
+            Some(Some(known)) => *known == place,
+            _ => false,
+        }
+    }
+
+    // Whether the verdict at the condition's place is true of it.
     fn is_served(&self, alloc: Global, index: usize) -> Result<bool, AllocError>
         requires { index < length self.now.conditions.now }
         ensures { IfOk result (λ yes. IsTrue yes
-            → IsServed (map seen self.now.conditions.now) self.now.places.now self.now.firsts.now self.now.verdicts.now index) }
+            → IsServed (map seen self.now.conditions.now) self.now.places.now self.now.known.now self.now.verdicts.now index) }
     {
         let Some(place) = self.places.get(index) else {
-            return Ok(false);
-        };
-        let Some(first) = self.firsts.get(*place) else {
             return Ok(false);
         };
         let Some(verdict) = self.verdicts.get(*place) else {
             return Ok(false);
         };
-        if *first == index {
+        if self.is_known(index, *place) {
             return Ok(true);
         }
+        let Some(first) = self.firsts.get(*place) else {
+            return Ok(false);
+        };
         let Some(other) = self.conditions.get(*first) else {
             return Ok(false);
         };
@@ -75,7 +87,7 @@ impl<'a, 'c> Numbered for Checking<'a, 'c> {
 
     ghost count = { λ c. length c.conditions.now };
 
-    ghost may_answer = { λ c n own. IsChecked (map seen c.conditions.now) c.places.now c.firsts.now c.verdicts.now n own };
+    ghost may_answer = { λ c n own. IsChecked (map seen c.conditions.now) c.places.now c.known.now c.verdicts.now n own };
 
     ghost keeps = { λ _ _. ⊤ };
 

@@ -1,16 +1,19 @@
 //! Verdicts on all conditions.
 
-ghost use Rattle.std.specs.Prelude.{◌≡◌, ◌<◌, ◌≤◌, ◌^◌, length, map, IfOk, IfErr};
+ghost use Rattle.std.specs.Prelude.{◌≡◌, ◌+◌, ◌<◌, ◌≤◌, ◌^◌, length, map, vec_len, IfOk, IfErr};
 ghost use Rattle.og_cond.specs.Seen.{seen};
 ghost use Rattle.og_cert_text.specs.Shown.{shown};
 ghost use Rattle.og_find.specs.Found.{AreOf};
 ghost use Rattle.og_draws.specs.Answers.{AreAnswers};
-ghost use Rattle.og_finder.specs.Findings.{AreVerdicts, IsSearched, IsChecked};
+ghost use Rattle.og_finder.specs.Findings.{AreVerdicts, AreKnown};
 ghost use Rattle.og_pool.specs.declared.fault.PoolFault.TheVariants.{Spawn};
 
 use crate::checking::Checking;
 use crate::findings::Findings;
+use crate::following::{Following, Trial};
+use crate::gathering::Gathered;
 use crate::groups::grouped;
+use crate::leading::{Shapes, by_shape};
 use crate::marking::Marking;
 use crate::searching::Searching;
 use og_cert_text::CertFile;
@@ -21,11 +24,67 @@ use std::alloc::Global;
 use std::sync::Wait;
 use std::thread::Threads;
 
+// How the leaders and the followers of all shapes are searched.
+#[derive(Clone, Copy)]
+struct Search<'a, 'c, G> {
+    conditions: &'a [Condition<'c>],
+    budget: u64,
+    workers: u32,
+    gate: &'a G,
+}
+
+impl<'a, 'c, G: Gate> Search<'a, 'c, G> {
+    // What is found of the leaders, and then of those followers for which that does not hold.
+    fn gathered<R: Threads + Wait + Sync>(
+        &self,
+        rt: &R,
+        alloc: Global,
+        shapes: Shapes,
+    ) -> Result<Gathered, PoolFault>
+        requires workers { (0 < self.now.workers) × (self.now.workers ≤ 64) }
+        requires few { vec_len shapes.leaders + vec_len shapes.followers < 2 ^ 32 }
+        ensures gathered { IfOk result (λ g. AreKnown (map seen self.now.conditions.now) g.verdicts.items g.known.items) }
+        ensures spawn { IfErr result (λ e. e ≡ Spawn → 1 < self.now.workers) }
+    {
+        let Shapes {
+            leaders,
+            followers,
+            places,
+        } = shapes;
+        let searching = Searching {
+            conditions: self.conditions,
+            indices: &leaders,
+            budget: self.budget,
+            gate: self.gate,
+        };
+        let lead = leaders.len() as u32;
+        let verdicts = answers(rt, alloc, &searching, lead, self.workers)?;
+        let trial = Trial {
+            conditions: self.conditions,
+            verdicts: &verdicts,
+            budget: self.budget,
+        };
+        let following = Following {
+            trial,
+            followers: &followers,
+            leaders: lead,
+            gate: self.gate,
+        };
+        let follow = followers.len() as u32;
+        let own = answers(rt, alloc, &following, follow, self.workers)?;
+        let count = self.conditions.len();
+        let gathered = Gathered::new(alloc, count, leaders, verdicts, &followers, own, places)?;
+        Ok(gathered)
+    }
+}
+
 /// What searches tell of each condition, found by so many workers. The budget holds for each search,
 /// as in `og_find::examine`. The verdicts are the same for every number of workers.
 ///
-/// Conditions with equal facts are searched once, and share what was found. The gate is told how many
-/// searches there are, and before and after each.
+/// Conditions with equal facts are searched once, and share what was found. Of conditions that differ
+/// in the names of variables alone, but for those that their action assigns, the first one leads: where
+/// it has a certificate, that is tried for the others, and those whose facts it closes share it. The
+/// gate is told how many different conditions there are, and before and after each.
 ///
 /// # Errors
 ///
@@ -47,27 +106,35 @@ pub fn examine_all<G: Gate, R: Threads + Wait + Sync>(
     let count = conditions.len() as u32;
     let marks = answers(rt, alloc, &Marking { conditions }, count, workers)?;
     let groups = grouped(alloc, &marks)?;
+    let shapes = by_shape(alloc, &marks, &groups.firsts)?;
     drop(marks);
-    let searching = Searching {
+    gate.begin(groups.firsts.len() as u32);
+    let search = Search {
         conditions,
-        indices: &groups.firsts,
         budget,
+        workers,
         gate,
     };
-    let searches = groups.firsts.len() as u32;
-    gate.begin(searches);
-    let verdicts = answers(rt, alloc, &searching, searches, workers)?;
+    let gathered = search.gathered(rt, alloc, shapes)?;
+    let places = gathered.places_of(alloc, &groups.places)?;
+    let Gathered {
+        firsts,
+        verdicts,
+        known,
+        ..
+    } = gathered;
     let checking = Checking {
         conditions,
-        places: &groups.places,
-        firsts: &groups.firsts,
+        places: &places,
+        firsts: &firsts,
+        known: &known,
         verdicts: &verdicts,
         budget,
     };
     let own = answers(rt, alloc, &checking, count, workers)?;
     Ok(Findings {
-        places: groups.places,
-        firsts: groups.firsts,
+        places,
+        firsts,
         verdicts,
         own,
     })

@@ -1,8 +1,8 @@
-//! The marks of the facts of conditions.
+//! The marks of conditions.
 
 use og_cond::Condition;
 use og_draws::Numbered;
-use og_find::mark;
+use og_find::{Marks, mark};
 use std::alloc::{AllocError, Global};
 
 /// Each condition is marked.
@@ -14,7 +14,7 @@ pub(crate) struct Marking<'a, 'c> {
 impl<'a, 'c> Numbered for Marking<'a, 'c> {
     ghost use Rattle.std.specs.Prelude.{length, ⊤};
 
-    type Answer = Option<u128>;
+    type Answer = Option<Marks>;
 
     type Kept = ();
 
@@ -31,7 +31,7 @@ impl<'a, 'c> Numbered for Marking<'a, 'c> {
         alloc: Global,
         number: u32,
         _kept: &mut (),
-    ) -> Result<Option<u128>, AllocError> {
+    ) -> Result<Option<Marks>, AllocError> {
         mark(alloc, &self.conditions[number as usize - 1])
     }
 }

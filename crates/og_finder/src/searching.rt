@@ -7,7 +7,7 @@ use og_pool::Gate;
 use std::alloc::{AllocError, Global};
 
 /// The condition at each of these indices is searched, and a gate is told of each search by the
-/// number of its place.
+/// its number.
 #[derive(Clone, Copy)]
 pub(crate) struct Searching<'a, 'c, G> {
     pub(crate) conditions: &'a [Condition<'c>],

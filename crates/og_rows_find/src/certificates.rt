@@ -9,7 +9,7 @@ use og_cond::{Condition, conditions};
 use og_find::{find, mark};
 use og_samples::{EQUAL_ADD, NESTED, TOLD_ADD, TWO_ADD, alike, outline_of};
 use og_typed::Outline;
-use std::alloc::Global;
+use std::alloc::{AllocError, Global};
 use std::process::Abort;
 use std::sync::Wait;
 use std::test::Fail;
@@ -92,10 +92,14 @@ fn lines_of(alloc: Global, condition: &Condition) -> Result<Vec<u8>, Fail> {
     Ok(lines)
 }
 
+fn mark_of_facts(alloc: Global, condition: &Condition) -> Result<Option<u128>, AllocError> {
+    Ok(mark(alloc, condition)?.map(|marks| marks.facts))
+}
+
 fn expect_turned(rt: &impl Abort, alloc: Global, list: &[Condition]) -> Result<(), Fail> {
     let first = list.get(2).expect(rt, "condition 3");
     let second = list.get(3).expect(rt, "condition 4");
-    assert!(rt; mark(alloc, first)? != mark(alloc, second)?);
+    assert!(rt; mark_of_facts(alloc, first)? != mark_of_facts(alloc, second)?);
     assert_eq!(rt;
         lines_of(alloc, first)?.as_slice(),
         b"close 1*3 1*1\n".as_slice()
