@@ -6,3 +6,4 @@ pub mod Maps
 pub mod Cuts
 pub mod Coefficients
 pub mod Sizes
+pub mod Pushed

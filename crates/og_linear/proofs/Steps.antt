@@ -46,7 +46,7 @@ fits_from (negsuc n) e = record { sfits = ltb-true n (2 ^ 127) e }
 pub fits_false : (z : ℤ) → ¬ FitsSigned w128 z → fits_i128 z ≡ false
 fits_false z n = false_from_ne_true (fits_i128 z) (λ e. n (fits_from z e))
 
-and_both : (b d : Bool) → b ≡ true → d ≡ true → (b && d) ≡ true
+pub and_both : (b d : Bool) → b ≡ true → d ≡ true → (b && d) ≡ true
 and_both true d h k = k
 and_both false d h k = h
 

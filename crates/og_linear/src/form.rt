@@ -1,6 +1,7 @@
 //! Linear forms.
 
-ghost use Rattle.std.specs.Prelude.{◌≡◌, [], ◌<◌, ◌≤◌, pos, ◌≤ℤ◌, true, IfOk, OnErr, All, length, slice_get};
+ghost use Rattle.std.specs.Prelude.{◌≡◌, ◌≢◌, [], ◌<◌, ◌≤◌, pos, ◌≤ℤ◌, true, nat_lt, IfOk, OnErr, All, length, slice_get};
+ghost use Rattle.std.specs.List.{list_all};
 ghost use Rattle.og_linear.specs.Linear.{form_value, is_term, val, is_small};
 ghost use Rattle.og_linear.specs.Tidy.{IsTidy};
 ghost use Rattle.og_linear.specs.Arith as arith;
@@ -122,6 +123,18 @@ impl Form {
         Ok(Form { terms, constant })
     }
 
+    // The sum of a form without variables and the other one.
+    fn constant_plus(&self, other: Form) -> Result<Form, FormError>
+        requires { self.now.terms ≡ [] }
+        ensures { IsAnswer (λ f. f) faults.TooLarge result (checked (arith.plus self.now other)) }
+    {
+        let constant = sum_of(self.constant, other.constant)?;
+        Ok(Form {
+            terms: other.terms,
+            constant,
+        })
+    }
+
     /// Adds k times the other form.
     ///
     /// `TooLarge` where a product of k and a number of the other form, or a sum of such a product
@@ -130,7 +143,12 @@ impl Form {
         ensures answer { IsAnswer (λ _. self.new) faults.TooLarge result (bounded.add_scaled self.old k other.now) }
         ensures unchanged { OnErr result (self.new ≡ self.old) }
     {
-        let sum = self.plus(&other.scaled(k)?)?;
+        let own = other.scaled(k)?;
+        let sum = if self.terms.len() == 0 {
+            self.constant_plus(own)?
+        } else {
+            self.plus(&own)?
+        };
         *self = sum;
         Ok(())
     }
@@ -169,6 +187,34 @@ impl Form {
         Ok(sum)
     }
 
+    // Whether the variable comes after all others.
+    fn is_last(&self, var: u32) -> bool
+        ensures { result ≡ list_all (λ t. nat_lt t.0 var) self.now.terms }
+    {
+        self.terms.iter().all(|t| t.0 < var)
+    }
+
+    // Adds k times the variable, which comes after all others.
+    fn push_variable(&mut self, k: i128, var: u32) -> Result<(), FormError>
+        requires some { k ≢ pos 0 }
+        requires last { list_all (λ t. nat_lt t.0 var) self.old.terms ≡ true }
+        ensures { IsAnswer (λ _. self.new) faults.TooLarge result (bounded.add_scaled self.old k (arith.variable var)) }
+    {
+        self.terms.push((var, k))?;
+        Ok(())
+    }
+
+    // Adds k times the variable.
+    fn add_variable(&mut self, k: i128, var: u32) -> Result<(), FormError>
+        ensures { IsAnswer (λ _. self.new) faults.TooLarge result (bounded.add_scaled self.old k (arith.variable var)) }
+    {
+        if k != 0 && self.is_last(var) {
+            return self.push_variable(k, var);
+        }
+        let own = Form::variable(*self.terms.allocator(), var)?;
+        self.add_scaled(k, &own)
+    }
+
     // Adds k times the form that stands for the variable.
     fn add_image(&mut self, k: i128, map: &Map, var: u32) -> Result<(), FormError>
         ensures { IsAnswer (λ _. self.new) faults.TooLarge result
@@ -176,10 +222,7 @@ impl Form {
     {
         match map.named(var) {
             Some(form) => self.add_scaled(k, form),
-            None => {
-                let own = Form::variable(*self.terms.allocator(), var)?;
-                self.add_scaled(k, &own)
-            }
+            None => self.add_variable(k, var),
         }
     }
 
