@@ -1,15 +1,13 @@
 //! The search: it takes in facts, closes or picks a choice, and goes into each part.
 
-use crate::closing::closing;
-use crate::leaf::leaf;
-use crate::proof::{Case, Lifted, Proof, Sides, Tree};
 use crate::stop::{Halt, Stop};
 use og_choices::{
     Against, Atom, Chains, Choice, Clash, Facts, Index, Open, Part, Reach, View, all_hold,
     common_to_choice, forced, weight,
 };
 use og_elimination::{Gap, Outcome, Problem, Ranges, close_within, eliminate, narrow, note_bound};
-use og_inequalities::{Added, Bounds, Inequality, Levels, Model, Origin, Place, Rows, TOP, Term};
+use og_inequalities::{Added, Bounds, Inequality, Levels, Model, Place, Rows, TOP, Term};
+use og_refutation::{Case, Lifted, Proof, Sides, Tree, closing, leaf};
 use std::alloc::{AllocError, Global};
 
 /// Below this level a choice is taken only where it is false of the values.
