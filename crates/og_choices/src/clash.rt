@@ -69,6 +69,22 @@ pub struct Facts<'v> {
     pub near: usize,
 }
 
+// The places of a few parts of a choice.
+#[derive(Clone, Copy)]
+struct Few {
+    places: [usize; PAIRS_LIMIT],
+    count: usize,
+}
+
+impl Few {
+    fn add(&mut self, place: usize) {
+        if let Some(next) = self.places.get_mut(self.count) {
+            *next = place;
+            self.count = self.count.saturating_add(1);
+        }
+    }
+}
+
 impl Facts<'_> {
     // The place of the own fact with the opposite terms with which the inequality is at odds: the
     // first one that stands near, else the first.
@@ -197,16 +213,30 @@ impl Facts<'_> {
         true
     }
 
-    // Whether at most so many of the parts are not at odds with what is known, by a look at their
-    // terms.
-    fn are_open(self, parts: &[Part], most: usize) -> bool {
-        let mut left = most;
-        for part in parts {
+    // The places of the parts that are not at odds with what is known, by a look at their terms; none
+    // where there are more than so many.
+    fn open_parts(self, parts: &[Part], most: usize) -> Option<Few> {
+        let mut open = Few {
+            places: [0; PAIRS_LIMIT],
+            count: 0,
+        };
+        for (place, part) in parts.iter().enumerate() {
             if !self.is_shut(part, Reach::Sight) {
-                let Some(less) = left.checked_sub(1) else {
-                    return false;
-                };
-                left = less;
+                if open.count >= most {
+                    return None;
+                }
+                open.add(place);
+            }
+        }
+        Some(open)
+    }
+
+    // Whether each of these parts is at odds with what is known.
+    fn are_shut_at(self, parts: &[Part], few: Few, reach: Reach) -> bool {
+        for place in few.places.iter().take(few.count) {
+            match parts.get(*place) {
+                Some(part) if self.is_shut(part, reach) => {}
+                _ => return false,
             }
         }
         true
@@ -219,7 +249,10 @@ impl Facts<'_> {
             Reach::Sight => self.are_shut(parts, reach),
             Reach::Rows => {
                 let most = PAIRS_LIMIT.min(parts.len() / 2);
-                self.are_open(parts, most) && self.are_shut(parts, reach)
+                match self.open_parts(parts, most) {
+                    Some(few) => self.are_shut_at(parts, few, reach),
+                    None => false,
+                }
             }
         }
     }

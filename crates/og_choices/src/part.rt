@@ -84,14 +84,14 @@ impl Part {
         Ok(directions)
     }
 
-    /// No facts.
-    pub fn new(alloc: Global) -> Part {
-        Part {
+    /// No facts, with room for so many inequalities. `AllocError` where an allocation was refused.
+    pub fn new(alloc: Global, room: usize) -> Result<Part, AllocError> {
+        Ok(Part {
             alloc,
-            atoms: Vec::new(alloc),
+            atoms: Vec::with_capacity(alloc, room)?,
             choices: Vec::new(alloc),
             count: 0,
-        }
+        })
     }
 
     // The place of one fact more.

@@ -6,12 +6,14 @@
 
 mod all;
 mod finding;
+mod marking;
 mod reading;
 mod truth;
 mod verdict;
 
 pub use all::has_all;
 pub use finding::{examine, find, is_verdict};
+pub use marking::mark;
 pub use og_cert::Cert;
-pub use reading::{has_equal_facts, mark};
+pub use reading::has_equal_facts;
 pub use verdict::Verdict;

@@ -8,7 +8,7 @@ use std::alloc::{AllocError, Global};
 
 #[cycle(reading)]
 fn read_facts(alloc: Global, facts: &[Fact], depth: u32) -> Result<Part, AllocError> {
-    let mut part = Part::new(alloc);
+    let mut part = Part::new(alloc, facts.len())?;
     for fact in facts {
         match fact {
             Fact::Atom(form) => part.add_form(form)?,
@@ -41,19 +41,6 @@ fn part_of_condition(alloc: Global, condition: &Condition) -> Result<Option<Part
         Ok(list) => Ok(Some(part_of(alloc, &list)?)),
         Err(FactsError::Memory) => Err(AllocError),
         Err(FactsError::Fault(_)) => Ok(None),
-    }
-}
-
-/// A mark of the condition's facts: the same for equal facts, and for others only by a chance of a
-/// hash. None where it has no facts, since they are too many or too large.
-///
-/// # Errors
-///
-/// `AllocError` where an allocation was refused.
-pub fn mark(alloc: Global, condition: &Condition) -> Result<Option<u128>, AllocError> {
-    match part_of_condition(alloc, condition)? {
-        Some(part) => Ok(Some(part.mark())),
-        None => Ok(None),
     }
 }
 
