@@ -146,6 +146,11 @@ impl Part {
         size
     }
 
+    /// Whether one of its inequalities is at odds with this one.
+    pub(crate) fn is_at_odds(&self, atom: &Atom) -> bool {
+        self.atoms.iter().any(|own| own.is_at_odds(atom))
+    }
+
     // Whether some inequality is false within the bounds.
     fn is_barred(&self, bounds: &Bounds) -> bool {
         self.atoms.iter().any(|atom| bounds.exclude(&atom.form))

@@ -98,6 +98,18 @@ fn rests_on_own_facts(used: Levels) -> bool {
     true
 }
 
+// How many of the choices, the last ones, are of this level.
+fn own_choices(open: &[Open], level: u32) -> usize {
+    let mut own = 0usize;
+    for one in open.iter().rev() {
+        if one.place.level != level {
+            break;
+        }
+        own = own.saturating_add(1);
+    }
+    own
+}
+
 impl<'a> Search<'a> {
     pub(crate) fn new(
         alloc: Global,
@@ -148,12 +160,27 @@ impl<'a> Search<'a> {
             own: &self.facts.atoms,
             directions: &self.directions,
             near: self.near,
+            assumed: None,
         }
     }
 
     // A choice each of whose parts is at odds with what is known.
     fn refuted(&self, bounds: &Bounds, reach: Reach) -> Option<usize> {
         self.facts(bounds).refuted(&self.open, reach)
+    }
+
+    // A choice from above this level of which each part is at odds with what is known, or with a
+    // choice of this level: so what is denied there is split before what denies it, but for a choice
+    // of this level with a single way.
+    fn denied(&mut self, level: u32, bounds: &Bounds) -> Result<Option<usize>, Stop> {
+        let own = own_choices(&self.open, level);
+        if own == 0 {
+            return Ok(None);
+        }
+        let looks = weight(&self.open).saturating_mul(own);
+        self.rows.spend((looks / 10_000) as u64)?;
+        let from = self.open.len().saturating_sub(own);
+        Ok(self.facts(bounds).denied(&self.open, from))
     }
 
     // Adds a fact as a row.
@@ -386,6 +413,9 @@ impl<'a> Search<'a> {
             if let Some(i) = forced(&self.open, bounds, None) {
                 return Ok(Decision::Split(i));
             }
+        }
+        if let Some(i) = self.denied(level, bounds)? {
+            return Ok(Decision::Split(i));
         }
         let decision = match self.eliminate(bounds)? {
             Outcome::Model(model) => self.decide_at(model, bounds)?,
