@@ -4,14 +4,14 @@
 //! No contract promises anything of them: `og_find` checks a certificate before it hands it out.
 #![tactic(auto)]
 
-mod certificate;
-mod closing;
 mod fault;
-mod leaf;
+mod leaves;
+mod numbering;
 mod proof;
+mod sight;
 
-pub use certificate::certificate;
-pub use closing::closing;
 pub use fault::Unwritten;
-pub use leaf::leaf;
+pub use leaves::leaf;
+pub use numbering::certificate;
 pub use proof::{Case, Lifted, Line, Multiple, Name, Proof, Sides, Tree};
+pub use sight::closing;
