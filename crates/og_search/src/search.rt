@@ -169,18 +169,23 @@ impl<'a> Search<'a> {
         self.facts(bounds).refuted(&self.open, reach)
     }
 
+    // A choice of which each part is at odds with what is known, or with one of the last choices, so
+    // many; or one of these with a single way.
+    fn denied(&self, own: usize, bounds: &Bounds) -> Option<usize> {
+        let from = self.open.len().saturating_sub(own);
+        self.facts(bounds).denied(&self.open, from)
+    }
+
     // A choice from above this level of which each part is at odds with what is known, or with a
     // choice of this level: so what is denied there is split before what denies it, but for a choice
     // of this level with a single way.
-    fn denied(&mut self, level: u32, bounds: &Bounds) -> Result<Option<usize>, Stop> {
+    fn denied_at(&mut self, level: u32, bounds: &Bounds) -> Result<Option<usize>, Stop> {
         let own = own_choices(&self.open, level);
         if own == 0 {
             return Ok(None);
         }
-        let looks = weight(&self.open).saturating_mul(own);
-        self.rows.spend((looks / 10_000) as u64)?;
-        let from = self.open.len().saturating_sub(own);
-        Ok(self.facts(bounds).denied(&self.open, from))
+        self.spend_pairs(own)?;
+        Ok(self.denied(own, bounds))
     }
 
     // Adds a fact as a row.
@@ -277,6 +282,13 @@ impl<'a> Search<'a> {
         let looks = weight(&self.open).saturating_add(self.base.len());
         let all = self.open.len().saturating_mul(looks);
         self.rows.spend((all / 10_000) as u64)?;
+        Ok(())
+    }
+
+    // Takes a step for each 10,000 pairs of a fact and one of so many choices.
+    fn spend_pairs(&mut self, choices: usize) -> Result<(), Stop> {
+        let pairs = weight(&self.open).saturating_mul(choices);
+        self.rows.spend((pairs / 10_000) as u64)?;
         Ok(())
     }
 
@@ -414,7 +426,7 @@ impl<'a> Search<'a> {
                 return Ok(Decision::Split(i));
             }
         }
-        if let Some(i) = self.denied(level, bounds)? {
+        if let Some(i) = self.denied_at(level, bounds)? {
             return Ok(Decision::Split(i));
         }
         let decision = match self.eliminate(bounds)? {
