@@ -61,7 +61,7 @@ impl Chains {
         Ok(Chains {
             heads: vec![in alloc; None; chains]?,
             mask: (chains as u128).saturating_sub(1),
-            entries: Vec::new(alloc),
+            entries: Vec::with_capacity(alloc, expected)?,
         })
     }
 

@@ -67,6 +67,24 @@ pub struct Facts<'v> {
     pub directions: &'v Chains,
     /// A place among them: of several that an inequality is at odds with, one of the next is taken.
     pub near: usize,
+    /// A part whose inequalities are assumed, where it is asked what is at odds with them.
+    pub assumed: Option<&'v Part>,
+}
+
+// The places of a few parts of a choice.
+#[derive(Clone, Copy)]
+struct Few {
+    places: [usize; PAIRS_LIMIT],
+    count: usize,
+}
+
+impl Few {
+    fn add(&mut self, place: usize) {
+        if let Some(next) = self.places.get_mut(self.count) {
+            *next = place;
+            self.count = self.count.saturating_add(1);
+        }
+    }
 }
 
 impl Facts<'_> {
@@ -172,10 +190,18 @@ impl Facts<'_> {
         }
     }
 
-    // Whether the part is at odds with what is known.
+    // Whether an inequality of the part is at odds with one that is assumed.
+    fn is_denied(self, part: &Part) -> bool {
+        match self.assumed {
+            Some(assumed) => part.atoms.iter().any(|atom| assumed.is_at_odds(atom)),
+            None => false,
+        }
+    }
+
+    // Whether the part is at odds with what is known or assumed.
     #[cycle(shutting)]
     fn is_shut(self, part: &Part, reach: Reach) -> bool {
-        if self.clash(part, reach).is_some() {
+        if self.is_denied(part) || self.clash(part, reach).is_some() {
             return true;
         }
         for choice in &part.choices {
@@ -186,7 +212,7 @@ impl Facts<'_> {
         false
     }
 
-    /// Whether each of the parts is at odds with what is known.
+    /// Whether each of the parts is at odds with what is known or assumed.
     #[cycle(shutting)]
     pub fn are_shut(self, parts: &[Part], reach: Reach) -> bool {
         for part in parts {
@@ -197,16 +223,30 @@ impl Facts<'_> {
         true
     }
 
-    // Whether at most so many of the parts are not at odds with what is known, by a look at their
-    // terms.
-    fn are_open(self, parts: &[Part], most: usize) -> bool {
-        let mut left = most;
-        for part in parts {
+    // The places of the parts that are not at odds with what is known, by a look at their terms; none
+    // where there are more than so many.
+    fn open_parts(self, parts: &[Part], most: usize) -> Option<Few> {
+        let mut open = Few {
+            places: [0; PAIRS_LIMIT],
+            count: 0,
+        };
+        for (place, part) in parts.iter().enumerate() {
             if !self.is_shut(part, Reach::Sight) {
-                let Some(less) = left.checked_sub(1) else {
-                    return false;
-                };
-                left = less;
+                if open.count >= most {
+                    return None;
+                }
+                open.add(place);
+            }
+        }
+        Some(open)
+    }
+
+    // Whether each of these parts is at odds with what is known.
+    fn are_shut_at(self, parts: &[Part], few: Few, reach: Reach) -> bool {
+        for place in few.places.iter().take(few.count) {
+            match parts.get(*place) {
+                Some(part) if self.is_shut(part, reach) => {}
+                _ => return false,
             }
         }
         true
@@ -219,8 +259,69 @@ impl Facts<'_> {
             Reach::Sight => self.are_shut(parts, reach),
             Reach::Rows => {
                 let most = PAIRS_LIMIT.min(parts.len() / 2);
-                self.are_open(parts, most) && self.are_shut(parts, reach)
+                match self.open_parts(parts, most) {
+                    Some(few) => self.are_shut_at(parts, few, reach),
+                    None => false,
+                }
             }
+        }
+    }
+
+    // Whether the facts of the part leave one of these choices no way.
+    fn shuts_one(self, part: &Part, open: &[Open]) -> bool {
+        let with = Facts {
+            rows: self.rows,
+            base: self.base,
+            index: self.index,
+            bounds: self.bounds,
+            own: self.own,
+            directions: self.directions,
+            near: self.near,
+            assumed: Some(part),
+        };
+        let mut open = open.iter();
+        open.any(|one| !one.is_taken && with.are_shut(one.parts, Reach::Sight))
+    }
+
+    // Whether each of the parts is at odds with what is known, or leaves one of these choices no way.
+    fn all_shut_one(self, parts: &[Part], open: &[Open]) -> bool {
+        for part in parts {
+            if !self.is_shut(part, Reach::Sight) && !self.shuts_one(part, open) {
+                return false;
+            }
+        }
+        true
+    }
+
+    // The first choice with the fewest parts, among those that are open and each of whose parts is at
+    // odds with what is known, or leaves one of the others no way.
+    fn shutting(self, open: &[Open], others: &[Open]) -> Option<usize> {
+        let mut best = None;
+        let mut least = usize::MAX;
+        for (i, one) in open.iter().enumerate() {
+            if !one.is_taken && one.parts.len() < least && self.all_shut_one(one.parts, others) {
+                least = one.parts.len();
+                best = Some(i);
+            }
+        }
+        best
+    }
+
+    // Whether all parts but one at most are at odds with what is known.
+    fn has_one_open(self, parts: &[Part]) -> bool {
+        self.open_parts(parts, 1).is_some()
+    }
+
+    /// A choice each of whose parts is at odds with what is known, or leaves one of the last choices
+    /// no way, which stand from a place on; if there is one, and all parts but one of one of the last
+    /// choices are at odds with what is known, that one.
+    pub fn denied(self, open: &[Open], from: usize) -> Option<usize> {
+        let (first, last) = (open.get(..from)?, open.get(from..)?);
+        let shutting = self.shutting(first, last)?;
+        let mut single = last.iter();
+        match single.position(|one| !one.is_taken && self.has_one_open(one.parts)) {
+            Some(place) => Some(from.saturating_add(place)),
+            None => Some(shutting),
         }
     }
 

@@ -1,22 +1,34 @@
 //! Equal facts.
 
 use crate::part::{Atom, Choice, Part};
-use og_inequalities::{Inequality, next_mark};
+use og_inequalities::{Term, next_mark};
 
-fn mark_form(mark: u128, form: &Inequality) -> u128 {
-    let mut next = next_mark(mark, form.constant.cast_unsigned());
-    next = next_mark(next, form.terms.len() as u128);
-    for term in &form.terms {
+fn mark_terms(mark: u128, terms: &[Term]) -> u128 {
+    let mut next = next_mark(mark, terms.len() as u128);
+    for term in terms {
         next = next_mark(next, u128::from(term.var));
         next = next_mark(next, term.coefficient.cast_unsigned());
     }
     next
 }
 
+// The mark with the terms of an inequality: by their direction and the sign of the first one, where
+// they have a direction.
+fn mark_terms_of(mark: u128, atom: &Atom) -> u128 {
+    let terms = &atom.form.terms;
+    let Some(direction) = atom.direction else {
+        return mark_terms(mark, terms);
+    };
+    let is_turned = matches!(terms.first(), Some(first) if first.coefficient < 0);
+    next_mark(mark, if is_turned { !direction } else { direction })
+}
+
 fn mark_atoms(mark: u128, atoms: &[Atom]) -> u128 {
     let mut next = next_mark(mark, atoms.len() as u128);
     for atom in atoms {
-        next = mark_form(next_mark(next, atom.index as u128), &atom.form);
+        next = next_mark(next, atom.index as u128);
+        next = next_mark(next, atom.form.constant.cast_unsigned());
+        next = mark_terms_of(next, atom);
     }
     next
 }
@@ -81,12 +93,6 @@ fn are_same_parts(a: &[Part], b: &[Part]) -> bool {
 }
 
 impl Part {
-    /// A number that is the same for equal facts. It is made of all that `is_same` compares, in order,
-    /// so other facts have it only by a chance of the hash.
-    pub fn mark(&self) -> u128 {
-        mark_part(0, self)
-    }
-
     /// Whether the facts are equal.
     pub fn is_same(&self, other: &Part) -> bool {
         is_same_part(self, other)

@@ -84,14 +84,14 @@ impl Part {
         Ok(directions)
     }
 
-    /// No facts.
-    pub fn new(alloc: Global) -> Part {
-        Part {
+    /// No facts, with room for so many inequalities. `AllocError` where an allocation was refused.
+    pub fn new(alloc: Global, room: usize) -> Result<Part, AllocError> {
+        Ok(Part {
             alloc,
-            atoms: Vec::new(alloc),
+            atoms: Vec::with_capacity(alloc, room)?,
             choices: Vec::new(alloc),
             count: 0,
-        }
+        })
     }
 
     // The place of one fact more.
@@ -144,6 +144,11 @@ impl Part {
             size = size.saturating_add(choice.size);
         }
         size
+    }
+
+    /// Whether one of its inequalities is at odds with this one.
+    pub(crate) fn is_at_odds(&self, atom: &Atom) -> bool {
+        self.atoms.iter().any(|own| own.is_at_odds(atom))
     }
 
     // Whether some inequality is false within the bounds.

@@ -8,7 +8,7 @@ use std::alloc::{AllocError, Global};
 
 #[cycle(reading)]
 fn read_facts(alloc: Global, facts: &[Fact], depth: u32) -> Result<Part, AllocError> {
-    let mut part = Part::new(alloc);
+    let mut part = Part::new(alloc, facts.len())?;
     for fact in facts {
         match fact {
             Fact::Atom(form) => part.add_form(form)?,

@@ -238,6 +238,16 @@ fn are_opposite(a: &[Term], b: &[Term]) -> bool
     true
 }
 
+// How many terms the form has.
+fn count_terms(form: &Form) -> usize {
+    for i in 0..usize::MAX {
+        if form.term(i).is_none() {
+            return i;
+        }
+    }
+    usize::MAX
+}
+
 impl Inequality {
     /// The inequality without variables. Takes no memory.
     pub fn number(alloc: Global, constant: i128) -> Inequality
@@ -265,7 +275,7 @@ impl Inequality {
     pub fn of_form(alloc: Global, form: &Form) -> Result<Inequality, AllocError>
         ensures { IfOk result (λ f. (s : List ℤ) → left_side f s ≡ val form.now s) }
     {
-        let mut terms = Vec::new(alloc);
+        let mut terms = Vec::with_capacity(alloc, count_terms(form))?;
         for i in 0..usize::MAX {
             let Some((var, coefficient)) = form.term(i) else {
                 let constant = form.offset();

@@ -18,16 +18,31 @@ fn common_divisor(a: u128, b: u128) -> u128 {
 
 /// The greatest common divisor of two magnitudes, or 1 where it is no `i128`.
 pub fn common(a: i128, b: i128) -> i128 {
+    if b.unsigned_abs() == 1 {
+        return 1;
+    }
     let divisor = common_divisor(a.unsigned_abs(), b.unsigned_abs());
     i128::try_from(divisor).unwrap_or(1)
 }
 
-/// The greatest whole number that is not above the quotient, for a divisor above 0.
-pub(crate) fn floor_div(a: i128, divisor: i128) -> Option<i128>
+// The quotient rounded down, for a divisor above 0.
+fn divided_down(a: i128, divisor: i128) -> Option<i128>
     requires { pos 0 <ℤ divisor }
     ensures { IfSome result (λ q. ((q *ℤ divisor) ≤ℤ a) × (a <ℤ (q *ℤ divisor +ℤ divisor))) }
 {
     a.checked_div_euclid(divisor)
+}
+
+/// The greatest whole number that is not above the quotient, for a divisor above 0; without a
+/// division by 1, the most frequent one.
+pub(crate) fn floor_div(a: i128, divisor: i128) -> Option<i128>
+    requires { pos 0 <ℤ divisor }
+    ensures { IfSome result (λ q. ((q *ℤ divisor) ≤ℤ a) × (a <ℤ (q *ℤ divisor +ℤ divisor))) }
+{
+    match divisor {
+        1 => Some(a),
+        _ => divided_down(a, divisor),
+    }
 }
 
 /// The least whole number that is not below the quotient, for a divisor above 0.

@@ -1,11 +1,11 @@
 //! What a search claims.
 
-use crate::certificate::certificate;
 use crate::search::Search;
 use crate::stop::Stop;
 use og_cert_text::Cert;
 use og_choices::Part;
 use og_inequalities::Model;
+use og_refutation::certificate;
 use std::alloc::{AllocError, Global};
 
 /// What a search ends with. Whoever relies on it has to check it.
@@ -17,6 +17,12 @@ pub enum Claim {
     Values(Model),
     /// Nothing: the budget is spent, or there is nothing left to try.
     Nothing,
+}
+
+// The certificate of the refutation that the search finds among so many facts.
+fn certified(alloc: Global, search: &mut Search, count: usize) -> Result<Cert, Stop> {
+    let proof = search.run()?;
+    Ok(certificate(alloc, &proof.tree, count)?)
 }
 
 /// Searches among facts over so many variables, within the budget.
@@ -34,11 +40,7 @@ pub fn search_among(
     budget: u64,
 ) -> Result<Claim, AllocError> {
     let mut search = Search::new(alloc, part, variables, budget)?;
-    let found = match search.run() {
-        Ok(proof) => certificate(alloc, &proof.tree, part.count),
-        Err(stop) => Err(stop),
-    };
-    match found {
+    match certified(alloc, &mut search, part.count) {
         Ok(cert) => Ok(Claim::Closed(cert)),
         Err(Stop::Memory) => Err(AllocError),
         Err(Stop::Model) => Ok(Claim::Values(search.into_model())),

@@ -4,11 +4,7 @@
 //! It knows nothing of conditions: the facts are put together by `Part`.
 #![tactic(auto)]
 
-mod certificate;
 mod claim;
-mod closing;
-mod leaf;
-mod proof;
 mod search;
 mod stop;
 

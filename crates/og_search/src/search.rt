@@ -1,15 +1,13 @@
 //! The search: it takes in facts, closes or picks a choice, and goes into each part.
 
-use crate::closing::closing;
-use crate::leaf::leaf;
-use crate::proof::{Case, Lifted, Proof, Sides, Tree};
 use crate::stop::{Halt, Stop};
 use og_choices::{
     Against, Atom, Chains, Choice, Clash, Facts, Index, Open, Part, Reach, View, all_hold,
     common_to_choice, forced, weight,
 };
 use og_elimination::{Gap, Outcome, Problem, Ranges, close_within, eliminate, narrow, note_bound};
-use og_inequalities::{Added, Bounds, Inequality, Levels, Model, Origin, Place, Rows, TOP, Term};
+use og_inequalities::{Added, Bounds, Inequality, Levels, Model, Place, Rows, TOP, Term};
+use og_refutation::{Case, Lifted, Proof, Sides, Tree, closing, leaf};
 use std::alloc::{AllocError, Global};
 
 /// Below this level a choice is taken only where it is false of the values.
@@ -100,6 +98,18 @@ fn rests_on_own_facts(used: Levels) -> bool {
     true
 }
 
+// How many of the choices, the last ones, are of this level.
+fn own_choices(open: &[Open], level: u32) -> usize {
+    let mut own = 0usize;
+    for one in open.iter().rev() {
+        if one.place.level != level {
+            break;
+        }
+        own = own.saturating_add(1);
+    }
+    own
+}
+
 impl<'a> Search<'a> {
     pub(crate) fn new(
         alloc: Global,
@@ -150,12 +160,32 @@ impl<'a> Search<'a> {
             own: &self.facts.atoms,
             directions: &self.directions,
             near: self.near,
+            assumed: None,
         }
     }
 
     // A choice each of whose parts is at odds with what is known.
     fn refuted(&self, bounds: &Bounds, reach: Reach) -> Option<usize> {
         self.facts(bounds).refuted(&self.open, reach)
+    }
+
+    // A choice of which each part is at odds with what is known, or with one of the last choices, so
+    // many; or one of these with a single way.
+    fn denied(&self, own: usize, bounds: &Bounds) -> Option<usize> {
+        let from = self.open.len().saturating_sub(own);
+        self.facts(bounds).denied(&self.open, from)
+    }
+
+    // A choice from above this level of which each part is at odds with what is known, or with a
+    // choice of this level: so what is denied there is split before what denies it, but for a choice
+    // of this level with a single way.
+    fn denied_at(&mut self, level: u32, bounds: &Bounds) -> Result<Option<usize>, Stop> {
+        let own = own_choices(&self.open, level);
+        if own == 0 {
+            return Ok(None);
+        }
+        self.spend_pairs(own)?;
+        Ok(self.denied(own, bounds))
     }
 
     // Adds a fact as a row.
@@ -252,6 +282,13 @@ impl<'a> Search<'a> {
         let looks = weight(&self.open).saturating_add(self.base.len());
         let all = self.open.len().saturating_mul(looks);
         self.rows.spend((all / 10_000) as u64)?;
+        Ok(())
+    }
+
+    // Takes a step for each 10,000 pairs of a fact and one of so many choices.
+    fn spend_pairs(&mut self, choices: usize) -> Result<(), Stop> {
+        let pairs = weight(&self.open).saturating_mul(choices);
+        self.rows.spend((pairs / 10_000) as u64)?;
         Ok(())
     }
 
@@ -388,6 +425,9 @@ impl<'a> Search<'a> {
             if let Some(i) = forced(&self.open, bounds, None) {
                 return Ok(Decision::Split(i));
             }
+        }
+        if let Some(i) = self.denied_at(level, bounds)? {
+            return Ok(Decision::Split(i));
         }
         let decision = match self.eliminate(bounds)? {
             Outcome::Model(model) => self.decide_at(model, bounds)?,

@@ -1,6 +1,7 @@
 //! Why a search ends without a certificate, and what ends the work on its rows.
 
 use og_inequalities::{AddError, RowError};
+use og_refutation::Unwritten;
 use std::alloc::{AllocError, AllocFailed};
 
 /// Why a search ends.
@@ -35,6 +36,15 @@ impl From<RowError> for Stop {
         match error {
             RowError::Memory => Stop::Memory,
             RowError::Budget => Stop::Budget,
+        }
+    }
+}
+
+impl From<Unwritten> for Stop {
+    fn from(unwritten: Unwritten) -> Stop {
+        match unwritten {
+            Unwritten::Memory => Stop::Memory,
+            Unwritten::TooLarge => Stop::Stuck,
         }
     }
 }

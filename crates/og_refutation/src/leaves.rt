@@ -1,8 +1,8 @@
 //! The leaves of a refutation. Sums of sums become one sum, so there are lines for divided rows
 //! alone; only where a multiplier is too large, there is one for each row that the last row rests on.
 
+use crate::fault::Unwritten;
 use crate::proof::{Line, Multiple, Name, Proof, Tree};
-use crate::stop::Stop;
 use og_inequalities::{Origin, Rows, Summand};
 use std::alloc::AllocError;
 
@@ -101,7 +101,7 @@ struct Divided {
 }
 
 // The divided row of this number, if it is one; none as a sum where a multiplier is too large.
-fn divided_row(rows: &Rows, row: usize) -> Result<Option<Divided>, Stop> {
+fn divided_row(rows: &Rows, row: usize) -> Result<Option<Divided>, Unwritten> {
     let Some(
         Origin::Cut {
             row: source,
@@ -112,7 +112,7 @@ fn divided_row(rows: &Rows, row: usize) -> Result<Option<Divided>, Stop> {
         return Ok(None);
     };
     let divisor = *divisor;
-    let sum = flattened(rows, *source)?.ok_or(Stop::Size)?;
+    let sum = flattened(rows, *source)?.ok_or(Unwritten::TooLarge)?;
     Ok(Some(Divided { row, divisor, sum }))
 }
 
@@ -124,7 +124,7 @@ fn mark_all(wanted: &mut [bool], sum: &[Summand]) {
 }
 
 // The divided rows on which a sum rests, the last one first.
-fn divided_rows(rows: &Rows, sum: &[Summand]) -> Result<Vec<Divided>, Stop> {
+fn divided_rows(rows: &Rows, sum: &[Summand]) -> Result<Vec<Divided>, Unwritten> {
     let mut wanted = vec![in rows.alloc(); false; rows.len()]?;
     mark_all(&mut wanted, sum);
     let mut found = Vec::new(rows.alloc());
@@ -140,7 +140,7 @@ fn divided_rows(rows: &Rows, sum: &[Summand]) -> Result<Vec<Divided>, Stop> {
 }
 
 // The leaf with lines for divided rows alone; none where a multiplier is too large.
-fn short_leaf(rows: &Rows, last: usize) -> Result<Option<Proof>, Stop> {
+fn short_leaf(rows: &Rows, last: usize) -> Result<Option<Proof>, Unwritten> {
     let Some(sum) = flattened(rows, last)? else {
         return Ok(None);
     };
@@ -149,13 +149,13 @@ fn short_leaf(rows: &Rows, last: usize) -> Result<Option<Proof>, Stop> {
             let end = lines.multiples(&sum)?;
             Ok(Some(proof_of(rows, last, lines, end)))
         }
-        Err(Stop::Size) => Ok(None),
+        Err(Unwritten::TooLarge) => Ok(None),
         Err(stop) => Err(stop),
     }
 }
 
 // The lines of the divided rows on which a sum rests.
-fn lines_for<'a>(rows: &'a Rows, sum: &[Summand]) -> Result<Lines<'a>, Stop> {
+fn lines_for<'a>(rows: &'a Rows, sum: &[Summand]) -> Result<Lines<'a>, Unwritten> {
     if is_plain(rows, sum) {
         return Ok(Lines::empty(rows));
     }
@@ -196,7 +196,7 @@ impl<'a> Lines<'a> {
         }
     }
 
-    fn multiples(&self, sum: &[Summand]) -> Result<Vec<Multiple>, Stop> {
+    fn multiples(&self, sum: &[Summand]) -> Result<Vec<Multiple>, Unwritten> {
         let mut multiples = Vec::with_capacity(self.rows.alloc(), sum.len())?;
         for part in sum {
             let times = part.times;
@@ -207,11 +207,11 @@ impl<'a> Lines<'a> {
     }
 
     // The line of a row, if it is no fact and no bound.
-    fn line(&self, row: usize) -> Result<Option<Line>, Stop> {
+    fn line(&self, row: usize) -> Result<Option<Line>, Unwritten> {
         match self.rows.origin(row) {
             Some(Origin::Sum(sum)) => Ok(Some(Line::Sum(self.multiples(sum)?))),
             Some(Origin::Cut { row, divisor }) => {
-                let divisor = u64::try_from(*divisor).ok().ok_or(Stop::Stuck)?;
+                let divisor = u64::try_from(*divisor).ok().ok_or(Unwritten::TooLarge)?;
                 let name = self.name(*row);
                 Ok(Some(Line::Cut { name, divisor }))
             }
@@ -220,7 +220,7 @@ impl<'a> Lines<'a> {
     }
 
     // Adds the line of a row, if it has one, and notes where that stands.
-    fn add(&mut self, row: usize) -> Result<(), Stop> {
+    fn add(&mut self, row: usize) -> Result<(), Unwritten> {
         if let Some(line) = self.line(row)? {
             self.note(row);
             self.lines.push(line)?;
@@ -236,7 +236,7 @@ impl<'a> Lines<'a> {
     }
 
     // The name of a sum, by a line of its own where it is more than one row.
-    fn name_of_sum(&mut self, sum: &[Summand]) -> Result<Name, Stop> {
+    fn name_of_sum(&mut self, sum: &[Summand]) -> Result<Name, Unwritten> {
         if let [only] = sum {
             if only.times == 1 {
                 return Ok(self.name(only.row));
@@ -249,8 +249,8 @@ impl<'a> Lines<'a> {
     }
 
     // Adds the line of a divided row, and that of the sum that it divides.
-    fn add_divided(&mut self, one: &Divided) -> Result<(), Stop> {
-        let divisor = u64::try_from(one.divisor).ok().ok_or(Stop::Stuck)?;
+    fn add_divided(&mut self, one: &Divided) -> Result<(), Unwritten> {
+        let divisor = u64::try_from(one.divisor).ok().ok_or(Unwritten::TooLarge)?;
         let name = self.name_of_sum(&one.sum)?;
         self.note(one.row);
         self.lines.push(Line::Cut { name, divisor })?;
@@ -258,7 +258,7 @@ impl<'a> Lines<'a> {
     }
 
     // The sum that closes with the last row.
-    fn closing(&self, last: usize) -> Result<Vec<Multiple>, Stop> {
+    fn closing(&self, last: usize) -> Result<Vec<Multiple>, Unwritten> {
         match self.rows.origin(last) {
             Some(Origin::Sum(sum)) => self.multiples(sum),
             _ => self.multiples(&[Summand {
@@ -289,7 +289,7 @@ fn is_alone(rows: &Rows, row: usize) -> bool {
 }
 
 /// The leaf that ends with this row, a constant above 0.
-pub(crate) fn leaf(rows: &Rows, last: usize) -> Result<Proof, Stop> {
+pub fn leaf(rows: &Rows, last: usize) -> Result<Proof, Unwritten> {
     if is_alone(rows, last) {
         return leaf_of(rows, last, Lines::empty(rows));
     }
@@ -300,7 +300,7 @@ pub(crate) fn leaf(rows: &Rows, last: usize) -> Result<Proof, Stop> {
 }
 
 // The leaf with a line for each row.
-fn long_leaf(rows: &Rows, last: usize) -> Result<Proof, Stop> {
+fn long_leaf(rows: &Rows, last: usize) -> Result<Proof, Unwritten> {
     let wanted = rows_needed(rows, last)?;
     let mut lines = Lines::new(rows)?;
     for (row, is_wanted) in wanted.iter().take(last).enumerate() {
@@ -312,7 +312,7 @@ fn long_leaf(rows: &Rows, last: usize) -> Result<Proof, Stop> {
 }
 
 // The leaf that ends with this row after these lines.
-fn leaf_of(rows: &Rows, last: usize, lines: Lines) -> Result<Proof, Stop> {
+fn leaf_of(rows: &Rows, last: usize, lines: Lines) -> Result<Proof, Unwritten> {
     let end = lines.closing(last)?;
     Ok(proof_of(rows, last, lines, end))
 }

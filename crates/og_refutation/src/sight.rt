@@ -102,7 +102,7 @@ impl Ending {
 }
 
 /// The leaf of a clash at this place, where it needs no rows but facts, and no number is too large.
-pub(crate) fn closing(
+pub fn closing(
     rows: &Rows,
     bounds: &Bounds,
     clash: Clash,
@@ -111,7 +111,7 @@ pub(crate) fn closing(
     let alloc = rows.alloc();
     let mut sum = Ending {
         used: Levels::one(place.level),
-        end: Vec::new(alloc),
+        end: Vec::with_capacity(alloc, 2)?,
     };
     if !sum.add_clash(Known { rows, bounds }, clash)? {
         return Ok(None);

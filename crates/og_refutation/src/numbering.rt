@@ -1,7 +1,7 @@
 //! The certificate of a refutation: its facts get their numbers.
 
+use crate::fault::Unwritten;
 use crate::proof::{Case, Line, Multiple, Name, Tree};
-use crate::stop::Stop;
 use og_cert_text::{Cert, CertStep, Finish, Source, Term};
 use og_inequalities::{Inequality, Place, Side, TOP};
 use og_linear::{Form, FormError};
@@ -53,29 +53,34 @@ fn term_of(starts: &Starts, count: usize, multiple: Multiple) -> Option<Term> {
     })
 }
 
-fn terms_of(starts: &Starts, count: usize, sum: &[Multiple]) -> Result<Vec<Term>, Stop> {
+fn terms_of(starts: &Starts, count: usize, sum: &[Multiple]) -> Result<Vec<Term>, Unwritten> {
     let mut terms = Vec::with_capacity(starts.alloc, sum.len())?;
     for multiple in sum {
-        terms.push(term_of(starts, count, *multiple).ok_or(Stop::Stuck)?)?;
+        terms.push(term_of(starts, count, *multiple).ok_or(Unwritten::TooLarge)?)?;
     }
     Ok(terms)
 }
 
-fn cut_of(starts: &Starts, count: usize, name: Name, divisor: u64) -> Option<CertStep> {
-    match source_of(starts, count, name)? {
-        Source::Known(number) => Some(CertStep::Cut(number, divisor)),
-        _ => None,
+fn cut_of(starts: &Starts, count: usize, name: Name, divisor: u64) -> Result<CertStep, Unwritten> {
+    match source_of(starts, count, name) {
+        Some(Source::Known(number)) => Ok(CertStep::Cut(number, divisor)),
+        _ => Err(Unwritten::TooLarge),
     }
 }
 
-fn step_of(starts: &Starts, count: usize, line: &Line) -> Result<CertStep, Stop> {
+fn step_of(starts: &Starts, count: usize, line: &Line) -> Result<CertStep, Unwritten> {
     match line {
         Line::Sum(sum) => Ok(CertStep::Sum(terms_of(starts, count, sum)?)),
-        Line::Cut { name, divisor } => cut_of(starts, count, *name, *divisor).ok_or(Stop::Stuck),
+        Line::Cut { name, divisor } => cut_of(starts, count, *name, *divisor),
     }
 }
 
-fn leaf_of(starts: &Starts, count: usize, lines: &[Line], end: &[Multiple]) -> Result<Cert, Stop> {
+fn leaf_of(
+    starts: &Starts,
+    count: usize,
+    lines: &[Line],
+    end: &[Multiple],
+) -> Result<Cert, Unwritten> {
     let mut steps = Vec::with_capacity(starts.alloc, lines.len())?;
     for line in lines {
         steps.push(step_of(starts, count, line)?)?;
@@ -95,27 +100,27 @@ fn form_of(alloc: Global, row: &Inequality) -> Result<Form, FormError> {
 }
 
 // The form of a branch.
-fn branch_form(alloc: Global, row: &Inequality) -> Result<Form, Stop> {
+fn branch_form(alloc: Global, row: &Inequality) -> Result<Form, Unwritten> {
     match form_of(alloc, row) {
         Ok(form) => Ok(form),
-        Err(FormError::Memory) => Err(Stop::Memory),
-        Err(FormError::Fault(_)) => Err(Stop::Stuck),
+        Err(FormError::Memory) => Err(Unwritten::Memory),
+        Err(FormError::Fault(_)) => Err(Unwritten::TooLarge),
     }
 }
 
 // The certificate of a refutation that comes after so many facts.
 #[cycle(numbering)]
-fn cert_of(tree: &Tree, count: usize, starts: &mut Starts) -> Result<Cert, Stop> {
+fn cert_of(tree: &Tree, count: usize, starts: &mut Starts) -> Result<Cert, Unwritten> {
     let alloc = starts.alloc;
     let finish = match tree {
         Tree::Leaf { lines, end } => return leaf_of(starts, count, lines, end),
         Tree::Split { choice, cases } => {
-            let number = starts.number(*choice).ok_or(Stop::Stuck)?;
+            let number = starts.number(*choice).ok_or(Unwritten::TooLarge)?;
             Finish::Split(number, certs_of(cases, count, starts)?)
         }
         Tree::Branch(sides) => {
             let form = branch_form(alloc, &sides.form)?;
-            let after = count.checked_add(1).ok_or(Stop::Stuck)?;
+            let after = count.checked_add(1).ok_or(Unwritten::TooLarge)?;
             starts.set(sides.level, count);
             let low = cert_of(&sides.first, after, starts)?;
             starts.set(sides.level, count);
@@ -130,10 +135,10 @@ fn cert_of(tree: &Tree, count: usize, starts: &mut Starts) -> Result<Cert, Stop>
 }
 
 #[cycle(numbering)]
-fn certs_of(cases: &[Case], count: usize, starts: &mut Starts) -> Result<Vec<Cert>, Stop> {
+fn certs_of(cases: &[Case], count: usize, starts: &mut Starts) -> Result<Vec<Cert>, Unwritten> {
     let mut certs = Vec::with_capacity(starts.alloc, cases.len())?;
     for case in cases {
-        let after = count.checked_add(case.count).ok_or(Stop::Stuck)?;
+        let after = count.checked_add(case.count).ok_or(Unwritten::TooLarge)?;
         starts.set(case.level, count);
         certs.push(cert_of(&case.tree, after, starts)?)?;
     }
@@ -141,7 +146,7 @@ fn certs_of(cases: &[Case], count: usize, starts: &mut Starts) -> Result<Vec<Cer
 }
 
 /// The certificate of a refutation of so many facts.
-pub(crate) fn certificate(alloc: Global, tree: &Tree, count: usize) -> Result<Cert, Stop> {
+pub fn certificate(alloc: Global, tree: &Tree, count: usize) -> Result<Cert, Unwritten> {
     let mut starts = Starts {
         alloc,
         starts: vec![in alloc; 0; TOP as usize + 1]?,

@@ -8,7 +8,7 @@ const LIFT_LIMIT: u32 = 70;
 
 /// A fact, an end of the range of `i64`, or a line of the same leaf.
 #[derive(Clone, Copy)]
-pub(crate) enum Name {
+pub enum Name {
     /// The fact at this place.
     Given(Place),
     /// That the variable is within the range of `i64` on this side.
@@ -19,29 +19,29 @@ pub(crate) enum Name {
 
 /// A multiple of what a name stands for.
 #[derive(Clone, Copy)]
-pub(crate) struct Multiple {
-    pub(crate) times: u64,
-    pub(crate) name: Name,
+pub struct Multiple {
+    pub times: u64,
+    pub name: Name,
 }
 
 /// A line that adds a fact.
 #[derive(Drop)]
-pub(crate) enum Line {
+pub enum Line {
     Sum(Vec<Multiple>),
     Cut { name: Name, divisor: u64 },
 }
 
 /// A refutation, and the levels of the facts that it uses.
 #[derive(Drop)]
-pub(crate) struct Proof {
-    pub(crate) used: Levels,
-    pub(crate) tree: Tree,
+pub struct Proof {
+    pub used: Levels,
+    pub tree: Tree,
 }
 
 /// How facts are refuted.
 #[cycle(proof)]
 #[derive(Drop)]
-pub(crate) enum Tree {
+pub enum Tree {
     /// Lines, and the sum that closes.
     Leaf {
         lines: Vec<Line>,
@@ -59,10 +59,10 @@ pub(crate) enum Tree {
 /// A part of a choice: its level, how many facts it has, and what refutes it.
 #[cycle(proof)]
 #[derive(Drop)]
-pub(crate) struct Case {
-    pub(crate) level: u32,
-    pub(crate) count: usize,
-    pub(crate) tree: Tree,
+pub struct Case {
+    pub level: u32,
+    pub count: usize,
+    pub tree: Tree,
 }
 
 /// A form that is at most 0, or at least 1, at this level, and what refutes either; whether the
@@ -70,21 +70,21 @@ pub(crate) struct Case {
 /// told one.
 #[cycle(proof)]
 #[derive(Drop)]
-pub(crate) struct Sides {
-    pub(crate) level: u32,
-    pub(crate) form: Inequality,
-    pub(crate) first: Tree,
-    pub(crate) second: Tree,
-    pub(crate) is_general: bool,
-    pub(crate) next: Option<usize>,
+pub struct Sides {
+    pub level: u32,
+    pub form: Inequality,
+    pub first: Tree,
+    pub second: Tree,
+    pub is_general: bool,
+    pub next: Option<usize>,
 }
 
 /// A form that is at most 0 by the condition's own facts, and the choice that shows it, if one was
 /// told.
 #[derive(Drop)]
-pub(crate) struct Lifted {
-    pub(crate) form: Inequality,
-    pub(crate) next: Option<usize>,
+pub struct Lifted {
+    pub form: Inequality,
+    pub next: Option<usize>,
 }
 
 impl Line {
@@ -139,7 +139,7 @@ impl Tree {
 
     /// Whether the tree, or one in which it goes on, is a branch whose second side needs the
     /// condition's own facts alone.
-    pub(crate) fn is_lifting(&self) -> bool {
+    pub fn is_lifting(&self) -> bool {
         let mut tree = self;
         for _ in 0..LIFT_LIMIT {
             if matches!(tree, Tree::Branch(sides) if sides.is_general) {
@@ -172,7 +172,7 @@ impl Tree {
     }
 
     /// The forms of the outermost of those branches, the last one first.
-    pub(crate) fn into_lifted(self, alloc: Global) -> Result<Vec<Lifted>, AllocError> {
+    pub fn into_lifted(self, alloc: Global) -> Result<Vec<Lifted>, AllocError> {
         let mut forms = Vec::new(alloc);
         let mut left = Some(self);
         for _ in 0..LIFT_LIMIT {
@@ -190,7 +190,7 @@ impl Tree {
     }
 
     /// The size of a leaf: its lines and multiples, and four for itself; 0 for other trees.
-    pub(crate) fn size(&self) -> u64 {
+    pub fn size(&self) -> u64 {
         match self {
             Tree::Leaf { lines, end } => size_of_lines(lines)
                 .saturating_add(end.len() as u64)

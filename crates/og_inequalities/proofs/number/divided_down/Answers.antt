@@ -1,7 +1,7 @@
 use mir.Syntax.{w128}
 use Rattle.std.proofs.lemmas.Int.{to_z-of_z}
 use Rattle.og_inequalities.proofs.Quotients.{floor_of}
-use Rattle.og_inequalities.proofs.number.floor_div.Goals as goal
+use Rattle.og_inequalities.proofs.number.divided_down.Goals as goal
 
 pub returns : goal.returns
 returns c =

@@ -1,0 +1,17 @@
+//! Refutations of facts: trees of choices and branches whose leaves are sums of facts, and their
+//! certificates.
+//!
+//! No contract promises anything of them: `og_find` checks a certificate before it hands it out.
+#![tactic(auto)]
+
+mod fault;
+mod leaves;
+mod numbering;
+mod proof;
+mod sight;
+
+pub use fault::Unwritten;
+pub use leaves::leaf;
+pub use numbering::certificate;
+pub use proof::{Case, Lifted, Line, Multiple, Name, Proof, Sides, Tree};
+pub use sight::closing;
