@@ -2,9 +2,7 @@
 
 ghost use Rattle.std.specs.Prelude.{◌≡◌, ◌≤◌, ◌^◌, length, IfOk};
 ghost use Rattle.og_parse.specs.TreeOf.{tree_of};
-ghost use Rattle.og_cond.specs.Conditions.{conditions};
 ghost use Rattle.og_readable.specs.Readable.{readable};
-ghost use Rattle.og_triples.specs.Triples.{triples_text};
 ghost use Rattle.og_erase.specs.Collected.{raw_of};
 ghost use Rattle.og_print.specs.Print.{program_text};
 ghost use Rattle.og_answer.specs.Told.{Says};
@@ -19,7 +17,7 @@ use og_readable::print_readable;
 use og_report::conditions_text;
 use og_smt::script;
 use og_source::Source;
-use og_triples::{TriplesError, all_triples};
+use og_triples::all_triples;
 use og_typed::Outline;
 use std::alloc::{AllocError, Global};
 
@@ -34,19 +32,6 @@ pub enum Form {
     Script,
 }
 
-// The conditions of an outline as triples.
-fn triples_text(alloc: Global, outline: &Outline, source: &[u8]) -> Result<Vec<u8>, ConditionsError>
-    requires { length source.now ≤ 2 ^ 20 }
-    ensures { IsText (triples_text outline.now.names source.now 1 (conditions outline.now)) outline.now result }
-{
-    match all_triples(alloc, outline, source) {
-        Ok(text) => Ok(text),
-        Err(TriplesError::TooMany(fault)) => Err(ConditionsError::Fault(fault)),
-        Err(TriplesError::Memory) => Err(ConditionsError::Memory),
-        Err(TriplesError::NoCondition(_)) => unreachable!(),
-    }
-}
-
 // The conditions of an outline in this form.
 fn text_in(
     alloc: Global,
@@ -59,7 +44,7 @@ fn text_in(
 {
     match form {
         Form::Facts => conditions_text(alloc, outline, source),
-        Form::Triples => triples_text(alloc, outline, source),
+        Form::Triples => all_triples(alloc, outline, source),
         Form::Script => script(alloc, outline, source),
     }
 }

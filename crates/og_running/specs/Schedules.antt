@@ -1,7 +1,6 @@
 -- Schedules: the processes that are to step, in order, by the numbers under which they are printed.
-use Rattle.std.specs.Prelude.{◌≡◌, ◌≢◌, ◌<◌, ◌≤◌, ◌-◌, ◌^◌, ◌==◌, ◌||◌, ℕ, Bool, false, if◌then◌else◌, nat_le, List, [], ◌∷◌, length, take, map, slice_get, Some, is_some}
-use Rattle.std.specs.List.{position_or_len, before_first, after_first}
-use Rattle.std.specs.Str.Parse.{IsNumeral, digits_value}
+use Rattle.std.specs.Prelude.{◌≡◌, ◌≢◌, ◌≤◌, ◌-◌, ◌==◌, ◌||◌, ℕ, Bool, false, if◌then◌else◌, nat_le, List, [], ◌∷◌, length, take, map, slice_get, Some, is_some}
+use Rattle.og_numbers.specs.Numbers.{AreNumbers}
 use Rattle.og_typed.specs.Syntax.{Program}
 use Rattle.og_board.specs.Runs.{Given}
 use Rattle.og_board.specs.Turns.{IsTurn}
@@ -10,23 +9,6 @@ use Rattle.og_running.specs.declared.hindrance.Hindrance.{Hindrance}
 use Rattle.og_running.specs.declared.hindrance.Hindrance.TheVariants as hindrances
 
 -- ---- as words
-
--- `,`
-abbrev pub is_comma : ℕ → Bool
-is_comma byte = byte == 44
-
--- one digit or more; the number has 32 bits
-pub record IsNumber (text : List ℕ) (n : ℕ) : Type 0 where
-  pub digits : IsNumeral 10 text
-  pub value : n ≡ digits_value 10 text
-  pub fits : n < 2 ^ 32
-
--- numbers with a comma between two
-abbrev pub AreNumbers : List ℕ → List ℕ → Type 0
-AreNumbers word [] = ⊥
-AreNumbers word (n ∷ []) = (position_or_len is_comma word ≡ length word) × IsNumber word n
-AreNumbers word (n ∷ m ∷ ns) =
-    (position_or_len is_comma word < length word) × IsNumber (before_first is_comma word) n × AreNumbers (after_first is_comma word) (m ∷ ns)
 
 -- no step by the empty word; else numbers, at most 1,000,000
 abbrev pub IsSchedule : List ℕ → List ℕ → Type 0

@@ -1,59 +1,16 @@
 //! Schedules, as words and as steps.
 
 ghost use Rattle.std.specs.Prelude.{◌≡◌, ◌<◌, ◌≤◌, ◌++◌, ◌∷◌, [], ℕ, List, true, false, length, map, slice_get, take, if◌then◌else◌, None, Some, IfOk, IfSome, IsNone, IfNone};
-ghost use Rattle.std.specs.List.{position_or_len, before_first, after_first};
-ghost use Rattle.og_running.specs.Schedules.{is_comma, IsNumber, AreNumbers, IsSchedule, number_of, is_printed, history_of, IsHindered, IsFirstHindered};
+ghost use Rattle.og_running.specs.Schedules.{IsSchedule, number_of, is_printed, history_of, IsHindered, IsFirstHindered};
 
 use crate::hindrance::Hindrance;
 use og_board::{Board, RunTurn};
+use og_numbers::numbers;
 use og_typed::Outline;
 use std::alloc::{AllocError, Global};
 
 // How many steps a schedule may have.
 const STEPS: usize = 1_000_000;
-
-// The number that a text writes: one digit or more.
-fn number(text: &str) -> Option<u32>
-    ensures some { IfSome result (IsNumber text.now) }
-    ensures none { IsNone result → (n : ℕ) → IsNumber text.now n → ⊥ }
-{
-    if text.as_bytes().first() == Some(&b'+') {
-        return None;
-    }
-    text.parse::<u32>().ok()
-}
-
-// The text before the first comma, and the text after it.
-fn parted(text: &str) -> Option<(&str, &str)>
-    ensures comma { IfSome result (λ _. position_or_len is_comma text.now < length text.now) }
-    ensures first { IfSome result (λ r. r.0.now ≡ before_first is_comma text.now) }
-    ensures others { IfSome result (λ r. r.1.now ≡ after_first is_comma text.now) }
-    ensures none { IsNone result → position_or_len is_comma text.now ≡ length text.now }
-{
-    text.split_once(',')
-}
-
-// The numbers of a text, with a comma between two.
-fn numbers(alloc: Global, word: &str) -> Result<Option<Vec<u32>>, AllocError>
-    ensures some { IfOk result (λ r. IfSome r (λ ns. AreNumbers word.now ns.items)) }
-    ensures only { IfOk result (λ r. IfSome r (λ ns. (all : List ℕ) → AreNumbers word.now all → all ≡ ns.items)) }
-    ensures none { IfOk result (λ r. IsNone r → (all : List ℕ) → AreNumbers word.now all → ⊥) }
-{
-    let mut steps = Vec::new(alloc);
-    let mut rest = word;
-    while let Some((first, others)) = parted(rest) {
-        let Some(step) = number(first) else {
-            return Ok(None);
-        };
-        steps.push(step)?;
-        rest = others;
-    }
-    let Some(step) = number(rest) else {
-        return Ok(None);
-    };
-    steps.push(step)?;
-    Ok(Some(steps))
-}
 
 /// The steps that a word names: none by the empty word, else numbers with a comma between two.
 /// `None` where it names none, or more than 1,000,000.

@@ -138,9 +138,13 @@ module _ (names : List (List ℕ)) where
   variables_lines x [] = []
   variables_lines x (name ∷ later) = variable_lines x & variables_lines (suc x) later
 
+  -- what stands before the conditions
+  abbrev pub opening_text : List ℕ
+  opening_text = prelude_text & variables_lines 0 names
+
   -- the whole script
   abbrev pub script_text : List ℕ → List Condition → List ℕ
-  script_text source cs = prelude_text & variables_lines 0 names & conditions_lines source 1 cs
+  script_text source cs = opening_text & conditions_lines source 1 cs
 
 -- the script; or that there are too many conditions; or memory ran out
 abbrev pub IsScript : ℕ → Program → List ℕ → Result (Vec ℕ Global) ConditionsError → Type 0

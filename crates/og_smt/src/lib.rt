@@ -9,4 +9,4 @@ mod hypotheses;
 mod terms;
 mod whole;
 
-pub use whole::script;
+pub use whole::{opening, put_condition, script};

@@ -3,7 +3,7 @@
 ghost use Rattle.std.specs.Prelude.{◌≡◌, ◌≤◌, ◌<◌, ◌^◌, ◌++◌, length, map, IfOk, OnOk};
 ghost use Rattle.og_cond.specs.Limits.{condition_limit};
 ghost use Rattle.og_cond.specs.Seen.{seen};
-ghost use Rattle.og_smt.specs.Script.{prelude_text, ending_text, asked_lines, condition_lines, conditions_lines, declared_line, range_line, variable_lines, variables_lines, IsScript};
+ghost use Rattle.og_smt.specs.Script.{prelude_text, ending_text, asked_lines, condition_lines, conditions_lines, declared_line, range_line, variable_lines, variables_lines, opening_text, IsScript};
 
 use crate::goals::{put_goal, put_range};
 use crate::hypotheses::put_hypotheses;
@@ -42,7 +42,14 @@ fn put_asked(text: &mut Vec<u8>, names: &[Name], condition: &Condition) -> Resul
     put_ending(text)
 }
 
-fn put_condition(
+/// Adds a condition with this number to the text: between `push` and `pop` a comment that gives its
+/// number, its kind and its places, what it starts from, that what it claims is false, and the
+/// question.
+///
+/// # Errors
+///
+/// An allocation was refused; the text has what it had, and perhaps a part of this.
+pub fn put_condition(
     text: &mut Vec<u8>,
     names: &[Name],
     places: &Places,
@@ -109,6 +116,20 @@ fn put_variables(text: &mut Vec<u8>, names: &[Name]) -> Result<(), AllocError>
     Ok(())
 }
 
+/// What stands before the conditions: the logic, and the variables with these names and their ranges.
+///
+/// # Errors
+///
+/// An allocation was refused.
+pub fn opening(alloc: Global, names: &[Name]) -> Result<Vec<u8>, AllocError>
+    requires { length names.now ≤ 256 }
+    ensures { IfOk result (λ text. text.items ≡ opening_text names.now) }
+{
+    let mut text = prelude(alloc)?;
+    put_variables(&mut text, names)?;
+    Ok(text)
+}
+
 /// The conditions of an outline as a script in SMT-LIB 2, in order, each between `push` and `pop`
 /// with a comment that gives its number, its kind and its places. A condition is true exactly where
 /// the answer to its `check-sat` is `unsat`; the last one is about blocking. A variable `x` is `$x`.
@@ -126,8 +147,7 @@ pub fn script(alloc: Global, outline: &Outline, source: &[u8]) -> Result<Vec<u8>
     outline.follows_rule();
     let conditions = conditions(alloc, outline)?;
     let places = Places::new(alloc, source)?;
-    let mut text = prelude(alloc)?;
-    put_variables(&mut text, outline.names())?;
+    let mut text = opening(alloc, outline.names())?;
     put_conditions(&mut text, outline.names(), &places, &conditions)?;
     Ok(text)
 }

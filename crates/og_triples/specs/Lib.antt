@@ -1,3 +1,2 @@
 pub mod Triples
-pub mod Chosen
-pub mod From
+pub mod Listed

@@ -55,8 +55,13 @@ fn put_lines(text: &mut Vec<u8>, names: &[Name], condition: &Condition) -> Resul
     text.extend_from_slice(b"\n")
 }
 
-/// Adds a condition with this number to the text.
-pub(crate) fn put_triple(
+/// Adds a condition with this number to the text: its number, its kind and its places, and then the
+/// assertion before, the statement and the assertion after, a line each.
+///
+/// # Errors
+///
+/// An allocation was refused; the text has what it had, and perhaps a part of this.
+pub fn put_triple(
     text: &mut Vec<u8>,
     names: &[Name],
     places: &Places,

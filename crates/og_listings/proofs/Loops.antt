@@ -1,0 +1,68 @@
+-- The loops over the conditions of a group, over groups, and over numbers.
+use Rattle.std.proofs.Common.{◌≡◌, ◌++◌, ◌∙◌, ℕ, suc, ◌+◌, ◌<◌, List, [], ◌∷◌, length, drop, get_or, map, Bool, true, false, cond, ◌&&◌, Some, None, refl, ap, ap₂, sym, append_assoc, drop-cons, add-one, arith}
+use Rattle.std.proofs.lemmas.List.{length-append, length-map}
+use Rattle.std.specs.Prelude.{not, find}
+use Rattle.std.specs.List.{list_all}
+use Rattle.og_cond.specs.Condition as plain
+use Rattle.og_cond.specs.declared.condition.Condition.{Condition}
+use Rattle.og_cond.specs.Seen.{seen}
+use Rattle.og_engine.specs.declared.commands.Form.{Form}
+use Rattle.og_listings.specs.Listings.{wanted_text, wanted_lines}
+
+module _ (form : Form) (numbers : List ℕ) (names : List (List ℕ)) (source : List ℕ) where
+  abbrev lines : ℕ → List plain.Condition → List ℕ
+  lines = wanted_lines form numbers names source
+
+  -- ---- a condition more of a group
+
+  pub more_wanted : (before after whole : List ℕ) (all : List Condition) (i n : ℕ) (x : Condition) → i < length all → x ≡ get_or all i x → after ≡ before ++ wanted_text form numbers names source n (seen x)
+      → before ++ wanted_lines form numbers names source n (map seen (drop i all)) ≡ whole → after ++ wanted_lines form numbers names source (n + 1) (map seen (drop (i + 1) all)) ≡ whole
+  more_wanted before after whole all i n x h is made e =
+      let later = lines (n + 1) (map seen (drop (i + 1) all)) in
+      let here : lines n (map seen (drop i all)) ≡ wanted_text form numbers names source n (seen x) ++ later =
+      ap (λ l. lines n (map seen l)) (drop-cons all i x h)
+      ∙ ap (λ y. wanted_text form numbers names source n (seen y) ++ lines (suc n) (map seen (drop (suc i) all))) (sym is)
+      ∙ ap₂ (λ m k. wanted_text form numbers names source n (seen x) ++ lines m (map seen (drop k all))) (sym (add-one n)) (sym (add-one i)) in
+      ap (λ l. l ++ later) made ∙ append_assoc before (wanted_text form numbers names source n (seen x)) later ∙ ap (λ l. before ++ l) (sym here) ∙ e
+
+  -- ---- a group more
+
+  wanted-append : (n m : ℕ) (xs ys : List plain.Condition) → m ≡ n + length xs → lines n (xs ++ ys) ≡ lines n xs ++ lines m ys
+  wanted-append n m [] ys e = let same : n ≡ m = omega (arith, e) in ap (λ k. lines k ys) same
+  wanted-append n m (x ∷ xs) ys e =
+      let next : m ≡ suc n + length xs = omega (arith, e) in
+      ap (λ l. wanted_text form numbers names source n x ++ l) (wanted-append (suc n) m xs ys next)
+      ∙ sym (append_assoc (wanted_text form numbers names source n x) (lines (suc n) xs) (lines m ys))
+
+  pub more_groups : (before after whole : List ℕ) (n m : ℕ) (old group new : List plain.Condition) → old ≡ group ++ new → m ≡ n + length group → after ≡ before ++ wanted_lines form numbers names source n group
+      → before ++ wanted_lines form numbers names source n old ≡ whole → after ++ wanted_lines form numbers names source m new ≡ whole
+  more_groups before after whole n m old group new is counted made e =
+      ap (λ l. l ++ lines m new) made
+      ∙ append_assoc before (lines n group) (lines m new)
+      ∙ ap (λ l. before ++ l) (sym (wanted-append n m group new counted))
+      ∙ ap (λ l. before ++ lines n l) (sym is)
+      ∙ e
+
+-- ---- how many conditions are to come
+
+pub counted : (old new : List plain.Condition) (group : List Condition) → old ≡ map seen group ++ new → length old ≡ length group + length new
+counted old new group is = ap length is ∙ length-append (map seen group) new ∙ ap (λ k. k + length new) (length-map group seen)
+
+-- ---- numbers that are all those of conditions
+
+pub none_other : (p : ℕ → Bool) (ns : List ℕ) → find (λ m. not (p m)) ns ≡ None → list_all p ns ≡ true
+none_other p [] e = refl
+none_other p (n ∷ ns) e = go (p n) (none_other p ns) e
+  where
+    go : (b : Bool) → (find (λ m. not (p m)) ns ≡ None → list_all p ns ≡ true) → cond (not b) (Some n) (find (λ m. not (p m)) ns) ≡ None → (b && list_all p ns) ≡ true
+    go true later h = later h
+    go false later h = absurd cc
+
+-- ---- five pieces
+
+pub five : (t1 t2 t3 t4 t5 a b c d e : List ℕ) → t1 ≡ a → t2 ≡ t1 ++ b → t3 ≡ t2 ++ c → t4 ≡ t3 ++ d → t5 ≡ t4 ++ e → t5 ≡ a ++ (b ++ (c ++ (d ++ e)))
+five t1 t2 t3 t4 t5 a b c d e e1 e2 e3 e4 e5 =
+    e5 ∙ ap (λ l. l ++ e) (e4 ∙ ap (λ l. l ++ d) (e3 ∙ ap (λ l. l ++ c) (e2 ∙ ap (λ l. l ++ b) e1)))
+    ∙ append_assoc ((a ++ b) ++ c) d e
+    ∙ append_assoc (a ++ b) c (d ++ e)
+    ∙ append_assoc a b (c ++ (d ++ e))

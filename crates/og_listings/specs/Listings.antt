@@ -1,0 +1,41 @@
+-- Listings of some conditions, in each form.
+use Rattle.std.specs.Prelude.{ℕ, suc, Bool, ◌==◌, if◌then◌else◌, List, [], ◌∷◌}
+use Rattle.std.specs.List.{list_any}
+use Rattle.og_typed.specs.Syntax.{Program}
+use Rattle.og_cond.specs.Condition.{Condition}
+use Rattle.og_cond.specs.Conditions.{conditions}
+use Rattle.og_listing.specs.Listing as facts
+use Rattle.og_listing.specs.Places.{◌&◌}
+use Rattle.og_smt.specs.Script as script
+use Rattle.og_triples.specs.Triples.{triple_text}
+use Rattle.og_engine.specs.declared.commands.Form.{Form}
+use Rattle.og_engine.specs.declared.commands.Form.TheVariants as forms
+
+-- what stands before the conditions
+abbrev pub opening_text : Form → List (List ℕ) → List ℕ
+opening_text forms.Facts names = []
+opening_text forms.Triples names = []
+opening_text forms.Script names = script.opening_text names
+
+-- a condition with its number: with its facts, as a triple, or as a part of a script
+abbrev pub condition_text : Form → List (List ℕ) → List ℕ → ℕ → Condition → List ℕ
+condition_text forms.Facts names source n c = facts.condition_lines names source n c
+condition_text forms.Triples names source n c = triple_text names source n c
+condition_text forms.Script names source n c = script.condition_lines names source n c
+
+-- this number is asked for
+abbrev pub is_wanted : List ℕ → ℕ → Bool
+is_wanted numbers n = list_any (λ m. m == n) numbers
+
+module _ (form : Form) (numbers : List ℕ) (names : List (List ℕ)) (source : List ℕ) where
+  abbrev pub wanted_text : ℕ → Condition → List ℕ
+  wanted_text n c = if is_wanted numbers n then condition_text form names source n c else []
+
+  -- those of these conditions that are asked for; the first one has this number
+  abbrev pub wanted_lines : ℕ → List Condition → List ℕ
+  wanted_lines n [] = []
+  wanted_lines n (c ∷ cs) = wanted_text n c & wanted_lines (suc n) cs
+
+-- the listing of an outline's conditions without those that are not asked for
+abbrev pub chosen_text : Form → List ℕ → Program → List ℕ → List ℕ
+chosen_text form numbers o source = opening_text form o.names & wanted_lines form numbers o.names source 1 (conditions o)
