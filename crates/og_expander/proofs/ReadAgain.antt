@@ -14,6 +14,10 @@ pub outline_text_again : (text : List ℕ) (tree again : Outline) (tokens : List
 outline_text_again text tree again tokens o printed cut is outline =
     record { tree = tree; printed = printed; outline = o; source = record { tokens = tokens; tree = again; cut = cut; parsed = is.parsed; few = is.few; outline = outline }; same = is.same }
 
+pub source_again : (text : List ℕ) (tree again : Outline) (tokens : List Token) (o : Program) → AreTokensOf text tokens → IsAgain tree tokens again → resolved again ≡ Ok o → IsSource text o
+source_again text tree again tokens o cut is outline =
+    record { tokens = tokens; tree = again; cut = cut; parsed = is.parsed; few = is.few; outline = outline }
+
 -- such a text is within the limit
 pub outline_text_short : (text : List ℕ) → IsOutlineText text → length text ≤ 2 ^ 20
 outline_text_short text is = is.source.cut.short

@@ -1,5 +1,5 @@
 -- What is promised of an answer.
-use Rattle.std.specs.Prelude.{◌≡◌, ℕ, ◌≤◌, ◌⊎◌, List, [], Bool, true, false, ◌++◌, Some, Contains, codes, if◌then◌else◌}
+use Rattle.std.specs.Prelude.{◌≡◌, ℕ, ◌≤◌, ◌^◌, ◌⊎◌, length, List, [], Bool, true, false, ◌++◌, Some, Contains, codes, if◌then◌else◌}
 use Rattle.og_text.specs.declared.token.Token.{Token}
 use Rattle.og_parse.specs.Trees.{Outline}
 use Rattle.og_parse.specs.Grammar.{IsOutline}
@@ -18,6 +18,8 @@ use Rattle.og_template_words.specs.Front.{is_template}
 use Rattle.og_expander.specs.Faults.{number_of_fault, name_of_fault}
 use Rattle.og_expander.specs.declared.fault.ExpandFault.{ExpandFault}
 use Rattle.og_expander.specs.declared.fault.ExpandFault.TheVariants as faults
+use Rattle.og_expander.specs.declared.expanding.Expansion.{Expansion}
+use Rattle.og_expander.specs.declared.expanding.Expansion.TheVariants as expansions
 use Rattle.og_expander.specs.declared.expanding.Reply.{Reply}
 use Rattle.og_expander.specs.declared.expanding.Reply.TheVariants as replies
 
@@ -57,6 +59,12 @@ fault_line source faults.NotReadBack = unplaced_line (number_of_fault faults.Not
 -- the line of this fault, with status 2
 abbrev pub IsTold : List ℕ → ExpandFault → Answer → Type 0
 IsTold source fault a = Says (fault_line source fault) 2 a
+
+-- what a template of at most 2^20 bytes means: the text of an outline, and the outline; or the line of a fault
+abbrev pub IsExpansion : List ℕ → List (List ℕ) → Expansion → Type 0
+IsExpansion text words (expansions.Outline printed o rows) = (length text ≤ 2 ^ 20) × IsOutlineText printed.items × IsSource printed.items o
+IsExpansion text words (expansions.Refused a fault) = IsTold text fault a
+IsExpansion text words (expansions.BadValue word) = Contains words word.now
 
 pub record HasOutline (text : List ℕ) : Type 0 where
   pub outline : Program

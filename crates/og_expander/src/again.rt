@@ -5,10 +5,11 @@ ghost use Rattle.og_text.specs.Cut.{AreTokensOf};
 ghost use Rattle.og_parse.specs.TreeOf.{tree_of};
 ghost use Rattle.og_print.specs.Print.{outline_text};
 ghost use Rattle.og_typed.specs.Resolved.{resolved};
+ghost use Rattle.og_source.specs.Source.{IsSource};
 ghost use Rattle.og_expander.specs.Expanded.{IsOutlineText, IsAgain};
 
 use crate::fault::Unread;
-use crate::places::places;
+use crate::places::{Part, parts};
 use og_parse::{ParseError, Raw, parse};
 use og_same_tree::same_tree;
 use og_text::{LexError, LexFault, Token, lex};
@@ -53,16 +54,23 @@ fn outline_of(alloc: Global, raw: Raw) -> Result<Outline, Unread>
     }
 }
 
-/// Asks that the text of a tree is that of an outline, and its tree is this one apart from the places;
-/// the places of its notes and statements.
-pub(crate) fn read_again(alloc: Global, text: &[u8], raw: &Raw) -> Result<Vec<u32>, Unread>
+/// What a text was read as.
+#[derive(Drop)]
+pub(crate) struct Again {
+    /// The notes and statements.
+    pub(crate) parts: Vec<Part>,
+    pub(crate) outline: Outline,
+}
+
+/// Asks that the text of a tree is that of an outline, and its tree is this one apart from the places.
+pub(crate) fn read_again(alloc: Global, text: &[u8], raw: &Raw) -> Result<Again, Unread>
     requires { text.now ≡ outline_text (tree_of raw.now) }
-    ensures { IfOk result (λ _. IsOutlineText text.now) }
+    ensures text { IfOk result (λ _. IsOutlineText text.now) }
+    ensures outline { IfOk result (λ again. IsSource text.now again.outline) }
 {
     let tokens = tokens_of(alloc, text)?;
     let again = tree_again(alloc, &tokens, raw)?;
-    let places = places(alloc, &again)?;
+    let parts = parts(alloc, &again)?;
     let outline = outline_of(alloc, again)?;
-    drop(outline);
-    Ok(places)
+    Ok(Again { parts, outline })
 }

@@ -3,15 +3,17 @@
 ghost use Rattle.std.specs.Prelude.{◌≤◌, ◌^◌, [], length, map, IfOk, if◌then◌else◌};
 ghost use Rattle.og_template_words.specs.Front.{is_template};
 ghost use Rattle.og_answer.specs.Told.{Says};
-ghost use Rattle.og_expander.specs.Expanded.{HasOutline, IsTold, IsOfOutline, IsOfTemplate, IsReply};
+ghost use Rattle.og_expander.specs.Expanded.{HasOutline, IsExpansion, IsOutlineText, IsPrinted, IsTold, IsOfOutline, IsOfTemplate, IsReply};
 
 use crate::fault::{ExpandError, ExpandFault, Refusal};
 use crate::line::fault_line;
+use crate::rows::{Rows, rows_text};
 use crate::template::of_text;
 use og_answer::Answer;
 use og_source::Source;
 use og_template_words::is_template;
 use og_text::{LexFault, SOURCE_LIMIT};
+use og_typed::Outline;
 use std::alloc::{AllocError, Global};
 
 /// What comes of expanding a text.
@@ -20,6 +22,17 @@ pub enum Reply<'a> {
     /// What is printed, and the status.
     Answer(Answer),
     /// The line of this fault of a template, and the status.
+    Refused(Answer, ExpandFault),
+    /// The first word that gives no constant a value.
+    BadValue(&'a str),
+}
+
+/// What a template means.
+#[derive(Debug, Drop)]
+pub enum Expansion<'a> {
+    /// The text of its outline, the outline, and where the parts of that come from.
+    Outline(Vec<u8>, Outline, Rows),
+    /// The line of this fault of the template, with status 2.
     Refused(Answer, ExpandFault),
     /// The first word that gives no constant a value.
     BadValue(&'a str),
@@ -83,18 +96,60 @@ fn refused(alloc: Global, fault: &ExpandFault, text: &[u8]) -> Result<Answer, Al
     Ok(Answer { text, status: 2 })
 }
 
-// The reply to a text that is too long.
-fn too_long<'a>(
-    alloc: Global,
-    text: &[u8],
-    words: &[&'a str],
-    is_map: bool,
-) -> Result<Reply<'a>, AllocError>
-    ensures { IfOk result (IsOfTemplate is_map text.now (map (λ w. w.now) words.now)) }
+// The refusal of a text that is too long.
+fn too_long<'a>(alloc: Global, text: &[u8], words: &[&'a str]) -> Result<Expansion<'a>, AllocError>
+    ensures { IfOk result (IsExpansion text.now (map (λ w. w.now) words.now)) }
 {
     let fault = ExpandFault::Words(LexFault::SourceTooLong);
     let answer = refused(alloc, &fault, &[])?;
-    Ok(Reply::Refused(answer, fault))
+    Ok(Expansion::Refused(answer, fault))
+}
+
+/// The outline that a template means, where constants have the values that the words give, each
+/// NAME=INT, with its text, and where its notes and statements come from. `Refused` holds the line of a
+/// fault with status 2, and the fault; `BadValue` the first word that gives no constant a value.
+///
+/// # Errors
+///
+/// An allocation was refused.
+pub fn expand_template<'a>(
+    alloc: Global,
+    text: &[u8],
+    words: &[&'a str],
+) -> Result<Expansion<'a>, AllocError>
+    ensures { IfOk result (IsExpansion text.now (map (λ w. w.now) words.now)) }
+{
+    if SOURCE_LIMIT < text.len() {
+        return too_long(alloc, text, words);
+    }
+    match of_text(alloc, text, words) {
+        Ok(printed) => Ok(Expansion::Outline(printed.text, printed.outline, printed.rows)),
+        Err(Refusal::BadValue(word)) => Ok(Expansion::BadValue(word)),
+        Err(Refusal::Failed(ExpandError::Fault(fault))) => {
+            let answer = refused(alloc, &fault, text)?;
+            Ok(Expansion::Refused(answer, fault))
+        }
+        Err(Refusal::Failed(ExpandError::Memory)) => Err(AllocError),
+    }
+}
+
+// The text of the outline, or the map.
+#[tactic(auto, using(crate::proofs::ReadAgain::outline_text_short))]
+fn shown(
+    alloc: Global,
+    source: &[u8],
+    text: Vec<u8>,
+    rows: &Rows,
+    is_map: bool,
+) -> Result<Vec<u8>, AllocError>
+    requires short { length source.now ≤ 2 ^ 20 }
+    requires outline { IsOutlineText text.items }
+    ensures { IfOk result (λ shown. IsPrinted is_map shown.items) }
+{
+    if is_map {
+        return rows_text(alloc, source, &text, rows);
+    }
+    Ok(text)
 }
 
 // The reply for a template.
@@ -106,17 +161,14 @@ fn of_template<'a>(
 ) -> Result<Reply<'a>, AllocError>
     ensures { IfOk result (IsOfTemplate is_map text.now (map (λ w. w.now) words.now)) }
 {
-    if SOURCE_LIMIT < text.len() {
-        return too_long(alloc, text, words, is_map);
-    }
-    match of_text(alloc, text, words, is_map) {
-        Ok(text) => Ok(Reply::Answer(Answer { text, status: 0 })),
-        Err(Refusal::BadValue(word)) => Ok(Reply::BadValue(word)),
-        Err(Refusal::Failed(ExpandError::Fault(fault))) => {
-            let answer = refused(alloc, &fault, text)?;
-            Ok(Reply::Refused(answer, fault))
+    match expand_template(alloc, text, words)? {
+        Expansion::Outline(printed, outline, rows) => {
+            drop(outline);
+            let text = shown(alloc, text, printed, &rows, is_map)?;
+            Ok(Reply::Answer(Answer { text, status: 0 }))
         }
-        Err(Refusal::Failed(ExpandError::Memory)) => Err(AllocError),
+        Expansion::Refused(answer, fault) => Ok(Reply::Refused(answer, fault)),
+        Expansion::BadValue(word) => Ok(Reply::BadValue(word)),
     }
 }
 

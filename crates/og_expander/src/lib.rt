@@ -13,5 +13,6 @@ mod rows;
 mod template;
 mod words;
 
-pub use expanding::{Reply, expanded};
+pub use expanding::{Expansion, Reply, expand_template, expanded};
 pub use fault::ExpandFault;
+pub use rows::{Row, Rows};

@@ -1,31 +1,41 @@
 //! Printing an expanded tree.
 
 ghost use Rattle.std.specs.Prelude.{IfOk};
+ghost use Rattle.og_source.specs.Source.{IsSource};
 ghost use Rattle.og_expander.specs.Expanded.{IsOutlineText};
 
 use crate::again::read_again;
 use crate::fault::ExpandError;
-use og_parse::Raw;
+use crate::places::parts;
+use crate::rows::{Rows, rows};
+use og_expand::Expanded;
 use og_print::print_outline;
-use og_typed::resolve;
+use og_typed::{Outline, resolve};
 use std::alloc::Global;
 
-/// The text of an outline, and the places of its notes and statements.
+/// An outline with its text, and where its notes and statements come from.
 #[derive(Drop)]
 pub(crate) struct Printed {
     pub(crate) text: Vec<u8>,
-    pub(crate) places: Vec<u32>,
+    pub(crate) outline: Outline,
+    pub(crate) rows: Rows,
 }
 
-/// The text of a tree, which is that of an outline.
-pub(crate) fn print(alloc: Global, raw: Raw) -> Result<Printed, ExpandError>
-    ensures { IfOk result (λ p. IsOutlineText p.text.items) }
+/// The outline of an expanded tree, which is that of its text.
+pub(crate) fn print(alloc: Global, expanded: Expanded<'_>) -> Result<Printed, ExpandError>
+    ensures text { IfOk result (λ p. IsOutlineText p.text.items) }
+    ensures outline { IfOk result (λ p. IsSource p.text.items p.outline) }
 {
+    let Expanded { raw, origins } = expanded;
     let text = print_outline(alloc, &raw)?;
     let again = read_again(alloc, &text, &raw);
+    let mut parts = parts(alloc, &raw)?;
     drop(resolve(alloc, raw)?);
+    let again = again?;
+    let rows = rows(alloc, &again.parts, &mut parts, &origins)?;
     Ok(Printed {
         text,
-        places: again?,
+        outline: again.outline,
+        rows,
     })
 }

@@ -1,55 +1,98 @@
-//! The map from places of the outline to places of its template.
+//! Where the parts of an expanded outline come from.
 
 ghost use Rattle.std.specs.Prelude.{◌≤◌, ◌^◌, length};
 
-use crate::printing::Printed;
+use crate::places::Part;
 use og_expand::{Binding, Origin};
 use og_listing::{Places, put_position};
 use std::alloc::{AllocError, Global};
+use std::collections::BTreeMap;
+use std::mem;
 
-// Adds ` NAME=INT` for each binding.
-fn put_instance(text: &mut Vec<u8>, instance: &[Binding<'_>]) -> Result<(), AllocError> {
+/// Where a note, a statement or `cobegin` of an expanded outline comes from.
+#[derive(Debug, Drop)]
+pub struct Row {
+    /// The byte offset in the template.
+    pub from: u32,
+    /// ` NAME=INT` for each bound name round it, from the outside.
+    pub instance: Vec<u8>,
+    /// The byte offset in the template of the first relation of each conjunct of a note, where the
+    /// conjunct has one.
+    pub conjuncts: Vec<Option<u32>>,
+}
+
+/// The rows of an expanded outline, by byte offsets in its text.
+pub type Rows = BTreeMap<u32, Row>;
+
+// ` NAME=INT` for each binding.
+fn instance_of(alloc: Global, instance: &[Binding<'_>]) -> Result<Vec<u8>, AllocError> {
+    let mut text = Vec::new(alloc);
     for binding in instance {
         let value = binding.value;
-        let number = format!(in *text.allocator(); "={value}")?;
+        let number = format!(in alloc; "={value}")?;
         text.extend_from_slice(b" ")?;
         text.extend_from_slice(binding.name)?;
         text.extend_from_slice(number.as_bytes())?;
     }
-    Ok(())
+    Ok(text)
 }
 
-// Adds a row.
+// The row of a part of the expanded tree.
+fn row_of(alloc: Global, part: &mut Part, origin: &Origin<'_>) -> Result<Row, AllocError> {
+    Ok(Row {
+        from: origin.span.start,
+        instance: instance_of(alloc, &origin.instance)?,
+        conjuncts: mem::replace(&mut part.conjuncts, Vec::new(alloc)),
+    })
+}
+
+/// The rows of an outline: its parts, those of the expanded tree, and their origins, in the order of
+/// the text.
+pub(crate) fn rows(
+    alloc: Global,
+    printed: &[Part],
+    expanded: &mut [Part],
+    origins: &[Origin<'_>],
+) -> Result<Rows, AllocError> {
+    let mut rows = Rows::new(alloc);
+    for ((at, part), origin) in printed.iter().zip(expanded.iter_mut()).zip(origins) {
+        let row = row_of(alloc, part, origin)?;
+        rows.insert(at.at, row)?;
+    }
+    Ok(rows)
+}
+
+// Adds a row as it is printed.
 fn put_row(
     text: &mut Vec<u8>,
     places: &Places,
     at: u32,
     template: &Places,
-    origin: &Origin<'_>,
+    row: &Row,
 ) -> Result<(), AllocError> {
     put_position(text, places.position(at))?;
     text.extend_from_slice(b" ")?;
-    put_position(text, template.position(origin.span.start))?;
-    put_instance(text, &origin.instance)?;
+    put_position(text, template.position(row.from))?;
+    text.extend_from_slice(&row.instance)?;
     text.extend_from_slice(b"\n")
 }
 
-/// A row for each note and statement: its place in the outline, its place in the template, and the
-/// values of the bound names round it.
-pub(crate) fn rows(
+/// The rows as they are printed: each with its place in the outline, its place in the template, and
+/// the values of the bound names round it.
+pub(crate) fn rows_text(
     alloc: Global,
     source: &[u8],
-    printed: &Printed,
-    origins: &[Origin<'_>],
+    outline: &[u8],
+    rows: &Rows,
 ) -> Result<Vec<u8>, AllocError>
     requires template { length source.now ≤ 2 ^ 20 }
-    requires outline { length printed.now.text.items ≤ 2 ^ 20 }
+    requires outline { length outline.now ≤ 2 ^ 20 }
 {
     let template = Places::new(alloc, source)?;
-    let places = Places::new(alloc, &printed.text)?;
+    let places = Places::new(alloc, outline)?;
     let mut text = Vec::new(alloc);
-    for (at, origin) in printed.places.iter().zip(origins) {
-        put_row(&mut text, &places, *at, &template, origin)?;
+    for (at, row) in rows {
+        put_row(&mut text, &places, *at, &template, row)?;
     }
     Ok(text)
 }
