@@ -124,7 +124,7 @@ impl Form {
     }
 
     // The sum of a form without variables and the other one.
-    fn constant_plus(&self, other: Form) -> Result<Form, FormError>
+    fn offset_plus(&self, other: Form) -> Result<Form, FormError>
         requires { self.now.terms ≡ [] }
         ensures { IsAnswer (λ f. f) faults.TooLarge result (checked (arith.plus self.now other)) }
     {
@@ -145,7 +145,7 @@ impl Form {
     {
         let own = other.scaled(k)?;
         let sum = if self.terms.len() == 0 {
-            self.constant_plus(own)?
+            self.offset_plus(own)?
         } else {
             self.plus(&own)?
         };
