@@ -1,9 +1,9 @@
 -- The text of lines.
-use Rattle.std.proofs.Common.{◌≡◌, ℕ, zero, suc, ◌+◌, ℤ, List, [], ◌∷◌, ◌++◌, map, length, drop, Vec, Global, Some, None, Result, Ok, Err, ◌<◌, arith, refl, ap, sym, ◌∙◌, append_assoc, add-one, drop-cons}
+use Rattle.std.proofs.Common.{◌≡◌, ℕ, zero, suc, ◌+◌, ℤ, List, [], ◌∷◌, ◌++◌, map, length, drop, get_or, Vec, Global, Some, None, Result, Ok, Err, ◌<◌, arith, refl, ap, sym, ◌∙◌, append_assoc, add-one, drop-cons}
 use Rattle.std.specs.Prelude.{slice_get}
 use Rattle.std.proofs.lemmas.Option.{get_or_from_slice_get, slice_get_within}
 use Rattle.og_linear.specs.Linear.{Terms}
-use Rattle.std.proofs.lemmas.List.{length-map}
+use Rattle.std.proofs.lemmas.List.{length-map, map-append}
 use Rattle.og_cert_text.specs.declared.cert.Cert.{Cert}
 use Rattle.og_cert_text.specs.declared.cert.Finish.{Finish}
 use Rattle.og_cert_text.specs.declared.cert.Finish.TheViews as its
@@ -14,6 +14,7 @@ use Rattle.og_cert_text.specs.Shallow.{cert_lines, certs_lines}
 use Rattle.std.specs.Result.{OnOk}
 use Rattle.og_cert_text.specs.Files.{Entries}
 use Rattle.og_cert_text.specs.Rising.{above}
+use Rattle.og_cert_text.specs.Stored.{placed}
 use Rattle.og_cert_text.specs.Listing.{Whole, listing_lines, lines_text}
 use Rattle.og_cert_text.proofs.Plains.{steps_lines, plain_split, count_list}
 
@@ -82,3 +83,33 @@ put_next es last n c t0 t1 whole next e h =
 
 pub above_less : (es : Entries) (last n : ℕ) (c : tree.Cert) → above last es ≡ (n, c) ∷ above n es → length (above n es) < length (above last es)
 above_less es last n c next = let e = ap length next in omega (arith, e)
+
+-- ---- the lines of certificates, each made once
+
+abbrev pub text_of : Cert → List ℕ
+text_of c = lines_text (cert_lines (plain_cert c))
+
+abbrev items_of : Vec ℕ Global → List ℕ
+items_of v = v.items
+
+-- those of one more
+pub one_made : (cs : List Cert) (all new : List (Vec ℕ Global)) (lines : Vec ℕ Global) (i : ℕ) (c : Cert) → i < length cs → c ≡ get_or cs i c → lines.items ≡ text_of c → new ≡ all ++ lines ∷ []
+    → map (λ v. v.items) all ++ map text_of (drop i cs) ≡ map text_of cs → map (λ v. v.items) new ++ map text_of (drop (i + 1) cs) ≡ map text_of cs
+one_made cs all new lines i c h is made e inv =
+    let at : drop i cs ≡ c ∷ drop (i + 1) cs = drop-cons cs i c h ∙ ap (λ k. get_or cs i c ∷ drop k cs) (sym (add-one i)) ∙ ap (λ x. x ∷ drop (i + 1) cs) (sym is) in
+    ap (λ vs. map items_of vs ++ map text_of (drop (i + 1) cs)) e
+    ∙ ap (λ ts. ts ++ map text_of (drop (i + 1) cs)) (map-append items_of all (lines ∷ []))
+    ∙ append_assoc (map items_of all) (lines.items ∷ []) (map text_of (drop (i + 1) cs))
+    ∙ ap (λ t. map items_of all ++ t ∷ map text_of (drop (i + 1) cs)) made
+    ∙ sym (ap (λ ds. map items_of all ++ map text_of ds) at)
+    ∙ inv
+
+-- those at a place
+pub lines_at : (cs : List Cert) (all : List (Vec ℕ Global)) (i : ℕ) (d : Vec ℕ Global) → map (λ v. v.items) all ≡ map text_of cs → i < length cs → (get_or all i d).items ≡ lines_text (cert_lines (placed cs i))
+lines_at [] all i d h lt = absurd (omega (arith, lt))
+lines_at (c ∷ cs) [] i d h lt = absurd (cc)
+lines_at (c ∷ cs) (v ∷ vs) zero d h lt = cc
+lines_at (c ∷ cs) (v ∷ vs) (suc i) d h lt = lines_at cs vs i d (cc) (omega (arith, lt))
+
+pub entry_lines : (n : ℕ) (ls : List Line) → lines_text (ForCondition n ∷ ls) ≡ line_text (ForCondition n) ++ 10 ∷ lines_text ls
+entry_lines n ls = append_assoc (line_text (ForCondition n)) (10 ∷ []) (lines_text ls)

@@ -84,13 +84,29 @@ impl CertFile {
         Some(*number)
     }
 
+    /// The least number above n that has a certificate, with the place of that. Takes no memory.
+    pub(crate) fn place_above(&self, n: u32) -> Option<(u32, usize)>
+        ensures next { IsNextEntry n (shown self.now) (option_map (λ e. (e.0, placed self.now.certs.items e.1)) result) }
+        ensures within { IfSome result (λ e. e.1 < length self.now.certs.items) }
+    {
+        let above = (Bound::Excluded(n), Bound::Unbounded);
+        let (number, place) = self.numbers.range(above).next()?;
+        Some((*number, *place))
+    }
+
     /// The entry with the least number above n. Takes no memory.
     pub fn entry_above(&self, n: u32) -> Option<(u32, &Cert)>
         ensures { IsNextEntry n (shown self.now) (option_map (λ e. (e.0, plain_cert e.1.now)) result) }
     {
-        let above = (Bound::Excluded(n), Bound::Unbounded);
-        let (number, place) = self.numbers.range(above).next()?;
-        Some((*number, &self.certs[*place]))
+        let (number, place) = self.place_above(n)?;
+        Some((number, &self.certs[place]))
+    }
+
+    /// The certificates by their places.
+    pub(crate) fn certs(&self) -> &[Cert]
+        ensures { result.now ≡ self.now.certs.items }
+    {
+        &self.certs
     }
 
     // Adds the certificate at this place under n.

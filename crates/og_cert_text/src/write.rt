@@ -1,6 +1,6 @@
 //! Writing certificates.
 
-ghost use Rattle.std.specs.Prelude.{◌≡◌, ◌++◌, [], ◌∷◌, OnOk, OnErr, IfOk, map};
+ghost use Rattle.std.specs.Prelude.{◌≡◌, ◌++◌, [], ◌∷◌, OnOk, OnErr, IfOk, length, map};
 ghost use Rattle.std.specs.Fmt.{decimal, signed_decimal};
 ghost use Rattle.og_cert_text.specs.Plain.{plain_cert, plain_finish, ref_of, combination_of, step_line};
 ghost use Rattle.og_cert_text.specs.Lines.{ForCondition, ref_text, term_text, part_text, combination_text, parts_text, line_text, BranchLine};
@@ -165,14 +165,35 @@ fn put_finish(text: &mut Vec<u8>, finish: &Finish) -> Result<(), AllocError>
     }
 }
 
-// The lines of an entry.
-fn put_entry(text: &mut Vec<u8>, n: u32, cert: &Cert) -> Result<(), AllocError>
-    ensures { OnOk result (text.new.items ≡ text.old.items ++ lines_text (ForCondition n ∷ cert_lines (plain_cert cert.now))) }
+// The lines of a certificate, as a text.
+fn lines_of(alloc: Global, cert: &Cert) -> Result<Vec<u8>, AllocError>
+    ensures { IfOk result (λ lines. lines.items ≡ lines_text (cert_lines (plain_cert cert.now))) }
+{
+    let mut lines = Vec::new(alloc);
+    put_lines(&mut lines, cert)?;
+    Ok(lines)
+}
+
+// The lines of each certificate.
+fn all_lines(alloc: Global, certs: &[Cert]) -> Result<Vec<Vec<u8>>, AllocError>
+    ensures lines { IfOk result (λ all. map (λ lines. lines.items) all.items ≡ map (λ c. lines_text (cert_lines (plain_cert c))) certs.now) }
+    ensures len { IfOk result (λ all. length all.items ≡ length certs.now) }
+{
+    let mut all = Vec::with_capacity(alloc, certs.len())?;
+    for cert in certs {
+        all.push(lines_of(alloc, cert)?)?;
+    }
+    Ok(all)
+}
+
+// The lines of an entry, of which those of the certificate are given.
+fn put_entry(text: &mut Vec<u8>, n: u32, lines: &[u8]) -> Result<(), AllocError>
+    ensures { OnOk result (text.new.items ≡ text.old.items ++ (line_text (ForCondition n) ++ 10 ∷ lines.now)) }
 {
     text.extend_from_slice(b"cond ")?;
     put_number(text, n as u64)?;
     text.extend_from_slice(b"\n")?;
-    put_lines(text, cert)
+    text.extend_from_slice(lines)
 }
 
 /// Adds the lines of the certificate to the text. An error leaves the text as it was.
@@ -180,19 +201,20 @@ pub fn put_cert(text: &mut Vec<u8>, cert: &Cert) -> Result<(), AllocError>
     ensures ok { OnOk result (text.new.items ≡ text.old.items ++ lines_text (cert_lines (plain_cert cert.now))) }
     ensures err { OnErr result (text.new.items ≡ text.old.items) }
 {
-    let mut lines = Vec::new(*text.allocator());
-    put_lines(&mut lines, cert)?;
+    let lines = lines_of(*text.allocator(), cert)?;
     text.extend_from_slice(&lines)
 }
 
-/// The text of the file in version 1: its certificates by rising numbers.
+/// The text of the file in version 1: its certificates by rising numbers. The lines of one that
+/// conditions share are made once.
 pub fn write_certs(alloc: Global, file: &CertFile) -> Result<Vec<u8>, AllocError>
     ensures { IfOk result (λ text. text.items ≡ file_text (shown file.now)) }
 {
+    let all = all_lines(alloc, file.certs())?;
     let mut text = Vec::from_slice(alloc, b"og-cert 1\n")?;
     let mut last = 0;
-    while let Some((n, cert)) = file.entry_above(last) {
-        put_entry(&mut text, n, cert)?;
+    while let Some((n, place)) = file.place_above(last) {
+        put_entry(&mut text, n, &all[place])?;
         last = n;
     }
     Ok(text)
