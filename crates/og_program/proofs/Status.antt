@@ -32,7 +32,7 @@ sound_answer files input jobs.Joined before after err err_after ended h zero =
 sound_answer files input (jobs.Prove source budget workers json) before after err err_after ended h zero = (h.1.0, h.1.1, h.1.2.1.0 (sym h.2.1 ∙ zero))
 sound_answer files input (jobs.Check source certs workers json) before after err err_after ended h zero = (h.1.0, h.1.1, h.1.2.2.1.0 (sym h.2.1 ∙ zero))
 sound_answer files input (jobs.Notes source budget) before after err err_after ended h zero = tt
-sound_answer files input (jobs.Conditions source triples smt2) before after err err_after ended h zero = tt
+sound_answer files input (jobs.Conditions source triples smt2 only) before after err err_after ended h zero = tt
 sound_answer files input (jobs.Find source budget workers version) before after err err_after ended h zero = tt
 sound_answer files input (jobs.Erase source readable) before after err err_after ended h zero = tt
 sound_answer files input (jobs.Run source limit erased None schedule values) before after err err_after ended h zero = tt
@@ -51,7 +51,7 @@ unblocked_answer files input (jobs.Prove source budget workers json) before afte
 unblocked_answer files input (jobs.Check source certs workers json) before after err err_after ended h zero = λ wrote.
     (h.1.0, h.1.1, wrote_unblocked json h.1.0 h.0.answer.text.items before after h.0.answer.status h.1.2.2.1 h.2.0 (sym h.2.1 ∙ zero) wrote)
 unblocked_answer files input (jobs.Notes source budget) before after err err_after ended h zero = tt
-unblocked_answer files input (jobs.Conditions source triples smt2) before after err err_after ended h zero = tt
+unblocked_answer files input (jobs.Conditions source triples smt2 only) before after err err_after ended h zero = tt
 unblocked_answer files input (jobs.Find source budget workers version) before after err err_after ended h zero = tt
 unblocked_answer files input (jobs.Erase source readable) before after err err_after ended h zero = tt
 unblocked_answer files input (jobs.Run source limit erased certs schedule values) before after err err_after ended h zero = tt

@@ -24,6 +24,9 @@ use Rattle.og_explorer.specs.declared.exploring.Reply.TheVariants as explorings
 use Rattle.og_input.specs.Joined.{IsSplit}
 use Rattle.og_judge.specs.Proven.{IsProvenSource}
 use Rattle.og_judge.specs.NeverStuck.{IsNeverStuckSource}
+use Rattle.og_listings.specs.Chosen as listing
+use Rattle.og_listings.specs.declared.choosing.Reply.{Reply as Listing}
+use Rattle.og_listings.specs.declared.choosing.Reply.TheVariants as listings
 use Rattle.og_notes.specs.Noted.{IsNoted}
 use Rattle.og_remark.specs.Expansion.{IsExpansionRemark}
 use Rattle.og_remark.specs.Missing.{IsMissingRemark}
@@ -146,6 +149,16 @@ FollowsExpanding name template (expandings.Refused answer fault) outcome =
     OnTold (λ t. (t.answer ≡ answer) × Noted (IsExpansionNote name template fault) t) outcome
 FollowsExpanding name template (expandings.BadValue word) outcome = OnBad (λ _ _. ⊥) word outcome
 
+-- what is told of the reply to a word that has numbers of conditions
+abbrev pub FollowsListing : List ℕ → List ℕ → Bor (List ℕ) → Listing → Outcome → Type 0
+FollowsListing name source only (listings.Answer answer) outcome =
+    OnTold (λ t. (t.answer ≡ answer) × Remarks (IsConditionsRemark name source) t) outcome
+FollowsListing name source only (listings.Bad why) outcome = outcome ≡ outcomes.BadValue (record { word = only; why = Some why })
+
+-- of the reply to the bytes of a source
+abbrev pub ListsOnly : Form → Bor (List ℕ) → List ℕ → List ℕ → Outcome → Type 0
+ListsOnly form only name source outcome = (reply : Listing) × listing.IsReply form only.now source reply × FollowsListing name source only reply outcome
+
 -- ---- what a job comes to
 
 -- by the bytes that were read of a source
@@ -169,6 +182,11 @@ OfRun files input name limit erased None (Some schedule) words outcome =
 OfRun files input name limit erased (Some certs) schedule words outcome =
     OfBoth files input name certs.now (λ s c. Runs (IsRanProved limit s c words) (IsProvedRunRemark name certs.now s c words) (IsWordRemark s None)) outcome
 
+-- the conditions of a source: all, or those of a word
+abbrev pub OfListing : (List ℕ → Option (List ℕ)) → Option (List ℕ) → List ℕ → Form → Option (Bor (List ℕ)) → Outcome → Type 0
+OfListing files input name form None outcome = OfSource files input name (λ s. OnTold (Lists form name s)) outcome
+OfListing files input name form (Some only) outcome = OfSource files input name (ListsOnly form only name) outcome
+
 -- an exploration, without auxiliaries or with them, as JSON or as a text
 abbrev pub Explores : Bool → Bool → List (List ℕ) → List ℕ → List ℕ → Outcome → Type 0
 Explores erased json words name source outcome =
@@ -185,7 +203,7 @@ Comes files input jobs.Joined = OfJoined input
 Comes files input (jobs.Prove source budget workers json) = OfSource files input source.now (λ s. OnTold (Proves json source.now s))
 Comes files input (jobs.Check source certs workers json) = OfBoth files input source.now certs.now (λ s c. OnTold (Checks json source.now certs.now s c))
 Comes files input (jobs.Notes source budget) = OfSource files input source.now (λ s. OnTold (NotesOn source.now s))
-Comes files input (jobs.Conditions source triples smt2) = OfSource files input source.now (λ s. OnTold (Lists (form_of triples smt2) source.now s))
+Comes files input (jobs.Conditions source triples smt2 only) = OfListing files input source.now (form_of triples smt2) only
 Comes files input (jobs.Find source budget workers version) = OfSource files input source.now (λ s. OnTold (Finds version source.now s))
 Comes files input (jobs.Erase source readable) = OfSource files input source.now (λ s. OnTold (Erases readable source.now s))
 Comes files input (jobs.Run source limit erased certs schedule values) = OfRun files input source.now limit erased certs schedule (map (λ w. w.now) values.items)
@@ -216,7 +234,7 @@ Opens jobs.Joined = λ name. name ≡ codes "-"
 Opens (jobs.Prove source budget workers json) = λ name. name ≡ source.now
 Opens (jobs.Check source certs workers json) = λ name. (name ≡ source.now) ⊎ (name ≡ certs.now)
 Opens (jobs.Notes source budget) = λ name. name ≡ source.now
-Opens (jobs.Conditions source triples smt2) = λ name. name ≡ source.now
+Opens (jobs.Conditions source triples smt2 only) = λ name. name ≡ source.now
 Opens (jobs.Find source budget workers version) = λ name. name ≡ source.now
 Opens (jobs.Erase source readable) = λ name. name ≡ source.now
 Opens (jobs.Run source limit erased certs schedule values) = λ name. (name ≡ source.now) ⊎ IfSome certs (λ c. name ≡ c.now)
@@ -235,7 +253,7 @@ lacks missing jobs.Joined = false
 lacks missing (jobs.Prove source budget workers json) = lacks_bytes missing source.now
 lacks missing (jobs.Check source certs workers json) = lacks_bytes missing source.now || lacks_certs missing source.now certs.now
 lacks missing (jobs.Notes source budget) = lacks_bytes missing source.now
-lacks missing (jobs.Conditions source triples smt2) = lacks_bytes missing source.now
+lacks missing (jobs.Conditions source triples smt2 only) = lacks_bytes missing source.now
 lacks missing (jobs.Find source budget workers version) = lacks_bytes missing source.now
 lacks missing (jobs.Erase source readable) = lacks_bytes missing source.now
 lacks missing (jobs.Run source limit erased certs schedule values) = lacks_bytes missing source.now || lacks_given missing source.now certs
@@ -254,7 +272,7 @@ reads_input jobs.Joined = true
 reads_input (jobs.Prove source budget workers json) = not (is_file source.now)
 reads_input (jobs.Check source certs workers json) = not (is_file source.now) || not (is_file certs.now)
 reads_input (jobs.Notes source budget) = not (is_file source.now)
-reads_input (jobs.Conditions source triples smt2) = not (is_file source.now)
+reads_input (jobs.Conditions source triples smt2 only) = not (is_file source.now)
 reads_input (jobs.Find source budget workers version) = not (is_file source.now)
 reads_input (jobs.Erase source readable) = not (is_file source.now)
 reads_input (jobs.Run source limit erased certs schedule values) = not (is_file source.now) || reads_given certs
@@ -278,7 +296,7 @@ StartsThreads files input jobs.Joined = ⊥
 StartsThreads files input (jobs.Prove source budget workers json) = 1 < workers
 StartsThreads files input (jobs.Check source certs workers json) = 1 < workers
 StartsThreads files input (jobs.Notes source budget) = ⊥
-StartsThreads files input (jobs.Conditions source triples smt2) = ⊥
+StartsThreads files input (jobs.Conditions source triples smt2 only) = ⊥
 StartsThreads files input (jobs.Find source budget workers version) = 1 < workers
 StartsThreads files input (jobs.Erase source readable) = ⊥
 StartsThreads files input (jobs.Run source limit erased certs schedule values) = StartsAs files input source.now erased certs schedule (map (λ w. w.now) values.items)
@@ -323,7 +341,7 @@ IsProvenIn files input jobs.Joined = Reads joined_of input HasProvenSource
 IsProvenIn files input (jobs.Prove source budget workers json) = Reads source_of (bytes_in files input source.now) IsProvenSource
 IsProvenIn files input (jobs.Check source certs workers json) = Reads source_of (bytes_in files input source.now) IsProvenSource
 IsProvenIn files input (jobs.Notes source budget) = ⊤
-IsProvenIn files input (jobs.Conditions source triples smt2) = ⊤
+IsProvenIn files input (jobs.Conditions source triples smt2 only) = ⊤
 IsProvenIn files input (jobs.Find source budget workers version) = ⊤
 IsProvenIn files input (jobs.Erase source readable) = ⊤
 IsProvenIn files input (jobs.Run source limit erased certs schedule values) = IsProvenRun (bytes_in files input source.now) certs
@@ -339,7 +357,7 @@ IsNeverStuckIn files input before after (jobs.Prove source budget workers json) 
 IsNeverStuckIn files input before after (jobs.Check source certs workers json) =
     Wrote (SaysUnblocked json) before after → Reads source_of (bytes_in files input source.now) IsNeverStuckSource
 IsNeverStuckIn files input before after (jobs.Notes source budget) = ⊤
-IsNeverStuckIn files input before after (jobs.Conditions source triples smt2) = ⊤
+IsNeverStuckIn files input before after (jobs.Conditions source triples smt2 only) = ⊤
 IsNeverStuckIn files input before after (jobs.Find source budget workers version) = ⊤
 IsNeverStuckIn files input before after (jobs.Erase source readable) = ⊤
 IsNeverStuckIn files input before after (jobs.Run source limit erased certs schedule values) = ⊤

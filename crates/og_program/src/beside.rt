@@ -7,13 +7,14 @@ ghost use Rattle.og_remark.specs.Starting.{IsRunRemark, IsProvedRunRemark};
 ghost use Rattle.og_remark.specs.Values.{schedule_text, reason_line, IsValueRemark};
 ghost use Rattle.og_remark.specs.declared.values.Gives.TheVariants as gives;
 ghost use Rattle.og_program.specs.Told.{Noted};
-ghost use Rattle.og_program.specs.Served.{Remarks, RemarksBoth, TellsRan, IsWordRemark, IsExpansionNote, Follows, FollowsExploring, FollowsExpanding};
+ghost use Rattle.og_program.specs.Served.{Remarks, RemarksBoth, TellsRan, IsWordRemark, IsExpansionNote, Follows, FollowsExploring, FollowsExpanding, FollowsListing};
 
 use crate::outcome::{BadValue, Outcome, Told};
 use og_advice::Names;
 use og_answer::Answer;
 use og_expander::{ExpandFault, Reply as Expanded};
 use og_explorer::Reply as Explored;
+use og_listings::Reply as Chosen;
 use og_remark::{
     Gives, certificates_remark, check_remark, conditions_remark, expansion_remark, missing_remark,
     proved_run_remark, run_remark, schedule_remark, source_remark, value_remark,
@@ -101,6 +102,25 @@ pub(crate) fn beside_check<H: Threads + Wait + Sync>(
         _ => Ok(None),
     };
     Told { answer, note }
+}
+
+/// What is told of the reply to a word that has numbers of conditions.
+pub(crate) fn beside_chosen<'a>(
+    alloc: Global,
+    name: &str,
+    source: &[u8],
+    only: &'a str,
+    reply: Chosen,
+) -> Outcome<'a>
+    ensures { FollowsListing name.now source.now only.entry reply result }
+{
+    match reply {
+        Chosen::Answer(answer) => Outcome::Told(beside_conditions(alloc, name, source, answer)),
+        Chosen::Bad(line) => Outcome::BadValue(BadValue {
+            word: only,
+            why: Some(line),
+        }),
+    }
 }
 
 // A word that gives no value, and why, where memory for that is not refused.

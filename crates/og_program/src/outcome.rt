@@ -12,7 +12,8 @@ pub struct Told {
     pub note: Result<Option<Vec<u8>>, AllocError>,
 }
 
-/// A word that gives no variable a value or a range, or a schedule that is no list of numbers.
+/// A word that gives no variable a value or a range, or a schedule or numbers of conditions that are
+/// no list of numbers, or a list with a number that no condition has.
 #[derive(Debug, Drop)]
 pub struct BadValue<'a> {
     /// The word.

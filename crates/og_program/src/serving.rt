@@ -67,7 +67,11 @@ impl<'r, F: Files, G: Gate, H: Threads + Wait + Sync> Program<'r, F, G, H> {
                 source,
                 triples,
                 smt2,
-            } => conditions(alloc, files, source, form_of(*triples, *smt2), input),
+                only,
+            } => {
+                let form = form_of(*triples, *smt2);
+                conditions(alloc, files, source, form, *only, input)
+            }
             Job::Find {
                 source,
                 budget,

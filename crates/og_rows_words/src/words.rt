@@ -34,15 +34,23 @@ const JOBS: &[(&str, &str)] = &[
     ),
     (
         "conditions a",
-        "Conditions { source: \"a\", triples: false, smt2: false }",
+        "Conditions { source: \"a\", triples: false, smt2: false, only: None }",
     ),
     (
         "conditions --triples a",
-        "Conditions { source: \"a\", triples: true, smt2: false }",
+        "Conditions { source: \"a\", triples: true, smt2: false, only: None }",
     ),
     (
         "conditions a --smt2",
-        "Conditions { source: \"a\", triples: false, smt2: true }",
+        "Conditions { source: \"a\", triples: false, smt2: true, only: None }",
+    ),
+    (
+        "conditions a --triples --only 7,3",
+        "Conditions { source: \"a\", triples: true, smt2: false, only: Some(\"7,3\") }",
+    ),
+    (
+        "conditions --smt2 --only=x a",
+        "Conditions { source: \"a\", triples: false, smt2: true, only: Some(\"x\") }",
     ),
     (
         "find a",

@@ -23,6 +23,10 @@ number name default within = record (new_rule name) { long = Some name; value_na
 abbrev pub smt2_flag : Rule
 smt2_flag = record (flag (codes "smt2")) { is_free = false }
 
+-- `--only N,M..`
+abbrev pub only_option : Rule
+only_option = record (new_rule (codes "only")) { long = Some (codes "only"); value_names = 1 }
+
 -- `--certs FILE`, which does not go with `--erased`
 abbrev pub certs_option : Rule
 certs_option = record (new_rule (codes "certs")) { long = Some (codes "certs"); value_names = 1; is_free = false }
@@ -81,7 +85,7 @@ abbrev pub notes : Shape
 notes = command (codes "notes") (source ∷ budget ∷ [])
 
 abbrev pub conditions : Shape
-conditions = command (codes "conditions") (source ∷ flag (codes "triples") ∷ smt2_flag ∷ [])
+conditions = command (codes "conditions") (source ∷ flag (codes "triples") ∷ smt2_flag ∷ only_option ∷ [])
 
 abbrev pub finder : Shape
 finder = command (codes "find") (source ∷ budget ∷ workers ∷ version ∷ [])

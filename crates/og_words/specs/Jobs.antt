@@ -27,7 +27,7 @@ command_of jobs.Joined = None
 command_of (jobs.Prove source budget workers json) = Some (codes "prove")
 command_of (jobs.Check source certs workers json) = Some (codes "check")
 command_of (jobs.Notes source budget) = Some (codes "notes")
-command_of (jobs.Conditions source triples smt2) = Some (codes "conditions")
+command_of (jobs.Conditions source triples smt2 only) = Some (codes "conditions")
 command_of (jobs.Find source budget workers version) = Some (codes "find")
 command_of (jobs.Erase source readable) = Some (codes "erase")
 command_of (jobs.Run source limit erased certs schedule values) = Some (codes "run")
@@ -46,8 +46,9 @@ Holds rows (jobs.Check source certs workers json) =
     × (number_of (codes "workers") rows ≡ Some workers) × (json ≡ is_given (codes "json") rows)
 Holds rows (jobs.Notes source budget) =
     (text_of (codes "SOURCE") rows ≡ Some source.now) × (number_of (codes "budget") rows ≡ Some budget)
-Holds rows (jobs.Conditions source triples smt2) =
+Holds rows (jobs.Conditions source triples smt2 only) =
     (text_of (codes "SOURCE") rows ≡ Some source.now) × (triples ≡ is_given (codes "triples") rows) × (smt2 ≡ is_given (codes "smt2") rows)
+    × (option_map (λ n. n.now) only ≡ text_of (codes "only") rows)
 Holds rows (jobs.Find source budget workers version) =
     (text_of (codes "SOURCE") rows ≡ Some source.now) × (number_of (codes "budget") rows ≡ Some budget)
     × (number_of (codes "workers") rows ≡ Some workers) × (number_of (codes "version") rows ≡ Some version)

@@ -124,6 +124,15 @@ fn smt2_arg<'a>(alloc: Global) -> Result<Arg<'a>, AllocError>
         .conflicts_with("triples")
 }
 
+fn only_arg<'a>(alloc: Global) -> Arg<'a>
+    ensures { IsArg line.only_option result }
+{
+    Arg::new(alloc, "only")
+        .long("only")
+        .value_name("N,M..")
+        .help("Print the conditions with these numbers alone, which count from 1")
+}
+
 fn conditions_command<'a>(alloc: Global) -> Result<Command<'a>, AllocError>
     ensures { IfOk result (IsCommand line.conditions) }
 {
@@ -132,7 +141,8 @@ fn conditions_command<'a>(alloc: Global) -> Result<Command<'a>, AllocError>
         .about("Print every condition with its facts")
         .arg(source_arg(alloc))?
         .arg(triples_arg(alloc))?
-        .arg(smt2)
+        .arg(smt2)?
+        .arg(only_arg(alloc))
 }
 
 fn find_command<'a>(alloc: Global) -> Result<Command<'a>, AllocError>

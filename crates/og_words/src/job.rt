@@ -52,13 +52,15 @@ pub enum Job<'a> {
         /// How many steps each search may make.
         budget: Budget,
     },
-    /// Print every condition, with its facts where nothing else is asked for.
+    /// Print conditions, with their facts where nothing else is asked for.
     Conditions {
         source: &'a str,
         /// Whether each is to be a triple.
         triples: bool,
         /// Whether they are to be a script in SMT-LIB.
         smt2: bool,
+        /// The word that has the numbers of those that are to be printed; else all are.
+        only: Option<&'a str>,
     },
     /// Print the certificates that are found.
     Find {

@@ -118,10 +118,12 @@ fn conditions_job<'a>(m: &ArgMatches<'a>) -> Option<Job<'a>>
 {
     let source = text_of(m, "SOURCE")?;
     let (triples, smt2) = (has_flag(m, "triples"), has_flag(m, "smt2"));
+    let only = text_of(m, "only");
     Some(Job::Conditions {
         source,
         triples,
         smt2,
+        only,
     })
 }
 

@@ -5,7 +5,7 @@ use Rattle.og_remark.specs.Remarks.{IsConditionsRemark}
 use Rattle.og_program.specs.Served.{Remarks}
 use Rattle.og_program.specs.declared.outcome.Told.{Told}
 use Rattle.og_program.proofs.Shown.{shown}
-use Rattle.og_program.proofs.commands.conditions.Goals as goal
+use Rattle.og_program.proofs.commands.all_conditions.Goals as goal
 
 pub returns-clause-came : goal.returns-clause-came
 returns-clause-came g c = (
