@@ -6,8 +6,8 @@ usage: bench/families.py PROGRAM [--z3 Z3] [--folder FOLDER] [--most SECONDS] [-
 
 Runs `PROGRAM find` by one worker on outlines of rising sizes, one family after the
 other, made in FOLDER (a temporary one by default), and prints a table: the conditions, how many have
-a certificate, processor seconds and the most memory of `find`, the bytes of its certificates in
-version 2 for each condition, those of `check`, and the processor seconds of z3 (by default the one on the path)
+a certificate, processor seconds of `find`, the bytes of its certificates in version 2 for each
+condition, those of `check`, and the processor seconds of z3 (by default the one on the path)
 on the same facts, with how many times as long that is as either. A family ends after `find` or z3 took longer than SECONDS (60 by
 default). The second form prints one outline. PROGRAM is crates/og/out/og after `rt run` in
 crates/og.
@@ -164,27 +164,27 @@ FAMILIES = {
 
 
 def run(words):
-    """The processor seconds of a run, the most memory that it held in MB, and what it printed."""
+    """The processor seconds of a run, and what it printed."""
     process = subprocess.Popen(words, stdout=subprocess.PIPE, stderr=subprocess.DEVNULL)
     text = process.stdout.read().decode()
     _, status, usage = os.wait4(process.pid, 0)
     process.returncode = os.waitstatus_to_exitcode(status)
-    return usage.ru_utime + usage.ru_stime, usage.ru_maxrss / 1024, text
+    return usage.ru_utime + usage.ru_stime, text
 
 
 def measure(program, z3, folder, name, path):
     """Prints the row of one outline. The longer of both times."""
-    listing = run([program, "conditions", path])[2]
+    listing = run([program, "conditions", path])[1]
     count = listing.count("cond ")
-    ours, room, found = run([program, "find", path, "--workers", "1"])
+    ours, found = run([program, "find", path, "--workers", "1"])
     certs = write(folder, "made.cert", found)
-    short = run([program, "migrate", certs])[2]
+    short = run([program, "migrate", certs])[1]
     checking = run([program, "check", path, certs])[0]
-    row = [name, str(count), str(headers(found)), "%.2f s" % ours, "%.0f MB" % room,
-           "%.0f" % (len(short) / count), "%.2f s" % checking]
+    row = [name, str(count), str(headers(found)), "%.2f s" % ours, "%.0f" % (len(short) / count),
+           "%.2f s" % checking]
     theirs = 0.0
     if z3:
-        theirs, _, answers = run([z3, write(folder, "asked.smt2", text_for_z3(listing))])
+        theirs, answers = run([z3, write(folder, "asked.smt2", text_for_z3(listing))])
         row += [str(answers.split().count("unsat")), "%.2f s" % theirs,
                 "%.0f" % (theirs / max(ours, 0.001)), "%.0f" % (theirs / max(checking, 0.001))]
     print("| %s |" % " | ".join(row), flush=True)
@@ -203,8 +203,8 @@ def main():
     parser.add_argument("--only", choices=list(FAMILIES))
     given = parser.parse_args()
     program = os.path.abspath(given.program)
-    print("| Outline | Conditions | Found | `og find` | Most memory | Bytes a condition | `og check` | z3: unsat | z3 | Times `find` | Times `check` |")
-    print("|-|-|-|-|-|-|-|-|-|-|-|")
+    print("| Outline | Conditions | Found | `og find` | Bytes a condition | `og check` | z3: unsat | z3 | Times `find` | Times `check` |")
+    print("|-|-|-|-|-|-|-|-|-|-|")
     with tempfile.TemporaryDirectory() as room:
         folder = given.folder or room
         for family, (make, sizes) in FAMILIES.items():
