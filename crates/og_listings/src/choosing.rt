@@ -136,12 +136,7 @@ fn of_numbers<'a>(
     match count(alloc, source.outline()) {
         Ok(count) => match first_other(count, &numbers) {
             Some(number) => Ok(Reply::Bad(word, no_condition(alloc, number, count)?)),
-            None => Ok(Reply::Listing(Listing::of(
-                alloc,
-                form,
-                Some(numbers),
-                source,
-            )?)),
+            None => Ok(Reply::Listing(Listing::of(alloc, form, Some(numbers), source)?)),
         },
         Err(error) => not_listed(alloc, error, source.bytes()),
     }
