@@ -17,16 +17,17 @@ import tempfile
 import time
 
 
-def outline(processes, statements=40):
-    """Processes over one x; the first two statements of each are assignments."""
-    lines = ["var x;", "{x >= 0}", "cobegin"]
+def outline(processes, statements=40, note="x >= 0"):
+    """Processes over one x; the first two statements of each are assignments, and each assertion is the note."""
+    note = "{%s}" % note
+    lines = ["var x;", note, "cobegin"]
     for number in range(processes):
         if number > 0:
             lines.append("//")
         for statement in range(statements):
-            lines.append("{x >= 0} " + ("x := 1" if statement < 2 else "skip"))
-        lines.append("{x >= 0}")
-    return "\n".join(lines + ["coend", "{x >= 0}", ""])
+            lines.append(note + (" x := 1" if statement < 2 else " skip"))
+        lines.append(note)
+    return "\n".join(lines + ["coend", note, ""])
 
 
 def close(facts):
@@ -127,6 +128,12 @@ def main():
         for workers in (1, 2, 4):
             words = [program, "check", source, certs, "--workers", str(workers)]
             measure("check of %d conditions, workers: %d" % (count, workers), words)
+    source = write(folder, "many.og", outline(100, note="x >= 0 and x >= -100 and x >= -200"))
+    for form in ([], ["--triples"], ["--smt2"]):
+        words = [program, "conditions", source] + form
+        count = run(words)[0].count(b"cond ")
+        size = os.path.getsize(source)
+        measure(" ".join(["listing of %d conditions of %d bytes" % (count, size)] + form), words)
     source = write(folder, "skip.og", "{true}\ncobegin\n{true} skip {true}\ncoend\n{true}\n")
     long = write(folder, "long.cert", long_certificates(67108864))
     size = os.path.getsize(long)

@@ -1,85 +1,21 @@
 //! The answers of the commands that print what an outline stands for.
 
-ghost use Rattle.std.specs.Prelude.{◌≡◌, ◌≤◌, ◌^◌, length, IfOk};
+ghost use Rattle.std.specs.Prelude.{◌≡◌, IfOk};
 ghost use Rattle.og_parse.specs.TreeOf.{tree_of};
 ghost use Rattle.og_readable.specs.Readable.{readable};
 ghost use Rattle.og_erase.specs.Collected.{raw_of};
 ghost use Rattle.og_print.specs.Print.{program_text};
 ghost use Rattle.og_answer.specs.Told.{Says};
-ghost use Rattle.og_engine.specs.Commands.{IsText, listing_text, IsListedOf, IsListed, erased_tree, IsErased};
+ghost use Rattle.og_engine.specs.Commands.{erased_tree, IsErased};
 
-use og_answer::{Answer, InputFault};
-use og_cond::ConditionsError;
+use og_answer::Answer;
 use og_erase::{Program, erase};
 use og_parse::Raw;
 use og_print::print_program;
 use og_readable::print_readable;
-use og_report::conditions_text;
-use og_smt::script;
 use og_source::Source;
-use og_triples::all_triples;
 use og_typed::Outline;
 use std::alloc::{AllocError, Global};
-
-/// How conditions are listed.
-#[derive(Clone, Copy, Debug, PartialEq, Eq)]
-pub enum Form {
-    /// Each with its facts.
-    Facts,
-    /// As triples: an assertion, a statement, an assertion.
-    Triples,
-    /// As a script in SMT-LIB.
-    Script,
-}
-
-// The conditions of an outline in this form.
-fn text_in(
-    alloc: Global,
-    form: Form,
-    outline: &Outline,
-    source: &[u8],
-) -> Result<Vec<u8>, ConditionsError>
-    requires { length source.now ≤ 2 ^ 20 }
-    ensures { IsText (listing_text form outline.now source.now) outline.now result }
-{
-    match form {
-        Form::Facts => conditions_text(alloc, outline, source),
-        Form::Triples => all_triples(alloc, outline, source),
-        Form::Script => script(alloc, outline, source),
-    }
-}
-
-// The conditions of the outline of a source.
-fn of_conditions(alloc: Global, form: Form, source: &Source) -> Result<Answer, AllocError>
-    ensures { IfOk result (IsListedOf form source.now.outline source.now.bytes) }
-{
-    match text_in(alloc, form, source.outline(), source.bytes()) {
-        Ok(text) => Ok(Answer { text, status: 0 }),
-        Err(ConditionsError::Fault(fault)) => {
-            Answer::refused(alloc, &InputFault::Conditions(fault), source.bytes())
-        }
-        Err(ConditionsError::Memory) => Err(AllocError),
-    }
-}
-
-/// The conditions of the outline of a source in this form, and status 0; or the line of a refusal
-/// and status 2.
-///
-/// # Errors
-///
-/// An allocation was refused.
-pub fn listed(alloc: Global, form: Form, source: &[u8]) -> Result<Answer, AllocError>
-    ensures { IfOk result (IsListed form source.now) }
-{
-    match Source::read(alloc, source) {
-        Ok(source) => {
-            let answer = of_conditions(alloc, form, &source);
-            drop(source);
-            answer
-        }
-        Err(error) => Answer::unread(alloc, &error, source),
-    }
-}
 
 // The text of a tree.
 fn of_tree(alloc: Global, raw: &Raw) -> Result<Answer, AllocError>

@@ -11,7 +11,7 @@ mod proving;
 mod writing;
 
 pub use answer::checked;
-pub use commands::{Form, erased, listed};
+pub use commands::erased;
 pub use engines::{Options, engine, engine_joined};
 pub use fault::{EngineFault, WriteFault};
 pub use inputs::{read_certificates, read_joined, read_source};

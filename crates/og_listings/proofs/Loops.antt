@@ -1,47 +1,42 @@
--- The loops over the conditions of a group, over groups, and over numbers.
-use Rattle.std.proofs.Common.{◌≡◌, ◌++◌, ◌∙◌, ℕ, suc, ◌+◌, ◌<◌, List, [], ◌∷◌, length, drop, get_or, map, Bool, true, false, cond, ◌&&◌, Some, None, refl, ap, ap₂, sym, append_assoc, drop-cons, add-one, arith}
+-- The lines of conditions, one after the other and group after group; and numbers.
+use Rattle.std.proofs.Common.{◌≡◌, ◌++◌, ◌∙◌, ℕ, suc, ◌+◌, ◌<◌, List, [], ◌∷◌, length, drop, get_or, map, Bool, true, false, cond, ◌&&◌, Option, Some, None, refl, ap, ap₂, sym, append_assoc, drop-cons, add-one, arith}
 use Rattle.std.proofs.lemmas.List.{length-append, length-map}
 use Rattle.std.specs.Prelude.{not, find}
 use Rattle.std.specs.List.{list_all}
 use Rattle.og_cond.specs.Condition as plain
 use Rattle.og_cond.specs.declared.condition.Condition.{Condition}
 use Rattle.og_cond.specs.Seen.{seen}
-use Rattle.og_engine.specs.declared.commands.Form.{Form}
+use Rattle.og_listing.specs.Listing.{condition_lines, conditions_lines}
+use Rattle.og_listings.specs.declared.form.Form.{Form}
+use Rattle.og_listings.specs.declared.form.Form.TheVariants as forms
 use Rattle.og_listings.specs.Listings.{wanted_text, wanted_lines}
 
-module _ (form : Form) (numbers : List ℕ) (names : List (List ℕ)) (source : List ℕ) where
+module _ (form : Form) (only : Option (List ℕ)) (names : List (List ℕ)) (source : List ℕ) where
   abbrev lines : ℕ → List plain.Condition → List ℕ
-  lines = wanted_lines form numbers names source
+  lines = wanted_lines form only names source
 
-  -- ---- a condition more of a group
-
-  pub more_wanted : (before after whole : List ℕ) (all : List Condition) (i n : ℕ) (x : Condition) → i < length all → x ≡ get_or all i x → after ≡ before ++ wanted_text form numbers names source n (seen x)
-      → before ++ wanted_lines form numbers names source n (map seen (drop i all)) ≡ whole → after ++ wanted_lines form numbers names source (n + 1) (map seen (drop (i + 1) all)) ≡ whole
-  more_wanted before after whole all i n x h is made e =
-      let later = lines (n + 1) (map seen (drop (i + 1) all)) in
-      let here : lines n (map seen (drop i all)) ≡ wanted_text form numbers names source n (seen x) ++ later =
+  -- the first condition of those that are left, and the others
+  pub first_wanted : (all : List Condition) (i n : ℕ) (x : Condition) → i < length all → x ≡ get_or all i x
+      → wanted_lines form only names source n (map seen (drop i all)) ≡ wanted_text form only names source n (seen x) ++ wanted_lines form only names source (n + 1) (map seen (drop (i + 1) all))
+  first_wanted all i n x h is =
       ap (λ l. lines n (map seen l)) (drop-cons all i x h)
-      ∙ ap (λ y. wanted_text form numbers names source n (seen y) ++ lines (suc n) (map seen (drop (suc i) all))) (sym is)
-      ∙ ap₂ (λ m k. wanted_text form numbers names source n (seen x) ++ lines m (map seen (drop k all))) (sym (add-one n)) (sym (add-one i)) in
-      ap (λ l. l ++ later) made ∙ append_assoc before (wanted_text form numbers names source n (seen x)) later ∙ ap (λ l. before ++ l) (sym here) ∙ e
+      ∙ ap (λ y. wanted_text form only names source n (seen y) ++ lines (suc n) (map seen (drop (suc i) all))) (sym is)
+      ∙ ap₂ (λ m k. wanted_text form only names source n (seen x) ++ lines m (map seen (drop k all))) (sym (add-one n)) (sym (add-one i))
 
-  -- ---- a group more
-
-  wanted-append : (n m : ℕ) (xs ys : List plain.Condition) → m ≡ n + length xs → lines n (xs ++ ys) ≡ lines n xs ++ lines m ys
+  -- the first group, and the others
+  pub wanted-append : (n m : ℕ) (xs ys : List plain.Condition) → m ≡ n + length xs
+      → wanted_lines form only names source n (xs ++ ys) ≡ wanted_lines form only names source n xs ++ wanted_lines form only names source m ys
   wanted-append n m [] ys e = let same : n ≡ m = omega (arith, e) in ap (λ k. lines k ys) same
   wanted-append n m (x ∷ xs) ys e =
       let next : m ≡ suc n + length xs = omega (arith, e) in
-      ap (λ l. wanted_text form numbers names source n x ++ l) (wanted-append (suc n) m xs ys next)
-      ∙ sym (append_assoc (wanted_text form numbers names source n x) (lines (suc n) xs) (lines m ys))
+      ap (λ l. wanted_text form only names source n x ++ l) (wanted-append (suc n) m xs ys next)
+      ∙ sym (append_assoc (wanted_text form only names source n x) (lines (suc n) xs) (lines m ys))
 
-  pub more_groups : (before after whole : List ℕ) (n m : ℕ) (old group new : List plain.Condition) → old ≡ group ++ new → m ≡ n + length group → after ≡ before ++ wanted_lines form numbers names source n group
-      → before ++ wanted_lines form numbers names source n old ≡ whole → after ++ wanted_lines form numbers names source m new ≡ whole
-  more_groups before after whole n m old group new is counted made e =
-      ap (λ l. l ++ lines m new) made
-      ∙ append_assoc before (lines n group) (lines m new)
-      ∙ ap (λ l. before ++ l) (sym (wanted-append n m group new counted))
-      ∙ ap (λ l. before ++ lines n l) (sym is)
-      ∙ e
+-- ---- all conditions with their facts
+
+pub all_lines : (names : List (List ℕ)) (source : List ℕ) (n : ℕ) (cs : List plain.Condition) → wanted_lines forms.Facts None names source n cs ≡ conditions_lines names source n cs
+all_lines names source n [] = refl
+all_lines names source n (c ∷ cs) = ap (λ l. condition_lines names source n c ++ l) (all_lines names source (suc n) cs)
 
 -- ---- how many conditions are to come
 

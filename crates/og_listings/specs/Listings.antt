@@ -1,5 +1,7 @@
--- Listings of some conditions, in each form.
-use Rattle.std.specs.Prelude.{ℕ, suc, Bool, ◌==◌, if◌then◌else◌, List, [], ◌∷◌}
+-- Listings of conditions, in each form.
+use Rattle.std.specs.Prelude.{ℕ, suc, Bool, true, ◌==◌, if◌then◌else◌, List, [], ◌∷◌, Option, None, Some, option_map, Vec}
+use Rattle.std.specs.Borrow.{Bor}
+use Rattle.std.specs.Global.{Global}
 use Rattle.std.specs.List.{list_any}
 use Rattle.og_typed.specs.Syntax.{Program}
 use Rattle.og_cond.specs.Condition.{Condition}
@@ -8,8 +10,8 @@ use Rattle.og_listing.specs.Listing as facts
 use Rattle.og_listing.specs.Places.{◌&◌}
 use Rattle.og_smt.specs.Script as script
 use Rattle.og_triples.specs.Triples.{triple_text}
-use Rattle.og_engine.specs.declared.commands.Form.{Form}
-use Rattle.og_engine.specs.declared.commands.Form.TheVariants as forms
+use Rattle.og_listings.specs.declared.form.Form.{Form}
+use Rattle.og_listings.specs.declared.form.Form.TheVariants as forms
 
 -- what stands before the conditions
 abbrev pub opening_text : Form → List (List ℕ) → List ℕ
@@ -23,13 +25,21 @@ condition_text forms.Facts names source n c = facts.condition_lines names source
 condition_text forms.Triples names source n c = triple_text names source n c
 condition_text forms.Script names source n c = script.condition_lines names source n c
 
--- this number is asked for
-abbrev pub is_wanted : List ℕ → ℕ → Bool
-is_wanted numbers n = list_any (λ m. m == n) numbers
+-- numbers, where they are given
+abbrev pub numbers_in : Option (Bor (List ℕ)) → Option (List ℕ)
+numbers_in only = option_map (λ numbers. numbers.now) only
 
-module _ (form : Form) (numbers : List ℕ) (names : List (List ℕ)) (source : List ℕ) where
+abbrev pub numbers_of : Option (Vec ℕ Global) → Option (List ℕ)
+numbers_of only = option_map (λ numbers. numbers.items) only
+
+-- this number is asked for; each is, where none are given
+abbrev pub is_wanted : Option (List ℕ) → ℕ → Bool
+is_wanted None n = true
+is_wanted (Some numbers) n = list_any (λ m. m == n) numbers
+
+module _ (form : Form) (only : Option (List ℕ)) (names : List (List ℕ)) (source : List ℕ) where
   abbrev pub wanted_text : ℕ → Condition → List ℕ
-  wanted_text n c = if is_wanted numbers n then condition_text form names source n c else []
+  wanted_text n c = if is_wanted only n then condition_text form names source n c else []
 
   -- those of these conditions that are asked for; the first one has this number
   abbrev pub wanted_lines : ℕ → List Condition → List ℕ
@@ -37,5 +47,5 @@ module _ (form : Form) (numbers : List ℕ) (names : List (List ℕ)) (source : 
   wanted_lines n (c ∷ cs) = wanted_text n c & wanted_lines (suc n) cs
 
 -- the listing of an outline's conditions without those that are not asked for
-abbrev pub chosen_text : Form → List ℕ → Program → List ℕ → List ℕ
-chosen_text form numbers o source = opening_text form o.names & wanted_lines form numbers o.names source 1 (conditions o)
+abbrev pub listing_text : Form → Option (List ℕ) → Program → List ℕ → List ℕ
+listing_text form only o source = opening_text form o.names & wanted_lines form only o.names source 1 (conditions o)

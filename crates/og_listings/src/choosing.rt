@@ -1,26 +1,30 @@
-//! What is answered where certain conditions are asked for.
+//! What is answered to whoever asks for the conditions of a source.
 
-ghost use Rattle.std.specs.Prelude.{◌≡◌, ◌≤◌, ◌^◌, length, not, find, IfOk};
+ghost use Rattle.std.specs.Prelude.{◌≡◌, ◌≤◌, length, not, find, IfOk};
+ghost use Rattle.og_cond.specs.Groups.{rest};
+ghost use Rattle.og_cond.specs.Limits.{condition_limit};
 ghost use Rattle.og_listings.specs.Chosen as specified;
-ghost use Rattle.og_listings.specs.Chosen.{no_numbers_line, no_condition_line, IsChosenText, IsReplyOf, IsReplyTo, IsReply};
+ghost use Rattle.og_listings.specs.Chosen.{no_numbers_line, no_condition_line, IsWithin, IsCounted, IsNotListed, IsReplyOf, IsReplyToAll, IsReplyTo, IsReply};
 
-use crate::lines::{Lines, opening, put_groups};
+use crate::form::Form;
+use crate::listing::Listing;
 use og_answer::{Answer, InputFault};
 use og_cond::{ConditionsError, Groups};
-use og_engine::Form;
-use og_listing::{Places, put_number};
+use og_listing::put_number;
 use og_numbers::numbers;
 use og_source::Source;
 use og_typed::Outline;
 use std::alloc::{AllocError, Global};
 
-/// What is answered where certain conditions are asked for.
+/// What is answered to whoever asks for the conditions of a source.
 #[derive(Debug, Drop)]
-pub enum Reply {
-    /// What is printed, and the status.
-    Answer(Answer),
-    /// The line that says why the word names no conditions, after two blanks.
-    Bad(Vec<u8>),
+pub enum Reply<'a> {
+    /// The listing, of which nothing is written yet.
+    Listing(Listing),
+    /// The line of a refusal, and status 2.
+    Refused(Answer),
+    /// This word names no conditions; and the line that says why, after two blanks.
+    Bad(&'a str, Vec<u8>),
 }
 
 // That a word is no list of numbers, as a line.
@@ -45,30 +49,32 @@ fn no_condition(alloc: Global, number: u32, count: u32) -> Result<Vec<u8>, Alloc
     Ok(line)
 }
 
-// The listing of the conditions with these numbers, and how many conditions there are.
-fn text_of(
-    alloc: Global,
-    form: Form,
-    numbers: &[u32],
-    outline: &Outline,
-    source: &[u8],
-) -> Result<(Vec<u8>, u32), ConditionsError>
-    requires { length source.now ≤ 2 ^ 20 }
-    ensures { IsChosenText form numbers.now outline.now source.now result }
+// How many conditions are still to come.
+fn count_rest(alloc: Global, groups: &mut Groups<'_>) -> Result<u32, AllocError>
+    requires { length (rest groups.old) ≤ condition_limit }
+    ensures { IfOk result (λ count. count ≡ length (rest groups.old)) }
 {
-    outline.follows_rule();
+    let mut count = 0;
+    while let Some(group) = groups.next(alloc)? {
+        count += group.len() as u32;
+    }
+    Ok(count)
+}
+
+// That there are not too many conditions.
+fn within_limit(alloc: Global, outline: &Outline) -> Result<(), ConditionsError>
+    ensures { IsWithin outline.now result }
+{
+    drop(Groups::new(alloc, outline)?);
+    Ok(())
+}
+
+// How many conditions an outline has.
+fn count(alloc: Global, outline: &Outline) -> Result<u32, ConditionsError>
+    ensures { IsCounted outline.now result }
+{
     let mut groups = Groups::new(alloc, outline)?;
-    let places = Places::new(alloc, source)?;
-    let names = outline.names();
-    let mut text = opening(alloc, form, names)?;
-    let lines = Lines {
-        form,
-        numbers,
-        names,
-        places: &places,
-    };
-    let count = put_groups(&mut text, &lines, alloc, &mut groups)?;
-    Ok((text, count))
+    Ok(count_rest(alloc, &mut groups)?)
 }
 
 // Whether one of so many conditions has this number.
@@ -90,42 +96,76 @@ fn first_other(count: u32, numbers: &[u32]) -> Option<u32>
     None
 }
 
-// What is answered to numbers.
-fn of_numbers(
+// What is answered where conditions are not listed.
+fn not_listed<'a>(
+    alloc: Global,
+    error: ConditionsError,
+    source: &[u8],
+) -> Result<Reply<'a>, AllocError>
+    ensures { IfOk result (IsNotListed source.now error) }
+{
+    match error {
+        ConditionsError::Fault(fault) => {
+            let refusal = Answer::refused(alloc, &InputFault::Conditions(fault), source)?;
+            Ok(Reply::Refused(refusal))
+        }
+        ConditionsError::Memory => Err(AllocError),
+    }
+}
+
+// What is answered where all conditions are asked for.
+fn of_all<'a>(alloc: Global, form: Form, source: Source<'_>) -> Result<Reply<'a>, AllocError>
+    ensures { IfOk result (IsReplyToAll form source.entry.outline source.entry.bytes) }
+{
+    match within_limit(alloc, source.outline()) {
+        Ok(()) => Ok(Reply::Listing(Listing::of(alloc, form, None, source)?)),
+        Err(error) => not_listed(alloc, error, source.bytes()),
+    }
+}
+
+// What is answered to the numbers in a word.
+fn of_numbers<'a>(
     alloc: Global,
     form: Form,
-    numbers: &[u32],
-    source: &Source,
-) -> Result<Reply, AllocError>
-    ensures { IfOk result (IsReplyOf form numbers.now source.now.outline source.now.bytes) }
+    word: &'a str,
+    numbers: Vec<u32>,
+    source: Source<'_>,
+) -> Result<Reply<'a>, AllocError>
+    ensures { IfOk result (IsReplyOf form word.entry numbers.entry.items source.entry.outline source.entry.bytes) }
 {
-    match text_of(alloc, form, numbers, source.outline(), source.bytes()) {
-        Ok((text, count)) => match first_other(count, numbers) {
-            Some(number) => Ok(Reply::Bad(no_condition(alloc, number, count)?)),
-            None => Ok(Reply::Answer(Answer { text, status: 0 })),
+    match count(alloc, source.outline()) {
+        Ok(count) => match first_other(count, &numbers) {
+            Some(number) => Ok(Reply::Bad(word, no_condition(alloc, number, count)?)),
+            None => Ok(Reply::Listing(Listing::of(
+                alloc,
+                form,
+                Some(numbers),
+                source,
+            )?)),
         },
-        Err(ConditionsError::Fault(fault)) => {
-            let refusal = Answer::refused(alloc, &InputFault::Conditions(fault), source.bytes())?;
-            Ok(Reply::Answer(refusal))
-        }
-        Err(ConditionsError::Memory) => Err(AllocError),
+        Err(error) => not_listed(alloc, error, source.bytes()),
     }
 }
 
 // What is answered to a word.
-fn of_word(alloc: Global, form: Form, word: &str, source: &Source) -> Result<Reply, AllocError>
-    ensures { IfOk result (IsReplyTo form word.now source.now.outline source.now.bytes) }
+fn of_word<'a>(
+    alloc: Global,
+    form: Form,
+    word: &'a str,
+    source: Source<'_>,
+) -> Result<Reply<'a>, AllocError>
+    ensures { IfOk result (IsReplyTo form word.entry source.entry.outline source.entry.bytes) }
 {
-    let Some(asked) = numbers(alloc, word)? else {
-        return Ok(Reply::Bad(no_numbers(alloc)?));
-    };
-    of_numbers(alloc, form, &asked, source)
+    match numbers(alloc, word)? {
+        Some(numbers) => of_numbers(alloc, form, word, numbers, source),
+        None => Ok(Reply::Bad(word, no_numbers(alloc)?)),
+    }
 }
 
-/// The conditions of the outline of a source in this form without those whose number is not in the
-/// word, and status 0; or the line of a refusal and status 2. The word has numbers, counted from 1,
-/// with a comma between two. Only the conditions that one action makes with the other processes are
-/// in memory at a time.
+/// What is answered to whoever asks for the conditions of a source in this form: all, or those whose
+/// numbers are in a word, counted from 1 and with a comma between two. Either the listing, of which
+/// nothing is written yet; or the line of a refusal and status 2, where the source has no outline, or
+/// more than 4,000,000 conditions.
 ///
 /// `Bad` where the word is anything else, once the source was read, or has a number that no condition
 /// has; its line tells of the first one.
@@ -133,18 +173,19 @@ fn of_word(alloc: Global, form: Form, word: &str, source: &Source) -> Result<Rep
 /// # Errors
 ///
 /// An allocation was refused.
-pub fn chosen(alloc: Global, form: Form, word: &str, source: &[u8]) -> Result<Reply, AllocError>
-    ensures { IfOk result (IsReply form word.now source.now) }
+pub fn listed<'a>(
+    alloc: Global,
+    form: Form,
+    only: Option<&'a str>,
+    source: &[u8],
+) -> Result<Reply<'a>, AllocError>
+    ensures { IfOk result (IsReply form only.entry source.now) }
 {
     match Source::read(alloc, source) {
-        Ok(source) => {
-            let reply = of_word(alloc, form, word, &source);
-            drop(source);
-            reply
-        }
-        Err(error) => {
-            let refusal = Answer::unread(alloc, &error, source)?;
-            Ok(Reply::Answer(refusal))
-        }
+        Ok(source) => match only {
+            Some(word) => of_word(alloc, form, word, source),
+            None => of_all(alloc, form, source),
+        },
+        Err(error) => Ok(Reply::Refused(Answer::unread(alloc, &error, source)?)),
     }
 }

@@ -1,13 +1,11 @@
-//! The conditions that are asked for, as a text.
+//! A condition that is asked for, as a text.
 
-ghost use Rattle.std.specs.Prelude.{◌≡◌, ◌≤◌, ◌+◌, ◌^◌, ◌<◌, ◌++◌, length, map, IfOk, OnOk};
-ghost use Rattle.og_cond.specs.Groups.{rest};
-ghost use Rattle.og_cond.specs.Limits.{condition_limit};
+ghost use Rattle.std.specs.Prelude.{◌≡◌, ◌≤◌, ◌++◌, length, IfOk, OnOk};
 ghost use Rattle.og_cond.specs.Seen.{seen};
-ghost use Rattle.og_listings.specs.Listings.{opening_text, condition_text, wanted_text, wanted_lines};
+ghost use Rattle.og_listings.specs.Listings.{numbers_in, opening_text, condition_text, is_wanted, wanted_text};
 
-use og_cond::{Condition, Groups};
-use og_engine::Form;
+use crate::form::Form;
+use og_cond::Condition;
 use og_listing::{Places, put_condition};
 use og_text::Name;
 use og_triples::put_triple;
@@ -17,8 +15,8 @@ use std::alloc::{AllocError, Global};
 #[derive(Clone, Copy)]
 pub(crate) struct Lines<'a> {
     pub(crate) form: Form,
-    /// The numbers that are asked for.
-    pub(crate) numbers: &'a [u32],
+    /// The numbers that are asked for; all, where none are given.
+    pub(crate) only: Option<&'a [u32]>,
     /// The names of the variables.
     pub(crate) names: &'a [Name],
     /// The source.
@@ -55,59 +53,29 @@ fn put_numbered(
     }
 }
 
-// A condition, where its number is asked for.
-fn put_wanted(
+// Whether this number is asked for.
+fn is_wanted(only: Option<&[u32]>, number: u32) -> bool
+    ensures { result ≡ is_wanted (numbers_in only.entry) number }
+{
+    match only {
+        None => true,
+        Some(numbers) => numbers.contains(&number),
+    }
+}
+
+/// A condition, where its number is asked for.
+pub(crate) fn put_wanted(
     text: &mut Vec<u8>,
     lines: &Lines<'_>,
     number: u32,
     condition: &Condition,
 ) -> Result<(), AllocError>
     ensures { OnOk result (text.new.items ≡ text.old.items ++
-        wanted_text lines.now.form lines.now.numbers.now lines.now.names.now lines.now.places.now number (seen condition.now)) }
+        wanted_text lines.now.form (numbers_in lines.now.only) lines.now.names.now lines.now.places.now number (seen condition.now)) }
 {
-    if lines.numbers.contains(&number) {
+    if is_wanted(lines.only, number) {
         put_numbered(text, lines, number, condition)
     } else {
         Ok(())
     }
-}
-
-// Those of a group that are asked for; its first condition has this number.
-fn put_group(
-    text: &mut Vec<u8>,
-    lines: &Lines<'_>,
-    first: u32,
-    group: &[Condition],
-) -> Result<(), AllocError>
-    requires { first + length group.now < 2 ^ 32 }
-    ensures { OnOk result (text.new.items ≡ text.old.items ++
-        wanted_lines lines.now.form lines.now.numbers.now lines.now.names.now lines.now.places.now first (map seen group.now)) }
-{
-    let mut number = first;
-    for condition in group {
-        put_wanted(text, lines, number, condition)?;
-        number += 1;
-    }
-    Ok(())
-}
-
-/// Adds the conditions that are asked for to the text, of those that are still to come, which are
-/// numbered from 1. How many of these there are.
-pub(crate) fn put_groups(
-    text: &mut Vec<u8>,
-    lines: &Lines<'_>,
-    alloc: Global,
-    groups: &mut Groups<'_>,
-) -> Result<u32, AllocError>
-    requires { length (rest groups.old) ≤ condition_limit }
-    ensures text { OnOk result (text.new.items ≡ text.old.items ++
-        wanted_lines lines.now.form lines.now.numbers.now lines.now.names.now lines.now.places.now 1 (rest groups.old)) }
-    ensures count { IfOk result (λ count. count ≡ length (rest groups.old)) }
-{
-    let mut number = 1;
-    while let Some(group) = groups.next(alloc)? {
-        put_group(text, lines, number, &group)?;
-        number += group.len() as u32;
-    }
-    Ok(number - 1)
 }

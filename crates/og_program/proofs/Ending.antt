@@ -21,15 +21,16 @@ pub of_outcome : (files : List ℕ → Option (List ℕ)) (input : Option (List 
     → IfOk r (λ o. TellsOutcome o out out_after err err_after ended) → IfErr r (λ fault. Fails fault out out_after err err_after ended)
     → EndsJob files input job out out_after err err_after ended
 of_outcome files input job out out_after err err_after ended (Ok (outcomes.Told t)) came fault (inl told) wrong = inl (t, came, told)
-of_outcome files input job out out_after err err_after ended (Ok (outcomes.Told t)) came fault (inr failed) wrong = inr (inr (faults.NotWritten failed.1.0, (t, came, failed.0), failed.1.1))
+of_outcome files input job out out_after err err_after ended (Ok (outcomes.Told t)) came fault (inr failed) wrong = inr (inr (inl (faults.NotWritten failed.1.0, (t, came, failed.0), failed.1.1)))
+of_outcome files input job out out_after err err_after ended (Ok (outcomes.Listing text)) came fault told wrong = inr (inr (inr (text, came, told)))
 of_outcome files input job out out_after err err_after ended (Ok (outcomes.BadValue bad)) came fault (keeps, inl told) wrong =
     inr (inl (bad_value_text bad, (outcomes.BadValue bad, came, refl), keeps, told))
 of_outcome files input job out out_after err err_after ended (Ok (outcomes.BadValue bad)) came fault (keeps, inr told) wrong =
-    inr (inr (faults.Memory, tt, ((λ _. keeps), inl told)))
+    inr (inr (inl (faults.Memory, tt, ((λ _. keeps), inl told))))
 of_outcome files input job out out_after err err_after ended (Ok (outcomes.NotMade line)) came fault told wrong =
     inr (inl (line.items, (outcomes.NotMade line, came, refl), told.0, told.1))
 of_outcome files input job out out_after err err_after ended (Err why) came fault told wrong =
-    inr (inr (why, by_name (Opens job) (Leaves files input job out out_after) (StartsThreads files input job) why fault, wrong))
+    inr (inr (inl (why, by_name (Opens job) (Leaves files input job out out_after) (StartsThreads files input job) why fault, wrong)))
 
 -- a file that was not read is told
 pub lacking : (job : Job) (S : Type 0) (out out_after err err_after : Option (List ℕ)) (ended : Ended) (r : Result Outcome Fault) → IsUnread r

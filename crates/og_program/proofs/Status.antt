@@ -9,7 +9,7 @@ use Rattle.og_judge.specs.Proven.{IsProvenSource}
 use Rattle.og_remark.specs.Starting.{IsProvedRunRemark}
 use Rattle.og_words.specs.declared.job.Job.{Job}
 use Rattle.og_words.specs.declared.job.Job.TheVariants as jobs
-use Rattle.og_program.specs.Served.{Does, EndsJob, IsWordRemark, Follows, IsProvenIn, IsNeverStuckIn}
+use Rattle.og_program.specs.Served.{Comes, Does, EndsJob, IsWordRemark, Follows, IsProvenIn, IsNeverStuckIn}
 use Rattle.og_program.specs.Told.{Says}
 use Rattle.og_program.specs.declared.ended.Ended.{Ended}
 use Rattle.og_program.specs.declared.outcome.Outcome.TheVariants as outcomes
@@ -24,6 +24,12 @@ proven_run limit source certs words R V (replies.Told ran) t is follows zero =
     run_proven limit source certs words (replies.Told ran) is (inl (ap (λ a. a.status) (sym follows.0) ∙ zero))
 proven_run limit source certs words R V (replies.BadValue word) t is follows zero = absurd follows
 proven_run limit source certs words R V (replies.NotMade line) t is follows zero = let never : outcomes.Told t ≡ outcomes.NotMade line = follows in absurd (cc)
+
+-- a run comes to no listing
+no_listing : (R : Option (List ℕ) → Type 0) (V : List ℕ → List ℕ → Type 0) (reply : Reply) (text : List ℕ) → Follows R V reply (outcomes.Listing text) → ⊥
+no_listing R V (replies.Told ran) text follows = follows
+no_listing R V (replies.BadValue word) text follows = follows
+no_listing R V (replies.NotMade line) text follows = let never : outcomes.Listing text ≡ outcomes.NotMade line = follows in absurd (cc)
 
 sound_answer : (files : List ℕ → Option (List ℕ)) (input : Option (List ℕ)) (job : Job) (before after err err_after : Option (List ℕ)) (ended : Ended) → Does files input job before after err err_after ended
     → ended.status ≡ 0 → IsProvenIn files input job
@@ -59,6 +65,36 @@ unblocked_answer files input (jobs.Explore source limit erased json ranges) befo
 unblocked_answer files input (jobs.Expand template as_map values) before after err err_after ended h zero = tt
 unblocked_answer files input (jobs.Migrate certs) before after err err_after ended h zero = tt
 
+-- ---- of a listing
+
+sound_listing : (files : List ℕ → Option (List ℕ)) (input : Option (List ℕ)) (job : Job) (text : List ℕ) → Comes files input job (outcomes.Listing text) → IsProvenIn files input job
+sound_listing files input jobs.Joined text came = absurd came.2.3
+sound_listing files input (jobs.Prove source budget workers json) text came = absurd came.2
+sound_listing files input (jobs.Check source certs workers json) text came = absurd came.2.2
+sound_listing files input (jobs.Notes source budget) text came = tt
+sound_listing files input (jobs.Conditions source triples smt2 only) text came = tt
+sound_listing files input (jobs.Find source budget workers version) text came = tt
+sound_listing files input (jobs.Erase source readable) text came = tt
+sound_listing files input (jobs.Run source limit erased None schedule values) text came = tt
+sound_listing files input (jobs.Run source limit erased (Some certs) schedule values) text came =
+    let r = came.2.2 in absurd (no_listing (IsProvedRunRemark source.now certs.now came.0 came.2.0 (map (λ x. x.now) values.items)) (IsWordRemark came.0 None) r.0 text r.2)
+sound_listing files input (jobs.Explore source limit erased json ranges) text came = tt
+sound_listing files input (jobs.Expand template as_map values) text came = tt
+sound_listing files input (jobs.Migrate certs) text came = tt
+
+unblocked_listing : (files : List ℕ → Option (List ℕ)) (input before after : Option (List ℕ)) (job : Job) (text : List ℕ) → Comes files input job (outcomes.Listing text) → IsNeverStuckIn files input before after job
+unblocked_listing files input before after jobs.Joined text came = absurd came.2.3
+unblocked_listing files input before after (jobs.Prove source budget workers json) text came = absurd came.2
+unblocked_listing files input before after (jobs.Check source certs workers json) text came = absurd came.2.2
+unblocked_listing files input before after (jobs.Notes source budget) text came = tt
+unblocked_listing files input before after (jobs.Conditions source triples smt2 only) text came = tt
+unblocked_listing files input before after (jobs.Find source budget workers version) text came = tt
+unblocked_listing files input before after (jobs.Erase source readable) text came = tt
+unblocked_listing files input before after (jobs.Run source limit erased certs schedule values) text came = tt
+unblocked_listing files input before after (jobs.Explore source limit erased json ranges) text came = tt
+unblocked_listing files input before after (jobs.Expand template as_map values) text came = tt
+unblocked_listing files input before after (jobs.Migrate certs) text came = tt
+
 -- ---- of the program
 
 four_not_0 : (text : List ℕ) (err err_after : Option (List ℕ)) (ended : Ended) → Says text 4 err err_after ended → ended.status ≡ 0 → ⊥
@@ -69,10 +105,12 @@ pub sound_job : (files : List ℕ → Option (List ℕ)) (input : Option (List �
     → EndsJob files input job out out_after err err_after ended → ended.status ≡ 0 → IsProvenIn files input job
 sound_job files input job out out_after err err_after ended (inl done) zero = sound_answer files input job out out_after err err_after ended done zero
 sound_job files input job out out_after err err_after ended (inr (inl refused)) zero = let three = refused.3.0 in absurd (omega (arith, three, zero))
-sound_job files input job out out_after err err_after ended (inr (inr failed)) zero = absurd (four_not_0 _ err err_after ended failed.2.1 zero)
+sound_job files input job out out_after err err_after ended (inr (inr (inl failed))) zero = absurd (four_not_0 _ err err_after ended failed.2.1 zero)
+sound_job files input job out out_after err err_after ended (inr (inr (inr listed))) zero = sound_listing files input job listed.0 listed.1
 
 pub unblocked_job : (files : List ℕ → Option (List ℕ)) (input : Option (List ℕ)) (job : Job) (out out_after err err_after : Option (List ℕ)) (ended : Ended)
     → EndsJob files input job out out_after err err_after ended → ended.status ≡ 0 → IsNeverStuckIn files input out out_after job
 unblocked_job files input job out out_after err err_after ended (inl done) zero = unblocked_answer files input job out out_after err err_after ended done zero
 unblocked_job files input job out out_after err err_after ended (inr (inl refused)) zero = let three = refused.3.0 in absurd (omega (arith, three, zero))
-unblocked_job files input job out out_after err err_after ended (inr (inr failed)) zero = absurd (four_not_0 _ err err_after ended failed.2.1 zero)
+unblocked_job files input job out out_after err err_after ended (inr (inr (inl failed))) zero = absurd (four_not_0 _ err err_after ended failed.2.1 zero)
+unblocked_job files input job out out_after err err_after ended (inr (inr (inr listed))) zero = unblocked_listing files input out out_after job listed.0 listed.1

@@ -5,11 +5,9 @@ use Rattle.std.specs.Io.KnownBytes.{Appends, Keeps}
 use Rattle.og_engine.specs.Answers.{IsChecked}
 use Rattle.og_engine.specs.NeverStuck.{HasNeverStuckSource}
 use Rattle.og_engine.specs.Proven.{HasProvenSource}
-use Rattle.og_engine.specs.Commands.{IsListed, IsErased}
+use Rattle.og_engine.specs.Commands.{IsErased}
 use Rattle.og_engine.specs.Inputs.{source_of, certs_of, joined_of, Reads}
 use Rattle.og_engine.specs.Making.{IsFound, IsMigrated}
-use Rattle.og_engine.specs.declared.commands.Form.{Form}
-use Rattle.og_engine.specs.declared.commands.Form.TheVariants as forms
 use Rattle.og_engine.specs.Proving.{IsProving}
 use Rattle.og_engine.specs.Unfinished.{AppendsFront}
 use Rattle.og_engine.specs.Warrants.{Warrants}
@@ -27,6 +25,8 @@ use Rattle.og_judge.specs.NeverStuck.{IsNeverStuckSource}
 use Rattle.og_listings.specs.Chosen as listing
 use Rattle.og_listings.specs.declared.choosing.Reply.{Reply as Listing}
 use Rattle.og_listings.specs.declared.choosing.Reply.TheVariants as listings
+use Rattle.og_listings.specs.declared.form.Form.{Form}
+use Rattle.og_listings.specs.declared.form.Form.TheVariants as forms
 use Rattle.og_notes.specs.Noted.{IsNoted}
 use Rattle.og_remark.specs.Expansion.{IsExpansionRemark}
 use Rattle.og_remark.specs.Missing.{IsMissingRemark}
@@ -48,7 +48,7 @@ use Rattle.og_words.specs.declared.job.Usage.{Usage}
 use Rattle.og_words.specs.declared.job.Usage.TheVariants as usages
 use Rattle.og_program.specs.Failing.{IsFault}
 use Rattle.og_program.specs.Named.{bytes_in, certs_in, is_file, lacks_bytes, lacks_certs}
-use Rattle.og_program.specs.Told.{Noted, bad_value_text, Complains, IsSilent, Prints, Fails, FailsToWrite}
+use Rattle.og_program.specs.Told.{Noted, bad_value_text, Complains, IsSilent, Prints, TellsListing, Fails, FailsToWrite}
 use Rattle.og_program.specs.declared.ended.Ended.{Ended}
 use Rattle.og_program.specs.declared.fault.Fault.{Fault}
 use Rattle.og_program.specs.declared.fault.Fault.TheVariants as faults
@@ -68,6 +68,7 @@ RemarksBoth R M t = (t.answer.status ≡ 2 → Noted R t) × (t.answer.status �
 -- an answer such as P says
 abbrev pub OnTold : (Told → Type 0) → Outcome → Type 0
 OnTold P (outcomes.Told t) = P t
+OnTold P (outcomes.Listing text) = ⊥
 OnTold P (outcomes.BadValue bad) = ⊥
 OnTold P (outcomes.NotMade line) = ⊥
 
@@ -93,9 +94,6 @@ form_of triples true = forms.Script
 form_of true false = forms.Triples
 form_of false false = forms.Facts
 
-abbrev pub Lists : Form → List ℕ → List ℕ → Told → Type 0
-Lists form name source t = IsListed form source t.answer × Remarks (IsConditionsRemark name source) t
-
 abbrev pub Finds : ℕ → List ℕ → List ℕ → Told → Type 0
 Finds version name source t = IsFound version source t.answer × RemarksBoth (IsConditionsRemark name source) (IsMissingRemark name source t.answer.text.items) t
 
@@ -112,6 +110,7 @@ TellsRan R ran t = (t.answer ≡ ran.answer) × (t.answer.status ≡ 2 → Noted
 -- the word that gives no value, and where a line says why, it is such as V says
 abbrev pub OnBad : (List ℕ → List ℕ → Type 0) → Bor (List ℕ) → Outcome → Type 0
 OnBad V word (outcomes.Told t) = ⊥
+OnBad V word (outcomes.Listing text) = ⊥
 OnBad V word (outcomes.BadValue bad) = (bad.word ≡ word) × IfSome bad.why (λ line. V word.now line.items)
 OnBad V word (outcomes.NotMade line) = ⊥
 
@@ -149,15 +148,16 @@ FollowsExpanding name template (expandings.Refused answer fault) outcome =
     OnTold (λ t. (t.answer ≡ answer) × Noted (IsExpansionNote name template fault) t) outcome
 FollowsExpanding name template (expandings.BadValue word) outcome = OnBad (λ _ _. ⊥) word outcome
 
--- what is told of the reply to a word that has numbers of conditions
-abbrev pub FollowsListing : List ℕ → List ℕ → Bor (List ℕ) → Listing → Outcome → Type 0
-FollowsListing name source only (listings.Answer answer) outcome =
+-- what is told of the reply to whoever asks for conditions
+abbrev pub FollowsListing : List ℕ → List ℕ → Listing → Outcome → Type 0
+FollowsListing name source (listings.Listing text) outcome = outcome ≡ outcomes.Listing text
+FollowsListing name source (listings.Refused answer) outcome =
     OnTold (λ t. (t.answer ≡ answer) × Remarks (IsConditionsRemark name source) t) outcome
-FollowsListing name source only (listings.Bad why) outcome = outcome ≡ outcomes.BadValue (record { word = only; why = Some why })
+FollowsListing name source (listings.Bad word why) outcome = outcome ≡ outcomes.BadValue (record { word = word; why = Some why })
 
--- of the reply to the bytes of a source
-abbrev pub ListsOnly : Form → Bor (List ℕ) → List ℕ → List ℕ → Outcome → Type 0
-ListsOnly form only name source outcome = (reply : Listing) × listing.IsReply form only.now source reply × FollowsListing name source only reply outcome
+-- the conditions of a source: all, or those of a word
+abbrev pub Lists : Form → Option (Bor (List ℕ)) → List ℕ → List ℕ → Outcome → Type 0
+Lists form only name source outcome = (reply : Listing) × listing.IsReply form only source reply × FollowsListing name source reply outcome
 
 -- ---- what a job comes to
 
@@ -182,11 +182,6 @@ OfRun files input name limit erased None (Some schedule) words outcome =
 OfRun files input name limit erased (Some certs) schedule words outcome =
     OfBoth files input name certs.now (λ s c. Runs (IsRanProved limit s c words) (IsProvedRunRemark name certs.now s c words) (IsWordRemark s None)) outcome
 
--- the conditions of a source: all, or those of a word
-abbrev pub OfListing : (List ℕ → Option (List ℕ)) → Option (List ℕ) → List ℕ → Form → Option (Bor (List ℕ)) → Outcome → Type 0
-OfListing files input name form None outcome = OfSource files input name (λ s. OnTold (Lists form name s)) outcome
-OfListing files input name form (Some only) outcome = OfSource files input name (ListsOnly form only name) outcome
-
 -- an exploration, without auxiliaries or with them, as JSON or as a text
 abbrev pub Explores : Bool → Bool → List (List ℕ) → List ℕ → List ℕ → Outcome → Type 0
 Explores erased json words name source outcome =
@@ -203,7 +198,7 @@ Comes files input jobs.Joined = OfJoined input
 Comes files input (jobs.Prove source budget workers json) = OfSource files input source.now (λ s. OnTold (Proves json source.now s))
 Comes files input (jobs.Check source certs workers json) = OfBoth files input source.now certs.now (λ s c. OnTold (Checks json source.now certs.now s c))
 Comes files input (jobs.Notes source budget) = OfSource files input source.now (λ s. OnTold (NotesOn source.now s))
-Comes files input (jobs.Conditions source triples smt2 only) = OfListing files input source.now (form_of triples smt2) only
+Comes files input (jobs.Conditions source triples smt2 only) = OfSource files input source.now (Lists (form_of triples smt2) only source.now)
 Comes files input (jobs.Find source budget workers version) = OfSource files input source.now (λ s. OnTold (Finds version source.now s))
 Comes files input (jobs.Erase source readable) = OfSource files input source.now (λ s. OnTold (Erases readable source.now s))
 Comes files input (jobs.Run source limit erased certs schedule values) = OfRun files input source.now limit erased certs schedule (map (λ w. w.now) values.items)
@@ -215,13 +210,19 @@ Comes files input (jobs.Migrate certs) = λ outcome. Reads certs_of (bytes_in fi
 abbrev pub Does : (List ℕ → Option (List ℕ)) → Option (List ℕ) → Job → Option (List ℕ) → Option (List ℕ) → Option (List ℕ) → Option (List ℕ) → Ended → Type 0
 Does files input job out out_after err err_after ended = (t : Told) × Comes files input job (outcomes.Told t) × Prints t out out_after err err_after ended
 
--- a front of it goes to the end of what standard output holds
+-- the listing that a job comes to is written as it is made
+abbrev pub DoesList : (List ℕ → Option (List ℕ)) → Option (List ℕ) → Job → Option (List ℕ) → Option (List ℕ) → Option (List ℕ) → Option (List ℕ) → Ended → Type 0
+DoesList files input job out out_after err err_after ended =
+    (text : List ℕ) × Comes files input job (outcomes.Listing text) × TellsListing text out out_after err err_after ended
+
+-- a front of the answer goes to the end of what standard output holds
 abbrev pub Leaves : (List ℕ → Option (List ℕ)) → Option (List ℕ) → Job → Option (List ℕ) → Option (List ℕ) → Type 0
 Leaves files input job before after = (t : Told) × Comes files input job (outcomes.Told t) × AppendsFront before after t.answer.text.items
 
 -- the text that says why it cannot be done: a word gives no value or no steps, or a step cannot be made
 abbrev pub RefusesAs : Outcome → List ℕ → Type 0
 RefusesAs (outcomes.Told t) text = ⊥
+RefusesAs (outcomes.Listing listing) text = ⊥
 RefusesAs (outcomes.BadValue bad) text = text ≡ bad_value_text bad
 RefusesAs (outcomes.NotMade line) text = text ≡ line.items
 
@@ -305,13 +306,15 @@ StartsThreads files input (jobs.Expand template as_map values) = ⊥
 StartsThreads files input (jobs.Migrate certs) = ⊥
 
 -- how the program ends where it is given a job: with what it comes to, or with a fault; a failed write leaves a front of the
--- answer, and that a thread could not be started is told only of a job that starts threads
+-- answer, and that a thread could not be started is told only of a job that starts threads; a listing that is not written whole
+-- leaves a front of it
 abbrev pub EndsJob : (List ℕ → Option (List ℕ)) → Option (List ℕ) → Job → Option (List ℕ) → Option (List ℕ) → Option (List ℕ) → Option (List ℕ) → Ended → Type 0
 EndsJob files input job out out_after err err_after ended =
     Does files input job out out_after err err_after ended
     ⊎ ((text : List ℕ) × Refuses files input job text × Keeps out out_after × Complains text 3 err err_after ended)
     ⊎ ((fault : Fault) × IsFault (Opens job) (Leaves files input job out out_after) (StartsThreads files input job) fault
     × Fails fault out out_after err err_after ended)
+    ⊎ DoesList files input job out out_after err err_after ended
 
 -- a file that the job opens was not read
 abbrev pub FailsToRead : Job → Option (List ℕ) → Option (List ℕ) → Option (List ℕ) → Option (List ℕ) → Ended → Type 0

@@ -5,7 +5,8 @@ use Rattle.std.specs.Io.KnownBytes.{Appends, Keeps}
 use Rattle.std.specs.declared.alloc.AllocError.{AllocError}
 use Rattle.og_engine.specs.Unfinished.{AppendsFront}
 use Rattle.og_engine.specs.declared.fault.WriteFault.{WriteFault}
-use Rattle.og_program.specs.Failing.{fault_text, is_not_written}
+use Rattle.og_listings.specs.declared.fault.ListingFault.{ListingFault}
+use Rattle.og_program.specs.Failing.{fault_text, is_not_written, of_listing}
 use Rattle.og_program.specs.declared.ended.Ended.{Ended}
 use Rattle.og_program.specs.declared.fault.Fault.{Fault}
 use Rattle.og_program.specs.declared.fault.Fault.TheVariants as faults
@@ -66,8 +67,22 @@ Prints t out out_after err err_after ended = Appends out out_after t.answer.text
 abbrev pub TellsAnswer : Told → Option (List ℕ) → Option (List ℕ) → Option (List ℕ) → Option (List ℕ) → Ended → Type 0
 TellsAnswer t out out_after err err_after ended = Prints t out out_after err err_after ended ⊎ FailsToWrite t.answer.text.items out out_after err err_after ended
 
--- an answer, a word that gives no value, or the line of a step that cannot be made
+-- the listing goes to the end of what standard output holds, with status 0 and nothing on standard error
+abbrev pub PrintsListing : List ℕ → Option (List ℕ) → Option (List ℕ) → Option (List ℕ) → Option (List ℕ) → Ended → Type 0
+PrintsListing text out out_after err err_after ended = Appends out out_after text × (ended.status ≡ 0) × IsSilent err err_after ended
+
+-- a front of it does, and it is told why it is not whole: a failed write, or memory ran out
+abbrev pub StopsListing : List ℕ → Option (List ℕ) → Option (List ℕ) → Option (List ℕ) → Option (List ℕ) → Ended → Type 0
+StopsListing text out out_after err err_after ended =
+    AppendsFront out out_after text × ((why : ListingFault) × Says (fault_text (of_listing why)) 4 err err_after ended)
+
+abbrev pub TellsListing : List ℕ → Option (List ℕ) → Option (List ℕ) → Option (List ℕ) → Option (List ℕ) → Ended → Type 0
+TellsListing text out out_after err err_after ended =
+    PrintsListing text out out_after err err_after ended ⊎ StopsListing text out out_after err err_after ended
+
+-- an answer, a listing, a word that gives no value, or the line of a step that cannot be made
 abbrev pub TellsOutcome : Outcome → Option (List ℕ) → Option (List ℕ) → Option (List ℕ) → Option (List ℕ) → Ended → Type 0
 TellsOutcome (outcomes.Told t) out out_after err err_after ended = TellsAnswer t out out_after err err_after ended
+TellsOutcome (outcomes.Listing text) out out_after err err_after ended = TellsListing text out out_after err err_after ended
 TellsOutcome (outcomes.BadValue bad) out out_after err err_after ended = Keeps out out_after × Says (bad_value_text bad) 3 err err_after ended
 TellsOutcome (outcomes.NotMade line) out out_after err err_after ended = Keeps out out_after × Complains line.items 3 err err_after ended

@@ -14,7 +14,7 @@ use og_advice::Names;
 use og_answer::Answer;
 use og_expander::{ExpandFault, Reply as Expanded};
 use og_explorer::Reply as Explored;
-use og_listings::Reply as Chosen;
+use og_listings::Reply as Listed;
 use og_remark::{
     Gives, certificates_remark, check_remark, conditions_remark, expansion_remark, missing_remark,
     proved_run_remark, run_remark, schedule_remark, source_remark, value_remark,
@@ -104,22 +104,22 @@ pub(crate) fn beside_check<H: Threads + Wait + Sync>(
     Told { answer, note }
 }
 
-/// What is told of the reply to a word that has numbers of conditions.
-pub(crate) fn beside_chosen<'a>(
+/// What is told of the reply to whoever asks for the conditions of a source.
+pub(crate) fn beside_listing<'a>(
     alloc: Global,
     name: &str,
     source: &[u8],
-    only: &'a str,
-    reply: Chosen,
+    reply: Listed<'a>,
 ) -> Outcome<'a>
-    ensures { FollowsListing name.now source.now only.entry reply result }
+    ensures { FollowsListing name.now source.now reply.entry result }
 {
     match reply {
-        Chosen::Answer(answer) => Outcome::Told(beside_conditions(alloc, name, source, answer)),
-        Chosen::Bad(line) => Outcome::BadValue(BadValue {
-            word: only,
-            why: Some(line),
-        }),
+        Listed::Listing(listing) => Outcome::Listing(listing),
+        Listed::Refused(answer) => Outcome::Told(beside_conditions(alloc, name, source, answer)),
+        Listed::Bad(word, line) => {
+            let why = Some(line);
+            Outcome::BadValue(BadValue { word, why })
+        }
     }
 }
 

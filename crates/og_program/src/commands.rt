@@ -4,16 +4,16 @@ ghost use Rattle.std.specs.Prelude.{◌≡◌, true, IfErr, IfOk};
 ghost use Rattle.og_engine.specs.Inputs.{certs_of, Reads};
 ghost use Rattle.og_program.specs.Failing.{IsReading, IsUnread};
 ghost use Rattle.og_program.specs.Named.{bytes_in, is_file, lacks_bytes};
-ghost use Rattle.og_program.specs.Served.{form_of, OfSource, OfListing, OnTold, NotesOn, Lists, ListsOnly, Erases, Migrates};
+ghost use Rattle.og_program.specs.Served.{form_of, OfSource, OnTold, NotesOn, Lists, Erases, Migrates};
 
-use crate::beside::{beside_certificates, beside_chosen, beside_conditions, beside_source};
+use crate::beside::{beside_certificates, beside_listing, beside_source};
 use crate::fault::Fault;
 use crate::files::Files;
 use crate::outcome::Outcome;
 use crate::reading::{certificate_bytes, source_bytes};
-use og_engine::{Form, erased, listed, migrated};
+use og_engine::{erased, migrated};
 use og_limits::Budget;
-use og_listings::chosen;
+use og_listings::{Form, listed};
 use og_notes::noted;
 use std::alloc::Global;
 use std::io::Read;
@@ -49,43 +49,6 @@ pub(crate) fn form_of(triples: bool, smt2: bool) -> Form
     }
 }
 
-// All conditions of a source.
-fn all_conditions<'a, F: Files, I: Read>(
-    alloc: Global,
-    files: &F,
-    name: &'a str,
-    form: Form,
-    input: &mut I,
-) -> Result<Outcome<'a>, Fault<'a>>
-    ensures came { IfOk result (OfSource (F.contents files.now) (I.remaining input.old) name.now (λ s. OnTold (Lists form name.now s))) }
-    ensures fault { IfErr result (IsReading name.now) }
-    ensures missing { lacks_bytes (F.is_missing files.now) name.now ≡ true → IsUnread result }
-    ensures kept { is_file name.now ≡ true → I.remaining input.new ≡ I.remaining input.old }
-{
-    let source = source_bytes(alloc, files, name, input)?;
-    let answer = listed(alloc, form, &source)?;
-    Ok(Outcome::Told(beside_conditions(alloc, name, &source, answer)))
-}
-
-// The conditions of a source whose numbers a word has.
-fn chosen_conditions<'a, F: Files, I: Read>(
-    alloc: Global,
-    files: &F,
-    name: &'a str,
-    form: Form,
-    only: &'a str,
-    input: &mut I,
-) -> Result<Outcome<'a>, Fault<'a>>
-    ensures came { IfOk result (OfSource (F.contents files.now) (I.remaining input.old) name.now (ListsOnly form only.entry name.now)) }
-    ensures fault { IfErr result (IsReading name.now) }
-    ensures missing { lacks_bytes (F.is_missing files.now) name.now ≡ true → IsUnread result }
-    ensures kept { is_file name.now ≡ true → I.remaining input.new ≡ I.remaining input.old }
-{
-    let source = source_bytes(alloc, files, name, input)?;
-    let reply = chosen(alloc, form, only, &source)?;
-    Ok(beside_chosen(alloc, name, &source, only, reply))
-}
-
 /// The conditions of a source: all, or those whose numbers a word has.
 pub(crate) fn conditions<'a, F: Files, I: Read>(
     alloc: Global,
@@ -95,15 +58,14 @@ pub(crate) fn conditions<'a, F: Files, I: Read>(
     only: Option<&'a str>,
     input: &mut I,
 ) -> Result<Outcome<'a>, Fault<'a>>
-    ensures came { IfOk result (OfListing (F.contents files.now) (I.remaining input.old) name.now form only.entry) }
+    ensures came { IfOk result (OfSource (F.contents files.now) (I.remaining input.old) name.now (Lists form only.entry name.now)) }
     ensures fault { IfErr result (IsReading name.now) }
     ensures missing { lacks_bytes (F.is_missing files.now) name.now ≡ true → IsUnread result }
     ensures kept { is_file name.now ≡ true → I.remaining input.new ≡ I.remaining input.old }
 {
-    match only {
-        None => all_conditions(alloc, files, name, form, input),
-        Some(only) => chosen_conditions(alloc, files, name, form, only, input),
-    }
+    let source = source_bytes(alloc, files, name, input)?;
+    let reply = listed(alloc, form, only, &source)?;
+    Ok(beside_listing(alloc, name, &source, reply))
 }
 
 /// The program of a source without its auxiliary variables.

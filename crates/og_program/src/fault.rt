@@ -1,10 +1,11 @@
 //! Why a job cannot be done.
 
 ghost use Rattle.std.specs.Prelude.{◌≡◌};
-ghost use Rattle.og_program.specs.Failing.{why_text, of_pool};
+ghost use Rattle.og_program.specs.Failing.{why_text, of_listing, of_pool};
 ghost use Rattle.og_program.specs.declared.fault.Fault.TheVariants.{Memory};
 
 use og_engine::WriteFault;
+use og_listings::ListingFault;
 use og_pool::PoolFault;
 use std::alloc::{AllocError, AllocFailed};
 use std::io::{Error, ErrorKind};
@@ -74,6 +75,17 @@ impl<'a> From<PoolFault> for Fault<'a> {
         match fault {
             PoolFault::Memory => Fault::Memory,
             PoolFault::Spawn => Fault::Spawn,
+        }
+    }
+}
+
+impl<'a> From<ListingFault> for Fault<'a> {
+    ghost from_gives = { λ from fault. fault ≡ of_listing from };
+
+    fn from(fault: ListingFault) -> Fault<'a> {
+        match fault {
+            ListingFault::Memory => Fault::Memory,
+            ListingFault::NotWritten(why) => Fault::NotWritten(why),
         }
     }
 }

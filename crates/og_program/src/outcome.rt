@@ -1,6 +1,7 @@
 //! What a job comes to, before anything of it is written.
 
 use og_answer::Answer;
+use og_listings::Listing;
 use std::alloc::AllocError;
 
 /// An answer, and what goes to standard error beside it.
@@ -27,6 +28,8 @@ pub struct BadValue<'a> {
 pub enum Outcome<'a> {
     /// An answer.
     Told(Told),
+    /// A listing of conditions.
+    Listing(Listing),
     /// The first word that gives no value.
     BadValue(BadValue<'a>),
     /// The line that says which step of the schedule cannot be made, and why.

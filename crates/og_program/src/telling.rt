@@ -2,12 +2,13 @@
 
 ghost use Rattle.std.specs.Prelude.{◌≡◌, ◌++◌, IfOk, IfErr, OnOk};
 ghost use Rattle.og_program.specs.Failing.{fault_text};
-ghost use Rattle.og_program.specs.Told.{line_or_nothing, bad_value_text, Complains, Notes, Says, Fails, TellsAnswer, TellsOutcome};
+ghost use Rattle.og_program.specs.Told.{line_or_nothing, bad_value_text, Complains, Notes, Says, Fails, TellsAnswer, TellsListing, TellsOutcome};
 
 use crate::ended::Ended;
 use crate::fault::{Fault, Why};
 use crate::outcome::{BadValue, Outcome, Told};
 use og_engine::{WriteFault, write_answer, write_text};
+use og_listings::Listing;
 use std::alloc::{AllocError, Global};
 use std::io::Write;
 
@@ -128,6 +129,21 @@ fn refuse_value<E: Write>(alloc: Global, bad: &BadValue<'_>, err: &mut E) -> End
     }
 }
 
+// Writes a listing as it is made, or tells why it is not written whole.
+fn list<O: Write, E: Write>(
+    alloc: Global,
+    listing: &Listing,
+    out: &mut O,
+    err: &mut E,
+) -> Ended
+    ensures { TellsListing listing.now (O.contents out.old) (O.contents out.new) (E.contents err.old) (E.contents err.new) result }
+{
+    match listing.write(alloc, out) {
+        Ok(status) => Ended { status, told: true },
+        Err(fault) => fail(alloc, Fault::from(fault), err),
+    }
+}
+
 // Tells what a job comes to.
 fn tell_outcome<O: Write, E: Write>(
     alloc: Global,
@@ -139,6 +155,7 @@ fn tell_outcome<O: Write, E: Write>(
 {
     match outcome {
         Outcome::Told(told) => print(alloc, told, out, err),
+        Outcome::Listing(listing) => list(alloc, listing, out, err),
         Outcome::BadValue(bad) => refuse_value(alloc, bad, err),
         Outcome::NotMade(line) => complain(line, WRONG, err),
     }

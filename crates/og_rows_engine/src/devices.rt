@@ -2,10 +2,12 @@
 
 ghost use Rattle.std.specs.Prelude.{◌≡◌, IfOk};
 
-use og_engine::{EngineFault, Options, engine, engine_joined};
+use og_engine::{EngineFault, Options, WriteFault, engine, engine_joined};
 use og_limits::Workers;
+use og_listings::{Form, Listing, ListingFault, Reply, listed};
 use og_pool::OpenGate;
-use std::alloc::Global;
+use og_samples::alike;
+use std::alloc::{AllocError, Global};
 use std::io::{Error, ErrorKind, Read, Write};
 use std::process::Abort;
 use std::sync::Wait;
@@ -349,5 +351,75 @@ fn spaces_up_to_the_limit(rt: HostRuntime) -> Result<(), Fail> {
     let (mut source, mut certs) = (spaces.as_slice(), CERTS);
     let line = b"refused: 7 Expected at 1:1\n";
     expect_refused(&rt, rt.alloc(), &mut source, &mut certs, line);
+    Ok(())
+}
+
+const LISTING: &[u8] = b"\
+cond 1 start at 3:1
+  1: 1 <= 0
+cond 2 step at 3:8
+  1: 1 <= 0
+cond 3 end at 5:1
+  1: 1 <= 0
+cond 4 blocking at 2:1
+  1: 1 <= 0
+";
+
+// The listing of all conditions of a source, where there is one.
+fn listing_of(alloc: Global, source: &[u8]) -> Result<Option<Listing>, AllocError> {
+    match listed(alloc, Form::Facts, None, source)? {
+        Reply::Listing(listing) => Ok(Some(listing)),
+        Reply::Refused(_) | Reply::Bad(..) => Ok(None),
+    }
+}
+
+// Each write fails in turn, and what was written stays.
+fn expect_cut<R: Abort>(rt: &R, alloc: Global, listing: &Listing, whole: &[u8], step: usize) {
+    for fails_at in (1..whole.len() + 1).step_by(step) {
+        let mut paper = Paper::new(alloc, fails_at);
+        let got = listing.write(alloc, &mut paper);
+        assert!(rt; got == Err(ListingFault::NotWritten(WriteFault::Failed)), "at {fails_at}");
+        let written = paper.bytes.as_slice();
+        assert!(rt;
+            whole.starts_with(written) && written.len() == fails_at - 1,
+            "at {fails_at}"
+        );
+    }
+}
+
+// Each write is made, and then the flush fails.
+fn expect_failed_flush<R: Abort>(rt: &R, alloc: Global, listing: &Listing, whole: &[u8]) {
+    let mut paper = Paper::new(alloc, whole.len() + 1);
+    assert!(rt; listing.write(alloc, &mut paper) == Ok(0));
+    assert!(rt; paper.bytes.as_slice() == whole);
+    let mut paper = Paper::new(alloc, 0);
+    paper.fails_flush = true;
+    let got = listing.write(alloc, &mut paper);
+    assert!(rt; got == Err(ListingFault::NotWritten(WriteFault::Failed)));
+    assert!(rt; paper.bytes.as_slice() == whole);
+}
+
+// A writer that fails in the middle of a listing has what came before.
+#[test]
+fn writers_that_fail_in_a_listing(rt: HostRuntime) -> Result<(), Fail> {
+    let Some(listing) = listing_of(rt.alloc(), SOURCE)? else {
+        return Err(Fail::new("there is no listing"));
+    };
+    expect_cut(&rt, rt.alloc(), &listing, LISTING, 1);
+    expect_failed_flush(&rt, rt.alloc(), &listing, LISTING);
+    Ok(())
+}
+
+// So it has where the listing is written in several pieces.
+#[test]
+fn writers_that_fail_in_a_long_listing(rt: HostRuntime) -> Result<(), Fail> {
+    let source = alike(rt.alloc(), 8, 4, 3)?;
+    let Some(listing) = listing_of(rt.alloc(), source.as_bytes())? else {
+        return Err(Fail::new("there is no listing"));
+    };
+    let mut whole = Paper::new(rt.alloc(), 0);
+    assert!(rt; listing.write(rt.alloc(), &mut whole) == Ok(0));
+    assert!(rt; 24_576 < whole.bytes.len());
+    expect_cut(&rt, rt.alloc(), &listing, &whole.bytes, 1_021);
     Ok(())
 }

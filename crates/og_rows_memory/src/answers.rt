@@ -1,11 +1,10 @@
 //! What commands answer, as texts.
 
-use og_engine::{
-    Answer, EngineFault, Form, Options, checked, engine, erased, found, listed, migrated,
-};
+use og_engine::{Answer, EngineFault, Options, checked, engine, erased, found, migrated};
 use og_limits::{Budget, CertVersion, Workers};
+use og_listings::{Form, Listing, ListingFault, Reply, listed};
 use og_pool::{OpenGate, PoolFault};
-use og_samples::{ONE_SKIP, ONE_SKIP_CERTS, TOLD_ADD, TWO_ADD, TWO_ADD_CERTS};
+use og_samples::{ONE_SKIP, ONE_SKIP_CERTS, TOLD_ADD, TWO_ADD, TWO_ADD_CERTS, alike};
 use std::alloc::Global;
 use std::io::{Error, ErrorKind, Write};
 use std::sync::Wait;
@@ -34,12 +33,26 @@ pub(crate) fn is_checked<R: Threads + Wait + Sync>(
 
 // Paper of fixed length, which asks for no memory.
 #[derive(Drop)]
-struct Sheet {
-    bytes: [u8; 64],
+struct Sheet<const LENGTH: usize> {
+    bytes: [u8; LENGTH],
     used: usize,
 }
 
-impl Write for Sheet {
+impl<const LENGTH: usize> Sheet<LENGTH> {
+    fn new() -> Sheet<LENGTH> {
+        Sheet {
+            bytes: [0; LENGTH],
+            used: 0,
+        }
+    }
+
+    // What was written.
+    fn written(&self) -> &[u8] {
+        self.bytes.get(..self.used).unwrap_or_default()
+    }
+}
+
+impl<const LENGTH: usize> Write for Sheet<LENGTH> {
     fn write(&mut self, buf: &[u8]) -> Result<usize, Error> {
         let Some(free) = self.bytes.get_mut(self.used..) else {
             return Err(Error::from(ErrorKind::Other));
@@ -56,8 +69,7 @@ impl Write for Sheet {
 }
 
 // Where there is no answer nothing is written.
-fn of_engine(answer: Result<u8, EngineFault>, sheet: &Sheet) -> Result<bool, PoolFault> {
-    let written = sheet.bytes.get(..sheet.used).unwrap_or_default();
+fn of_engine(answer: Result<u8, EngineFault>, written: &[u8]) -> Result<bool, PoolFault> {
     match answer {
         Ok(status) => Ok(status == 0 && written == REPORT.as_bytes()),
         Err(EngineFault::Memory) if written.is_empty() => Err(PoolFault::Memory),
@@ -70,10 +82,7 @@ pub(crate) fn is_written<R: Threads + Wait + Sync>(
     alloc: Global,
 ) -> Result<bool, PoolFault> {
     let (mut source, mut certs) = (TWO_ADD.as_bytes(), TWO_ADD_CERTS.as_bytes());
-    let mut sheet = Sheet {
-        bytes: [0; 64],
-        used: 0,
-    };
+    let mut sheet = Sheet::<64>::new();
     let answer = engine(
         rt,
         alloc,
@@ -83,7 +92,7 @@ pub(crate) fn is_written<R: Threads + Wait + Sync>(
         OPTIONS,
         &OpenGate,
     );
-    of_engine(answer, &sheet)
+    of_engine(answer, sheet.written())
 }
 
 const LISTED: &str = "\
@@ -97,8 +106,47 @@ cond 4 blocking at 2:1
   1: 1 <= 0
 ";
 
+// Where memory is refused a front of the listing is written.
+fn of_listing(
+    answer: Result<u8, ListingFault>,
+    written: &[u8],
+    whole: &[u8],
+) -> Result<bool, PoolFault> {
+    match answer {
+        Ok(status) => Ok(status == 0 && written == whole),
+        Err(ListingFault::Memory) if whole.starts_with(written) => Err(PoolFault::Memory),
+        Err(_) => Ok(false),
+    }
+}
+
 pub(crate) fn is_listed(alloc: Global) -> Result<bool, PoolFault> {
-    Ok(is(&listed(alloc, Form::Facts, ONE_SKIP.as_bytes())?, LISTED, 0))
+    let Reply::Listing(listing) = listed(alloc, Form::Facts, None, ONE_SKIP.as_bytes())? else {
+        return Ok(false);
+    };
+    let mut sheet = Sheet::<256>::new();
+    let answer = listing.write(alloc, &mut sheet);
+    of_listing(answer, sheet.written(), LISTED.as_bytes())
+}
+
+// A listing that is written in several pieces is compared with the same one, written again.
+fn in_pieces(alloc: Global, listing: &Listing) -> Result<bool, PoolFault> {
+    let (mut sheet, mut again) = (Sheet::<16_384>::new(), Sheet::<16_384>::new());
+    let answer = listing.write(alloc, &mut sheet);
+    if listing.write(alloc, &mut again).is_err() {
+        return Err(PoolFault::Memory);
+    }
+    if again.written().len() <= 8_192 {
+        return Ok(false);
+    }
+    of_listing(answer, sheet.written(), again.written())
+}
+
+pub(crate) fn is_listed_in_pieces(alloc: Global) -> Result<bool, PoolFault> {
+    let source = alike(alloc, 4, 1, 2)?;
+    match listed(alloc, Form::Triples, None, source.as_bytes())? {
+        Reply::Listing(listing) => in_pieces(alloc, &listing),
+        _ => Ok(false),
+    }
 }
 
 pub(crate) fn is_found<R: Threads + Wait + Sync>(rt: &R, alloc: Global) -> Result<bool, PoolFault> {

@@ -1,6 +1,6 @@
 //! Calls, each made once or twice.
 
-use crate::answers::{is_checked, is_erased, is_found, is_listed, is_migrated, is_written};
+use crate::answers::{is_checked, is_erased, is_found, is_listed, is_listed_in_pieces, is_migrated, is_written};
 use crate::judged::{is_judged, is_told};
 use crate::runs::{is_proved_run, is_run, is_run_by_schedule};
 use crate::searched::{are_examined, are_found};
@@ -17,6 +17,7 @@ enum Call {
     Check,
     Write,
     List,
+    ListInPieces,
     Find,
     Erase,
     Migrate,
@@ -39,6 +40,7 @@ fn is_right<R: Threads + Wait + Sync>(
         Call::Check => is_checked(rt, alloc),
         Call::Write => is_written(rt, alloc),
         Call::List => is_listed(alloc),
+        Call::ListInPieces => is_listed_in_pieces(alloc),
         Call::Find => is_found(rt, alloc),
         Call::Erase => is_erased(alloc),
         Call::Migrate => is_migrated(alloc),
@@ -83,6 +85,11 @@ fn writes(rt: HostRuntime) {
 #[test]
 fn lists(rt: HostRuntime) {
     expect_right(&rt, rt.alloc(), Call::List);
+}
+
+#[test]
+fn lists_in_pieces(rt: HostRuntime) {
+    expect_right(&rt, rt.alloc(), Call::ListInPieces);
 }
 
 #[test]

@@ -1,13 +1,11 @@
--- The loops over the terms of a form, the variables and the conditions.
-use Rattle.std.proofs.Common.{◌≡◌, ◌++◌, ◌∙◌, ℕ, zero, suc, ◌+◌, ◌<◌, ℤ, List, [], ◌∷◌, length, drop, get_or, map, Some, None, ap, ap₂, sym, append_assoc, drop-cons, add-one}
+-- The loops over the terms of a form and the variables.
+use Rattle.std.proofs.Common.{◌≡◌, ◌++◌, ◌∙◌, ℕ, zero, suc, ◌+◌, ◌<◌, ℤ, List, [], ◌∷◌, length, drop, Some, None, ap, ap₂, sym, append_assoc, drop-cons, add-one}
 use Rattle.std.specs.Prelude.{slice_get}
 use Rattle.std.proofs.lemmas.Option.{none-some, slice_get_within, get_or_from_slice_get}
 use Rattle.std.proofs.lemmas.List.{append-nil}
 use Rattle.std.proofs.Math.Seq.{drop-nil}
-use Rattle.og_cond.specs.declared.condition.Condition.{Condition}
-use Rattle.og_cond.specs.Seen.{seen}
 use Rattle.og_linear.specs.Linear.{Terms}
-use Rattle.og_smt.specs.Script.{term_text, terms_text, variable_lines, variables_lines, condition_lines, conditions_lines}
+use Rattle.og_smt.specs.Script.{term_text, terms_text, variable_lines, variables_lines}
 
 -- the i-th term, and those after it
 drop_term : (ts : Terms) (i : ℕ) (t : ℕ × ℤ) → slice_get ts i ≡ Some t → drop i ts ≡ t ∷ drop (i + 1) ts
@@ -46,18 +44,6 @@ more_variables names all before after whole i h made e =
     ∙ append_assoc before (variable_lines names i) (variables_lines names (i + 1) (drop (i + 1) all))
     ∙ ap (λ l. before ++ l) (sym here)
     ∙ e
-
--- ---- the loop over the conditions
-
-pub more_conditions : (names : List (List ℕ)) (source before after whole : List ℕ) (all : List Condition) (i n : ℕ) (x : Condition) → i < length all → x ≡ get_or all i x → after ≡ before ++ condition_lines names source n (seen x)
-    → before ++ conditions_lines names source n (map seen (drop i all)) ≡ whole → after ++ conditions_lines names source (n + 1) (map seen (drop (i + 1) all)) ≡ whole
-more_conditions names source before after whole all i n x h is made e =
-    let later = conditions_lines names source (n + 1) (map seen (drop (i + 1) all)) in
-    let here : conditions_lines names source n (map seen (drop i all)) ≡ condition_lines names source n (seen x) ++ later =
-    ap (λ l. conditions_lines names source n (map seen l)) (drop-cons all i x h)
-    ∙ ap (λ y. condition_lines names source n (seen y) ++ conditions_lines names source (suc n) (map seen (drop (suc i) all))) (sym is)
-    ∙ ap₂ (λ m k. condition_lines names source n (seen x) ++ conditions_lines names source m (map seen (drop k all))) (sym (add-one n)) (sym (add-one i)) in
-    ap (λ l. l ++ later) made ∙ append_assoc before (condition_lines names source n (seen x)) later ∙ ap (λ l. before ++ l) (sym here) ∙ e
 
 -- ---- three pieces
 

@@ -1,13 +1,9 @@
--- The conditions of an outline as a script in SMT-LIB: a condition is true exactly where its check answers `unsat`.
-use Rattle.std.specs.Prelude.{◌≡◌, ◌≤◌, ◌<◌, ℕ, suc, ℤ, pos, negsuc, List, [], ◌∷◌, length, slice_get, codes, Result, Ok, Err, Vec}
+-- Conditions as a script in SMT-LIB: a condition is true exactly where its check answers `unsat`.
+use Rattle.std.specs.Prelude.{ℕ, suc, ℤ, pos, negsuc, List, [], ◌∷◌, slice_get, codes}
 use Rattle.std.specs.Fmt.{decimal}
-use Rattle.std.specs.Global.{Global}
 use Rattle.og_linear.specs.Linear.{Terms, FormValue}
-use Rattle.og_typed.specs.Syntax.{Formula, True, False, Le, Eq, Ne, Not, And, Or, Imp, Formulas, none, more, Simple, Pass, Set, Program}
+use Rattle.og_typed.specs.Syntax.{Formula, True, False, Le, Eq, Ne, Not, And, Or, Imp, Formulas, none, more, Simple, Pass, Set}
 use Rattle.og_cond.specs.Condition.{Condition, Part, Yes, No, Hypothesis, Is, Starts, OneOf, Goal, Holds, Fits, Never, assignments}
-use Rattle.og_cond.specs.Conditions.{conditions}
-use Rattle.og_cond.specs.declared.fault.ConditionsError.{ConditionsError}
-use Rattle.og_cond.specs.declared.fault.ConditionsError.TheVariants as errors
 use Rattle.og_listing.specs.Places.{◌&◌}
 use Rattle.og_listing.specs.Listing.{name_text, header_text}
 
@@ -119,12 +115,8 @@ module _ (names : List (List ℕ)) where
   abbrev pub condition_lines : List ℕ → ℕ → Condition → List ℕ
   condition_lines source n c = codes "(push 1)\n; " & header_text source n c & hypotheses_lines c.hypotheses & asked_lines c
 
-  -- numbered on
-  abbrev pub conditions_lines : List ℕ → ℕ → List Condition → List ℕ
-  conditions_lines source n [] = []
-  conditions_lines source n (c ∷ cs) = condition_lines source n c & conditions_lines source (suc n) cs
+  -- ---- the opening
 
-  -- so many variables, numbered on
   abbrev pub declared_line : ℕ → List ℕ
   declared_line x = codes "(declare-const " & variable_text x & codes " Int)\n"
 
@@ -134,6 +126,7 @@ module _ (names : List (List ℕ)) where
   abbrev pub variable_lines : ℕ → List ℕ
   variable_lines x = declared_line x & range_line x
 
+  -- so many variables, numbered on
   abbrev pub variables_lines : ℕ → List (List ℕ) → List ℕ
   variables_lines x [] = []
   variables_lines x (name ∷ later) = variable_lines x & variables_lines (suc x) later
@@ -141,13 +134,3 @@ module _ (names : List (List ℕ)) where
   -- what stands before the conditions
   abbrev pub opening_text : List ℕ
   opening_text = prelude_text & variables_lines 0 names
-
-  -- the whole script
-  abbrev pub script_text : List ℕ → List Condition → List ℕ
-  script_text source cs = opening_text & conditions_lines source 1 cs
-
--- the script; or that there are too many conditions; or memory ran out
-abbrev pub IsScript : ℕ → Program → List ℕ → Result (Vec ℕ Global) ConditionsError → Type 0
-IsScript limit o source (Ok text) = (text.items ≡ script_text o.names source (conditions o)) × (length (conditions o) ≤ limit)
-IsScript limit o source (Err (errors.Fault fault)) = limit < length (conditions o)
-IsScript limit o source (Err errors.Memory) = length (conditions o) ≤ limit

@@ -1,4 +1,4 @@
-//! The conditions of an outline as a script in SMT-LIB, for a second opinion.
+//! Conditions as a script in SMT-LIB, for a second opinion.
 //!
 //! specs/Script.antt defines the text.
 #![tactic(auto)]
@@ -9,4 +9,4 @@ mod hypotheses;
 mod terms;
 mod whole;
 
-pub use whole::{opening, put_condition, script};
+pub use whole::{opening, put_condition};

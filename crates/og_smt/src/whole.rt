@@ -1,18 +1,16 @@
-//! The script of an outline.
+//! The parts of a script.
 
-ghost use Rattle.std.specs.Prelude.{◌≡◌, ◌≤◌, ◌<◌, ◌^◌, ◌++◌, length, map, IfOk, OnOk};
-ghost use Rattle.og_cond.specs.Limits.{condition_limit};
+ghost use Rattle.std.specs.Prelude.{◌≡◌, ◌≤◌, ◌++◌, length, IfOk, OnOk};
 ghost use Rattle.og_cond.specs.Seen.{seen};
-ghost use Rattle.og_smt.specs.Script.{prelude_text, ending_text, asked_lines, condition_lines, conditions_lines, declared_line, range_line, variable_lines, variables_lines, opening_text, IsScript};
+ghost use Rattle.og_smt.specs.Script.{prelude_text, ending_text, asked_lines, condition_lines, declared_line, range_line, variable_lines, variables_lines, opening_text};
 
 use crate::goals::{put_goal, put_range};
 use crate::hypotheses::put_hypotheses;
 use crate::terms::put_variable;
-use og_cond::{Condition, ConditionsError, conditions};
+use og_cond::Condition;
 use og_heading::put_heading;
 use og_listing::Places;
 use og_text::Name;
-use og_typed::Outline;
 use std::alloc::{AllocError, Global};
 
 // What stands before all variables.
@@ -44,7 +42,8 @@ fn put_asked(text: &mut Vec<u8>, names: &[Name], condition: &Condition) -> Resul
 
 /// Adds a condition with this number to the text: between `push` and `pop` a comment that gives its
 /// number, its kind and its places, what it starts from, that what it claims is false, and the
-/// question.
+/// question. It is true exactly where the answer to its `check-sat` is `unsat`. A variable `x` is
+/// `$x`.
 ///
 /// # Errors
 ///
@@ -62,23 +61,6 @@ pub fn put_condition(
     put_heading(text, places, number, condition)?;
     put_hypotheses(text, names, condition.hypotheses.as_slice())?;
     put_asked(text, names, condition)
-}
-
-// All conditions, numbered from 1.
-fn put_conditions(
-    text: &mut Vec<u8>,
-    names: &[Name],
-    places: &Places,
-    conditions: &[Condition],
-) -> Result<(), AllocError>
-    ensures { OnOk result (text.new.items ≡ text.old.items ++ conditions_lines names.now places.now 1 (map seen conditions.now)) }
-{
-    let mut number = 1;
-    for condition in conditions {
-        put_condition(text, names, places, number, condition)?;
-        number += 1;
-    }
-    Ok(())
 }
 
 fn put_declared(text: &mut Vec<u8>, names: &[Name], var: u32) -> Result<(), AllocError>
@@ -127,27 +109,5 @@ pub fn opening(alloc: Global, names: &[Name]) -> Result<Vec<u8>, AllocError>
 {
     let mut text = prelude(alloc)?;
     put_variables(&mut text, names)?;
-    Ok(text)
-}
-
-/// The conditions of an outline as a script in SMT-LIB 2, in order, each between `push` and `pop`
-/// with a comment that gives its number, its kind and its places. A condition is true exactly where
-/// the answer to its `check-sat` is `unsat`; the last one is about blocking. A variable `x` is `$x`.
-/// Places are lines and columns of the source, which has at most 1,048,576 bytes; what lies beyond
-/// it is placed at its end.
-///
-/// # Errors
-///
-/// `TooMany` exactly where there are more than 4,000,000 conditions. `Memory` where an allocation
-/// was refused.
-pub fn script(alloc: Global, outline: &Outline, source: &[u8]) -> Result<Vec<u8>, ConditionsError>
-    requires { length source.now ≤ 2 ^ 20 }
-    ensures { IsScript condition_limit outline.now source.now result }
-{
-    outline.follows_rule();
-    let conditions = conditions(alloc, outline)?;
-    let places = Places::new(alloc, source)?;
-    let mut text = opening(alloc, outline.names())?;
-    put_conditions(&mut text, outline.names(), &places, &conditions)?;
     Ok(text)
 }

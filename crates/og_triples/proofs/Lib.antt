@@ -1,1 +1,1 @@
-mod Loops
+mod Pieces

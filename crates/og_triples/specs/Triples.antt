@@ -1,5 +1,5 @@
 -- Conditions as triples: an assertion before, a statement, an assertion after.
-use Rattle.std.specs.Prelude.{ℕ, suc, ◌-◌, ◌==◌, List, [], ◌∷◌, length, take, Option, Some, None, slice_get, if◌then◌else◌, codes}
+use Rattle.std.specs.Prelude.{ℕ, ◌-◌, ◌==◌, List, [], ◌∷◌, length, take, Option, Some, None, slice_get, if◌then◌else◌, codes}
 use Rattle.og_typed.specs.Syntax.{Simple, Pass, Set}
 use Rattle.og_cond.specs.Condition.{Condition, ActionTree, One, Whole, Part, Yes, No, Hypothesis, Is, Starts, OneOf, Goal, Holds, Fits, Never}
 use Rattle.og_listing.specs.Places.{◌&◌}
@@ -94,8 +94,3 @@ module _ (names : List (List ℕ)) where
 
   abbrev pub triple_text : List ℕ → ℕ → Condition → List ℕ
   triple_text source n c = header_text source n c & lines_text c
-
-  -- numbered on
-  abbrev pub triples_text : List ℕ → ℕ → List Condition → List ℕ
-  triples_text source n [] = []
-  triples_text source n (c ∷ cs) = triple_text source n c & triples_text source (suc n) cs
