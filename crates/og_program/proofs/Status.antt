@@ -1,6 +1,12 @@
 -- What status 0 of the program says.
-use Rattle.std.proofs.Common.{◌≡◌, inl, inr, ℕ, List, false, None, Some, Option, map, sym, ap, arith, ◌∙◌}
-use Rattle.og_engine.proofs.Promised.{wrote_unblocked}
+use Rattle.std.proofs.Common.{◌≡◌, inl, inr, ℕ, List, Bool, true, false, None, Some, Option, map, sym, ap, subst, arith, ◌∙◌}
+use Rattle.og_answer.specs.declared.answer.Answer.{Answer}
+use Rattle.og_engine.proofs.Promised.{written_text, wrote_unblocked}
+use Rattle.og_expander.specs.declared.expanding.Reply.{Reply as Proving}
+use Rattle.og_expander.specs.declared.expanding.Reply.TheVariants as provings
+use Rattle.og_prover.specs.Proof.{WarrantsReply, WarrantsText}
+use Rattle.og_report.specs.Yes.{SaysUnblocked}
+use Rattle.og_template_words.specs.Front.{is_template}
 use Rattle.og_running.proofs.Answering.{run_proven}
 use Rattle.og_running.specs.declared.reply.Reply.{Reply}
 use Rattle.og_running.specs.declared.reply.Reply.TheVariants as replies
@@ -9,7 +15,7 @@ use Rattle.og_judge.specs.Proven.{IsProvenSource}
 use Rattle.og_remark.specs.Starting.{IsProvedRunRemark}
 use Rattle.og_words.specs.declared.job.Job.{Job}
 use Rattle.og_words.specs.declared.job.Job.TheVariants as jobs
-use Rattle.og_program.specs.Served.{Does, EndsJob, IsWordRemark, Follows, IsProvenIn, IsNeverStuckIn}
+use Rattle.og_program.specs.Served.{Does, EndsJob, IsWordRemark, Follows, FollowsProving, TellsProvedBy, IsProvenIn, IsNeverStuckIn}
 use Rattle.og_program.specs.Told.{Says}
 use Rattle.og_program.specs.declared.ended.Ended.{Ended}
 use Rattle.og_program.specs.declared.outcome.Outcome.TheVariants as outcomes
@@ -25,11 +31,24 @@ proven_run limit source certs words R V (replies.Told ran) t is follows zero =
 proven_run limit source certs words R V (replies.BadValue word) t is follows zero = absurd follows
 proven_run limit source certs words R V (replies.NotMade line) t is follows zero = let never : outcomes.Told t ≡ outcomes.NotMade line = follows in absurd (cc)
 
+-- what a reply to `prove` says is said by what is told
+told_answer : (b : Bool) (name source : List ℕ) (a : Answer) (t : Told) → TellsProvedBy b name source a t → t.answer ≡ a
+told_answer true name source a t h = h.0
+told_answer false name source a t h = h.0
+
+proved_warrants : (json : Bool) (name source : List ℕ) (reply : Proving) (t : Told) → WarrantsReply json source reply → FollowsProving name source reply (outcomes.Told t)
+    → WarrantsText json source t.answer.text.items t.answer.status
+proved_warrants json name source (provings.Answer a) t w follows =
+    subst (λ (x : Answer). WarrantsText json source x.text.items x.status) (sym (told_answer (is_template source) name source a t follows)) w
+proved_warrants json name source (provings.Refused a fault) t w follows = subst (λ (x : Answer). WarrantsText json source x.text.items x.status) (sym follows.0) w
+proved_warrants json name source (provings.BadValue word) t w follows = absurd follows
+
 sound_answer : (files : List ℕ → Option (List ℕ)) (input : Option (List ℕ)) (job : Job) (before after err err_after : Option (List ℕ)) (ended : Ended) → Does files input job before after err err_after ended
     → ended.status ≡ 0 → IsProvenIn files input job
 sound_answer files input jobs.Joined before after err err_after ended h zero =
     let w = h.1.2 in (h.1.0, h.1.1, (w.0, w.1, w.2, w.3.1.0 (sym h.2.1 ∙ zero)))
-sound_answer files input (jobs.Prove source budget workers json) before after err err_after ended h zero = (h.1.0, h.1.1, h.1.2.1.0 (sym h.2.1 ∙ zero))
+sound_answer files input (jobs.Prove source budget workers json values) before after err err_after ended h zero =
+    let r = h.1.2 in (h.1.0, h.1.1, (proved_warrants json source.now h.1.0 r.0 h.0 r.2 r.3).0 (sym h.2.1 ∙ zero))
 sound_answer files input (jobs.Check source certs workers json) before after err err_after ended h zero = (h.1.0, h.1.1, h.1.2.2.1.0 (sym h.2.1 ∙ zero))
 sound_answer files input (jobs.Notes source budget) before after err err_after ended h zero = tt
 sound_answer files input (jobs.Conditions source triples smt2 only) before after err err_after ended h zero = tt
@@ -46,8 +65,9 @@ unblocked_answer : (files : List ℕ → Option (List ℕ)) (input : Option (Lis
     → ended.status ≡ 0 → IsNeverStuckIn files input before after job
 unblocked_answer files input jobs.Joined before after err err_after ended h zero = λ wrote.
     let w = h.1.2 in (h.1.0, h.1.1, (w.0, w.1, w.2, wrote_unblocked false w.0 h.0.answer.text.items before after h.0.answer.status w.3.1 h.2.0 (sym h.2.1 ∙ zero) wrote))
-unblocked_answer files input (jobs.Prove source budget workers json) before after err err_after ended h zero = λ wrote.
-    (h.1.0, h.1.1, wrote_unblocked json h.1.0 h.0.answer.text.items before after h.0.answer.status h.1.2.1 h.2.0 (sym h.2.1 ∙ zero) wrote)
+unblocked_answer files input (jobs.Prove source budget workers json values) before after err err_after ended h zero = λ wrote.
+    let r = h.1.2 in
+    (h.1.0, h.1.1, (proved_warrants json source.now h.1.0 r.0 h.0 r.2 r.3).1 (sym h.2.1 ∙ zero) (written_text (SaysUnblocked json) before after h.0.answer.text.items h.2.0 wrote))
 unblocked_answer files input (jobs.Check source certs workers json) before after err err_after ended h zero = λ wrote.
     (h.1.0, h.1.1, wrote_unblocked json h.1.0 h.0.answer.text.items before after h.0.answer.status h.1.2.2.1 h.2.0 (sym h.2.1 ∙ zero) wrote)
 unblocked_answer files input (jobs.Notes source budget) before after err err_after ended h zero = tt
