@@ -249,7 +249,8 @@ fn put_false_at(
     requires { page.places.now ≡ page.source.now }
     ensures { OnOk result (text.new.items ≡ text.old.items ++ false_lines page.entry.names.now page.entry.source.now None at found.now) }
 {
-    put_false(text, page.names, &Origins::own(page.source, page.places), at, found)
+    let origins = Origins::own(page.source, page.places);
+    put_false(text, page.names, &origins, at, found)
 }
 
 // What makes it wrong.

@@ -236,11 +236,7 @@ pub fn put_too_large(
 }
 
 // Where a process waits.
-fn put_waits(
-    text: &mut Vec<u8>,
-    origins: &Origins,
-    site: &StatementSite,
-) -> Result<(), AllocError>
+fn put_waits(text: &mut Vec<u8>, origins: &Origins, site: &StatementSite) -> Result<(), AllocError>
     requires { origins.now.places.now ≡ origins.now.source.now }
     ensures { OnOk result (text.new.items ≡ text.old.items ++ waits_line origins.now.source.now origins.now.rows (statement_of site.now)) }
 {
@@ -266,11 +262,7 @@ fn put_ended(text: &mut Vec<u8>, origins: &Origins, site: &NoteSite) -> Result<(
 }
 
 // Where a process stands.
-fn put_stand(
-    text: &mut Vec<u8>,
-    origins: &Origins,
-    stand: &Stand,
-) -> Result<(), AllocError>
+fn put_stand(text: &mut Vec<u8>, origins: &Origins, stand: &Stand) -> Result<(), AllocError>
     requires { origins.now.places.now ≡ origins.now.source.now }
     ensures { OnOk result (text.new.items ≡ text.old.items ++ stand_line origins.now.source.now origins.now.rows stand.now) }
 {
@@ -281,11 +273,7 @@ fn put_stand(
 }
 
 // Where each process stands.
-fn put_stands(
-    text: &mut Vec<u8>,
-    origins: &Origins,
-    stands: &[Stand],
-) -> Result<(), AllocError>
+fn put_stands(text: &mut Vec<u8>, origins: &Origins, stands: &[Stand]) -> Result<(), AllocError>
     requires { origins.now.places.now ≡ origins.now.source.now }
     ensures { OnOk result (text.new.items ≡ text.old.items ++ stand_lines origins.now.source.now origins.now.rows stands.now) }
 {

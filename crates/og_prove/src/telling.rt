@@ -59,11 +59,7 @@ fn assigned(alloc: Global, count: u32, action: &Option<Action>) -> Result<Vec<u3
 }
 
 // The numbers, from 0, of the conjuncts of an assertion that are false.
-fn false_numbers(
-    alloc: Global,
-    note: &Note,
-    values: &Values,
-) -> Result<Vec<usize>, Unexplained>
+fn false_numbers(alloc: Global, note: &Note, values: &Values) -> Result<Vec<usize>, Unexplained>
     ensures { IfOk result (λ v. v.items ≡ false_numbers values.now 0 (conjuncts (noted note.now).assertion)) }
 {
     let mut all = Vec::new(alloc);
@@ -139,7 +135,13 @@ fn block_at<'a>(
     let numbers = fault_numbers(alloc, &explanation)?;
     let values = Values::of(alloc, state)?;
     let block = block_of(
-        alloc, outline, index, condition, values, explanation, numbers,
+        alloc,
+        outline,
+        index,
+        condition,
+        values,
+        explanation,
+        numbers,
     )?;
     Ok(block)
 }

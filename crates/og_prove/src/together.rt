@@ -19,7 +19,7 @@ use std::collections::BTreeMap;
 
 // The byte offset in the template of the conjunct with this number.
 fn conjunct_at(row: Option<&Row>, number: usize) -> Option<u32>
-    ensures { result ≡ conjunct_at (option_map (λ r. r.now) row) number }
+    ensures { result ≡ conjunct_at (option_map (λ r. r.now) row.entry) number }
 {
     *row?.conjuncts.get(number)?
 }
@@ -39,12 +39,8 @@ fn add_place(places: &mut Vec<u32>, place: Option<u32>) -> Result<(), AllocError
 }
 
 // The places of conjuncts, each once.
-fn places_of(
-    alloc: Global,
-    row: Option<&Row>,
-    numbers: &[usize],
-) -> Result<Vec<u32>, AllocError>
-    ensures { IfOk result (λ v. v.items ≡ with_places (option_map (λ r. r.now) row) [] numbers.now) }
+fn places_of(alloc: Global, row: Option<&Row>, numbers: &[usize]) -> Result<Vec<u32>, AllocError>
+    ensures { IfOk result (λ v. v.items ≡ with_places (option_map (λ r. r.now) row.entry) [] numbers.now) }
 {
     let mut places = Vec::new(alloc);
     for number in numbers {

@@ -72,7 +72,10 @@ WarrantsBy template json text printed status =
 abbrev pub WarrantsText : Bool → List ℕ → List ℕ → ℕ → Type 0
 WarrantsText json text printed status = WarrantsBy (is_template text) json text printed status
 
+abbrev pub WarrantsReplyBy : Bool → Bool → List ℕ → Reply → Type 0
+WarrantsReplyBy template json text (replies.Answer a) = WarrantsBy template json text a.text.items a.status
+WarrantsReplyBy template json text (replies.Refused a fault) = WarrantsBy template json text a.text.items a.status
+WarrantsReplyBy template json text (replies.BadValue word) = ⊤
+
 abbrev pub WarrantsReply : Bool → List ℕ → Reply → Type 0
-WarrantsReply json text (replies.Answer a) = WarrantsText json text a.text.items a.status
-WarrantsReply json text (replies.Refused a fault) = WarrantsText json text a.text.items a.status
-WarrantsReply json text (replies.BadValue word) = ⊤
+WarrantsReply json text reply = WarrantsReplyBy (is_template text) json text reply

@@ -1,10 +1,11 @@
 //! The answers of `prove`.
 
-ghost use Rattle.std.specs.Prelude.{◌≡◌, ◌<◌, ◌≤◌, ◌^◌, [], length, map, true, Some, IfOk, IfErr};
+ghost use Rattle.std.specs.Prelude.{◌≡◌, ◌<◌, ◌≤◌, ◌^◌, [], length, map, true, false, Some, Contains, IfOk, IfErr, IfSome};
 ghost use Rattle.og_pool.specs.declared.fault.PoolFault.TheVariants.{Spawn};
 ghost use Rattle.og_source.specs.Source.{IsSource};
+ghost use Rattle.og_answer.specs.Told.{IsUnread};
 ghost use Rattle.og_expander.specs.Expanded.{IsExpansion, IsOutlineText};
-ghost use Rattle.og_prover.specs.Proof.{IsOfOutline, IsOfTemplate, IsProvingTemplate, IsReply, WarrantsBy, WarrantsReply};
+ghost use Rattle.og_prover.specs.Proof.{IsOfOutline, IsOfTemplate, IsProvingTemplate, IsReply, WarrantsBy, WarrantsReplyBy, WarrantsReply};
 
 use og_answer::Answer;
 use og_engine::{Search, Texts, proved, proved_outline};
@@ -18,7 +19,8 @@ use std::alloc::{AllocError, Global};
 use std::sync::Wait;
 use std::thread::Threads;
 
-// The reply for a template that means this outline.
+// The answer for a template that means this outline.
+#[tactic(auto, using(og_expander::proofs::ReadAgain::outline_text_short))]
 fn of_expanded<G: Gate, H: Threads + Wait + Sync>(
     rt: &H,
     alloc: Global,
@@ -45,6 +47,7 @@ fn of_expanded<G: Gate, H: Threads + Wait + Sync>(
 }
 
 // The reply for a template.
+#[tactic(auto, using(crate::proofs::Proof::refused_warrants))]
 fn of_template<'a, G: Gate, H: Threads + Wait + Sync>(
     rt: &H,
     alloc: Global,
@@ -54,7 +57,7 @@ fn of_template<'a, G: Gate, H: Threads + Wait + Sync>(
     gate: &G,
 ) -> Result<Reply<'a>, PoolFault>
     ensures reply { IfOk result (IsOfTemplate search.json text.now (map (λ w. w.now) words.now)) }
-    ensures warrants { IfOk result (WarrantsReply search.json text.now) }
+    ensures warrants { IfOk result (WarrantsReplyBy true search.json text.now) }
     ensures spawn { IfErr result (λ e. e ≡ Spawn → 1 < search.workers) }
 {
     match expand_template(alloc, text, words)? {
@@ -68,14 +71,35 @@ fn of_template<'a, G: Gate, H: Threads + Wait + Sync>(
     }
 }
 
-// The reply for an outline behind which a word stands, once the outline is read.
-fn of_word<'a>(alloc: Global, text: &[u8], word: &'a str) -> Result<Reply<'a>, AllocError> {
+// The refusal of a text that has no outline.
+fn unread(alloc: Global, text: &[u8]) -> Result<Option<Answer>, AllocError>
+    ensures { IfOk result (λ found. IfSome found (IsUnread text.now)) }
+{
     match Source::read(alloc, text) {
         Ok(source) => {
             drop(source);
-            Ok(Reply::BadValue(word))
+            Ok(None)
         }
-        Err(error) => Ok(Reply::Answer(Answer::unread(alloc, &error, text)?)),
+        Err(error) => Ok(Some(Answer::unread(alloc, &error, text)?)),
+    }
+}
+
+// The reply for an outline behind which a word stands, once the outline is read.
+#[tactic(auto, using(crate::proofs::Proof::unread_warrants))]
+fn of_words<'a>(
+    alloc: Global,
+    text: &[u8],
+    words: &[&'a str],
+    json: bool,
+    word: &'a str,
+) -> Result<Reply<'a>, AllocError>
+    requires { Contains (map (λ w. w.now) words.now) word.now }
+    ensures reply { IfOk result (IsOfOutline json text.now (map (λ w. w.now) words.now)) }
+    ensures warrants { IfOk result (WarrantsReplyBy false json text.now) }
+{
+    match unread(alloc, text)? {
+        Some(answer) => Ok(Reply::Answer(answer)),
+        None => Ok(Reply::BadValue(word)),
     }
 }
 
@@ -89,12 +113,12 @@ fn of_outline<'a, G: Gate, H: Threads + Wait + Sync>(
     gate: &G,
 ) -> Result<Reply<'a>, PoolFault>
     ensures reply { IfOk result (IsOfOutline search.json text.now (map (λ w. w.now) words.now)) }
-    ensures warrants { IfOk result (WarrantsReply search.json text.now) }
+    ensures warrants { IfOk result (WarrantsReplyBy false search.json text.now) }
     ensures spawn { IfErr result (λ e. e ≡ Spawn → 1 < search.workers) }
 {
     match words {
         [] => Ok(Reply::Answer(proved(rt, alloc, text, search, gate)?)),
-        [word, ..] => Ok(of_word(alloc, text, word)?),
+        [word, ..] => Ok(of_words(alloc, text, words, search.json, word)?),
     }
 }
 

@@ -107,7 +107,8 @@ fn start_text(
     let mut text = Vec::new(alloc);
     put_refused(&mut text, name, &places, at)?;
     put_start_line(&mut text, names, values, outline.vars())?;
-    put_false(&mut text, names, &Origins::own(source.bytes(), &places), at, found)?;
+    let origins = Origins::own(source.bytes(), &places);
+    put_false(&mut text, names, &origins, at, found)?;
     put_help(&mut text, outline.vars())?;
     Ok(text)
 }

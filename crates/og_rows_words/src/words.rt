@@ -21,6 +21,10 @@ const JOBS: &[(&str, &str)] = &[
         "Prove { source: \"a\", budget: Budget { facts: 1000000000 }, workers: Workers { count: 2 }, json: true, values: [] }",
     ),
     (
+        "prove a N=3 M=-2 --budget 7",
+        "Prove { source: \"a\", budget: Budget { facts: 7 }, workers: Workers { count: 1 }, json: false, values: [\"N=3\", \"M=-2\"] }",
+    ),
+    (
         "check a b",
         "Check { source: \"a\", certs: \"b\", workers: Workers { count: 1 }, json: false }",
     ),
