@@ -23,17 +23,20 @@ use Rattle.og_listings.specs.declared.choosing.Reply.TheVariants as replies
 abbrev pub is_number : ℕ → ℕ → Bool
 is_number count n = nat_le 1 n && nat_le n count
 
--- the conditions are within the limit; or there are too many; or memory ran out
+-- there are too many conditions; or memory ran out
+abbrev pub IsWhyNot : Program → ConditionsError → Type 0
+IsWhyNot o (errors.Fault fault) = condition_limit < length (conditions o)
+IsWhyNot o errors.Memory = length (conditions o) ≤ condition_limit
+
+-- the conditions are within the limit
 abbrev pub IsWithin : Program → Result ⊤ ConditionsError → Type 0
 IsWithin o (Ok unit) = length (conditions o) ≤ condition_limit
-IsWithin o (Err (errors.Fault fault)) = condition_limit < length (conditions o)
-IsWithin o (Err errors.Memory) = length (conditions o) ≤ condition_limit
+IsWithin o (Err error) = IsWhyNot o error
 
--- how many conditions there are; or that there are too many; or memory ran out
+-- how many conditions there are
 abbrev pub IsCounted : Program → Result ℕ ConditionsError → Type 0
 IsCounted o (Ok count) = (count ≡ length (conditions o)) × (length (conditions o) ≤ condition_limit)
-IsCounted o (Err (errors.Fault fault)) = condition_limit < length (conditions o)
-IsCounted o (Err errors.Memory) = length (conditions o) ≤ condition_limit
+IsCounted o (Err error) = IsWhyNot o error
 
 -- the line that says that there are too many conditions
 abbrev pub IsNotListed : List ℕ → ConditionsError → Reply → Type 0

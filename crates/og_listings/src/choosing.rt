@@ -131,17 +131,12 @@ fn of_numbers<'a>(
     numbers: Vec<u32>,
     source: Source<'_>,
 ) -> Result<Reply<'a>, AllocError>
-    ensures { IfOk result (IsReplyOf form word.entry numbers.entry.items source.entry.outline source.entry.bytes) }
+    ensures { IfOk result (IsReplyOf form word.entry numbers.items source.entry.outline source.entry.bytes) }
 {
     match count(alloc, source.outline()) {
         Ok(count) => match first_other(count, &numbers) {
             Some(number) => Ok(Reply::Bad(word, no_condition(alloc, number, count)?)),
-            None => Ok(Reply::Listing(Listing::of(
-                alloc,
-                form,
-                Some(numbers),
-                source,
-            )?)),
+            None => Ok(Reply::Listing(Listing::of(alloc, form, Some(numbers), source)?)),
         },
         Err(error) => not_listed(alloc, error, source.bytes()),
     }

@@ -130,12 +130,7 @@ fn refuse_value<E: Write>(alloc: Global, bad: &BadValue<'_>, err: &mut E) -> End
 }
 
 // Writes a listing as it is made, or tells why it is not written whole.
-fn list<O: Write, E: Write>(
-    alloc: Global,
-    listing: &Listing,
-    out: &mut O,
-    err: &mut E,
-) -> Ended
+fn list<O: Write, E: Write>(alloc: Global, listing: &Listing, out: &mut O, err: &mut E) -> Ended
     ensures { TellsListing listing.now (O.contents out.old) (O.contents out.new) (E.contents err.old) (E.contents err.new) result }
 {
     match listing.write(alloc, out) {

@@ -378,7 +378,10 @@ fn expect_cut<R: Abort>(rt: &R, alloc: Global, listing: &Listing, whole: &[u8], 
     for fails_at in (1..whole.len() + 1).step_by(step) {
         let mut paper = Paper::new(alloc, fails_at);
         let got = listing.write(alloc, &mut paper);
-        assert!(rt; got == Err(ListingFault::NotWritten(WriteFault::Failed)), "at {fails_at}");
+        assert!(rt;
+            got == Err(ListingFault::NotWritten(WriteFault::Failed)),
+            "at {fails_at}"
+        );
         let written = paper.bytes.as_slice();
         assert!(rt;
             whole.starts_with(written) && written.len() == fails_at - 1,
@@ -413,13 +416,13 @@ fn writers_that_fail_in_a_listing(rt: HostRuntime) -> Result<(), Fail> {
 // So it has where the listing is written in several pieces.
 #[test]
 fn writers_that_fail_in_a_long_listing(rt: HostRuntime) -> Result<(), Fail> {
-    let source = alike(rt.alloc(), 8, 4, 3)?;
+    let source = alike(rt.alloc(), 4, 1, 2)?;
     let Some(listing) = listing_of(rt.alloc(), source.as_bytes())? else {
         return Err(Fail::new("there is no listing"));
     };
     let mut whole = Paper::new(rt.alloc(), 0);
     assert!(rt; listing.write(rt.alloc(), &mut whole) == Ok(0));
-    assert!(rt; 24_576 < whole.bytes.len());
-    expect_cut(&rt, rt.alloc(), &listing, &whole.bytes, 1_021);
+    assert!(rt; 8_192 < whole.bytes.len());
+    expect_cut(&rt, rt.alloc(), &listing, &whole.bytes, 3_001);
     Ok(())
 }

@@ -1,6 +1,8 @@
 //! Calls, each made once or twice.
 
-use crate::answers::{is_checked, is_erased, is_found, is_listed, is_listed_in_pieces, is_migrated, is_written};
+use crate::answers::{
+    is_checked, is_erased, is_found, is_listed, is_listed_in_pieces, is_migrated, is_written,
+};
 use crate::judged::{is_judged, is_told};
 use crate::runs::{is_proved_run, is_run, is_run_by_schedule};
 use crate::searched::{are_examined, are_found};
