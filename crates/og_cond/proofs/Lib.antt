@@ -2,6 +2,7 @@ pub mod LocalItems
 pub mod Counts
 pub mod PieceItems
 pub mod SetBits
+pub mod SetTerms
 pub mod Crossings
 pub mod Crosses
 pub mod Exchange

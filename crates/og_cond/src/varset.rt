@@ -2,8 +2,8 @@
 
 ghost use Rattle.std.specs.Prelude.{◌≡◌, ℕ, ◌==◌, ◌||◌, ◌&&◌, false, true, nat_lt, IsTrue, ◌↔◌, length};
 
-/// The variables of an outline are below this number.
-pub(crate) const VARIABLE_LIMIT: u32 = 256;
+// The variables of an outline are below this number.
+const VARIABLE_LIMIT: u32 = 256;
 
 /// A set of variables below 256, one bit each.
 #[derive(Clone, Copy, Debug)]
