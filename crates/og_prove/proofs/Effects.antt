@@ -1,5 +1,5 @@
 -- What is told of conditions one after another, with the effects that are known.
-use Rattle.std.proofs.Common.{◌≡◌, ℕ, suc, ◌+◌, ◌<◌, List, [], ◌∷◌, ◌++◌, length, drop, Bool, true, false, cond, Option, Some, None, Vec, refl, sym, ap, ap₂, ◌∙◌, append_assoc, length-append, arith, codes}
+use Rattle.std.proofs.Common.{◌≡◌, ℕ, ◌+◌, List, [], ◌∷◌, ◌++◌, length, drop, Bool, true, false, cond, Option, Some, None, Vec, refl, sym, ap, ap₂, ◌∙◌, append_assoc, length-append, arith, codes}
 use Rattle.std.specs.Global.{Global}
 use Rattle.std.specs.Str.{bytes_eq}
 use Rattle.std.specs.Ordering.{nat_cmp}
@@ -8,7 +8,7 @@ use Rattle.std.specs.BTreeMap.{BTreeMap, is_at}
 use Rattle.std.specs.Map.{lookup}
 use Rattle.std.specs.Prelude.{slice_get}
 use Rattle.og_typed.specs.Syntax.{Formula}
-use Rattle.og_cert_read.specs.Firsts.{found, or_this}
+use Rattle.og_cert_read.specs.Firsts.{found}
 use Rattle.og_cond.specs.Condition.{Condition}
 use Rattle.og_prove.specs.Blocks.{block_text}
 use Rattle.og_prove.specs.Effects.{alike_line, effect_of, effect_text, has_text, has_effect, first_with, after_effect, after_told}

@@ -1,7 +1,6 @@
-use Rattle.std.proofs.Common.{◌≡◌, ◌++◌, ℕ, List, Some, None, rules, ap, sym, subst, ◌∙◌}
+use Rattle.std.proofs.Common.{◌≡◌, ◌++◌, ℕ, List, Some, None, rules, sym, subst}
 use Rattle.std.specs.Prelude.{OnOk}
 use Rattle.og_cert_read.specs.Firsts.{found}
-use Rattle.og_typed.specs.Syntax.{Formula}
 use Rattle.og_wording.specs.Seen.{formulas_of}
 use Rattle.og_prove.specs.Effects.{effect_of}
 use Rattle.og_prove.proofs.Effects.{body_alike, body_first}

@@ -1,6 +1,6 @@
 use Rattle.std.proofs.Common.{map}
 use Rattle.og_prove.specs.Together.{key_seen}
-use Rattle.og_prove.proofs.Together.{IsLeft}
+use Rattle.og_prove.proofs.Keys.{IsLeft}
 use Rattle.og_prove.proofs.together.mores_of.Given as goal
 
 abbrev pub invariant-loop-index : goal.invariant-loop-index

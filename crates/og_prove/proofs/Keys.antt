@@ -1,5 +1,5 @@
 -- Keys, counted and taken out one after another.
-use Rattle.std.proofs.Common.{◌≡◌, ℕ, zero, suc, ◌+◌, ◌-◌, ◌<◌, ◌≤◌, List, [], ◌∷◌, ◌++◌, length, take, drop, Bool, true, false, ◌||◌, cond, Option, Some, None, Vec, refl, sym, ap, ap₂, subst, ◌∙◌, append_assoc, add-one, length-take, arith}
+use Rattle.std.proofs.Common.{◌≡◌, ℕ, zero, suc, ◌+◌, ◌-◌, ◌<◌, List, [], ◌∷◌, ◌++◌, length, take, drop, Bool, true, false, true≢false, ◌||◌, cond, Option, Some, None, Vec, refl, sym, ap, ap₂, ◌∙◌, append_assoc, add-one, arith}
 use Rattle.std.specs.Prelude.{slice_get, count_by, option_map, unwrap_or}
 use Rattle.std.specs.Global.{Global}
 use Rattle.std.specs.List.{list_any, sum_by}
@@ -11,9 +11,12 @@ use Rattle.std.specs.BTreeMap.{BTreeMap, UpdatesBy, is_at}
 use Rattle.std.specs.Map.{lookup, IsKeyTest, AreApart, KeepsOthers}
 use Rattle.std.proofs.lemmas.Map.Text.{is_eq-slice_cmp}
 use Rattle.std.proofs.lemmas.List.Folds.{list_any-append}
-use Rattle.std.proofs.lemmas.List.Sums.{sum_by-append, sum_by-cons, count_by-le-length}
+use Rattle.std.proofs.lemmas.List.Sums.{sum_by-append, sum_by-cons}
 use Rattle.og_cert_read.specs.Firsts.{found}
-use Rattle.og_prove.specs.Together.{has_key, total, counted, left_of, more_left, without, more_of, mores_from, mores}
+use Rattle.og_cond.specs.Condition.{Condition}
+use Rattle.og_origins.specs.Origins.{Rows}
+use Rattle.og_prove.specs.Together.{keys_of, has_key, total, counted, left_of, more_left, without, more_of, mores_from, mores}
+use Rattle.og_prove.specs.declared.telling.Told.{Told}
 use Rattle.og_prove.proofs.Lists.{dropped, taken}
 
 -- ---- a map in which one text has another number
@@ -60,13 +63,14 @@ taken_out false o = refl
 count_more : {X : Type 0} (p : X → Bool) (xs : List X) (x : X) → count_by p (xs ++ x ∷ []) ≡ count_by p xs + cond (p x) 1 0
 count_more p xs x = sum_by-append (λ y. cond (p y) 1 0) xs (x ∷ []) ∙ omega arith
 
+positive : (b : Bool) (n m : ℕ) → b ≡ true → n ≡ cond b 1 0 + m → 0 < n
+positive true n m h is = omega (arith, is)
+positive false n m h is = absurd (true≢false (sym h))
+
 count_some : {X : Type 0} (p : X → Bool) (xs : List X) (i : ℕ) (x : X) → slice_get xs i ≡ Some x → p x ≡ true → 0 < count_by p xs
 count_some p [] i x is e = absurd (cc)
 count_some p (y ∷ xs) zero x is e =
-    let same : Some y ≡ Some x = is in
-    let one : cond (p y) 1 0 ≡ 1 = ap (λ o. cond (unwrap_or (option_map p o) false) 1 0) same ∙ ap (λ b. cond b 1 0) e in
-    let all = sum_by-cons (λ z. cond (p z) 1 0) y xs in
-    omega (arith, one, all)
+    positive (p y) (count_by p (y ∷ xs)) (count_by p xs) (ap (λ o. p (unwrap_or o y)) is ∙ e) (sum_by-cons (λ z. cond (p z) 1 0) y xs)
 count_some p (y ∷ xs) (suc i) x is e =
     let rest = count_some p xs i x is e in
     let all = sum_by-cons (λ z. cond (p z) 1 0) y xs in
@@ -93,13 +97,6 @@ counted_more ks k t o n was h = h ∙ from (has_key t k) refl
     from false e =
         let same : c ≡ c + 0 = omega arith in
         was ∙ ap total (same ∙ sym (count_more (has_key t) ks k ∙ ap (λ b. c + cond b 1 0) e))
-
-pub few_counted : (ks : List (Option (List ℕ))) (t : List ℕ) (o : Option ℕ) (i limit : ℕ) → o ≡ total (count_by (has_key t) (take i ks)) → length ks < limit → unwrap_or o 0 < limit
-few_counted ks t o i limit is few =
-    let number : unwrap_or o 0 ≡ count_by (has_key t) (take i ks) = ap (λ (x : Option ℕ). unwrap_or x 0) is ∙ or_0 (count_by (has_key t) (take i ks)) in
-    let most = count_by-le-length (has_key t) (take i ks) in
-    let part = length-take i ks in
-    omega (arith, number, most, part, few)
 
 -- ---- keys that are taken out
 
@@ -161,3 +158,18 @@ none_more (m ∷ ms) = ap (λ xs. m ∷ xs) (none_more ms)
 
 pub is_left_ends : (all : List (Option (List ℕ))) (i : ℕ) (counts : BTreeMap (Vec ℕ Global) ℕ) (ms : List (Option ℕ)) → drop i all ≡ [] → IsLeft all i counts ms → ms ≡ mores all
 is_left_ends all i counts ms none s = sym (none_more ms) ∙ ap (λ l. ms ++ mores_from all (take i all) l) (sym none) ∙ s.whole
+
+-- ---- how many there are
+
+mores_from_length : (all before ks : List (Option (List ℕ))) → length (mores_from all before ks) ≡ length ks
+mores_from_length all before [] = refl
+mores_from_length all before (k ∷ ks) = let rest = mores_from_length all (before ++ k ∷ []) ks in omega (arith, rest)
+
+pub keys_length : (rows : Rows) (cs : List Condition) (ts : List Told) → length ts ≡ length cs → length (keys_of rows cs ts) ≡ length ts
+keys_length rows [] [] h = refl
+keys_length rows [] (t ∷ ts) h = absurd (omega (arith, h))
+keys_length rows (c ∷ cs) [] h = refl
+keys_length rows (c ∷ cs) (t ∷ ts) h = let rest = keys_length rows cs ts (omega (arith, h)) in omega (arith, rest)
+
+pub mores_length : (rows : Rows) (cs : List Condition) (ts : List Told) → length ts ≡ length cs → length (mores (keys_of rows cs ts)) ≡ length ts
+mores_length rows cs ts h = mores_from_length (keys_of rows cs ts) [] (keys_of rows cs ts) ∙ keys_length rows cs ts h
