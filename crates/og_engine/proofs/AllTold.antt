@@ -18,7 +18,9 @@ use Rattle.og_report.specs.Report.{answer_text}
 use Rattle.og_report.specs.Yes.{EndsWith}
 use Rattle.og_report.proofs.Yes.{ends_with, ends_after, text_answers}
 use Rattle.og_prove.specs.Report.{is_proved, is_false, is_open, count, is_safe, is_unblocked, number_line, yes_line, told_lines, report_text}
+use Rattle.og_prove.specs.Together.{keys_of, mores}
 use Rattle.og_prove.specs.Told.{AreTold}
+use Rattle.og_origins.specs.Origins.{Rows}
 use Rattle.og_prove.specs.declared.telling.Told.{Told}
 use Rattle.og_prove.proofs.Answered.{safe_is_valid, unblocked_is_valid}
 
@@ -33,37 +35,37 @@ last_line : (b : Bool) → yes_line (codes "unblocked") b ≡ answer_text (codes
 last_line true = refl
 last_line false = refl
 
-text_ends : (names : List (List ℕ)) (source : List ℕ) (cs : List Condition) (ts : List Told) → EndsWith (yes_line (codes "unblocked") (is_unblocked ts)) (report_text names source cs ts)
-text_ends names source cs ts =
+text_ends : (names : List (List ℕ)) (source : List ℕ) (rows : Rows) (cs : List Condition) (ts : List Told) → EndsWith (yes_line (codes "unblocked") (is_unblocked ts)) (report_text names source rows cs ts)
+text_ends names source rows cs ts =
     let last = yes_line (codes "unblocked") (is_unblocked ts) in
-    ends_after (told_lines names source [] cs ts) last _
+    ends_after (told_lines names source rows [] cs (mores (keys_of rows cs ts)) ts) last _
     (ends_after (number_line (codes "conditions") (length ts)) last _
     (ends_after (number_line (codes "proved") (count is_proved ts)) last _
     (ends_after (number_line (codes "false") (count is_false ts)) last _
     (ends_after (number_line (codes "open") (count is_open ts)) last _
     (ends_after (yes_line (codes "safe") (is_safe ts)) last _ (ends_with [] last))))))
 
-pub text_says : (names : List (List ℕ)) (source : List ℕ) (cs : List Condition) (ts : List Told) → EndsWith (codes "unblocked: yes\n") (report_text names source cs ts) → is_unblocked ts ≡ true
-text_says names source cs ts h =
-    let text = report_text names source cs ts in
-    text_answers (is_unblocked ts) text (subst (λ (e : List ℕ). EndsWith e text) (last_line (is_unblocked ts)) (text_ends names source cs ts)) h
+pub text_says : (names : List (List ℕ)) (source : List ℕ) (rows : Rows) (cs : List Condition) (ts : List Told) → EndsWith (codes "unblocked: yes\n") (report_text names source rows cs ts) → is_unblocked ts ≡ true
+text_says names source rows cs ts h =
+    let text = report_text names source rows cs ts in
+    text_answers (is_unblocked ts) text (subst (λ (e : List ℕ). EndsWith e text) (last_line (is_unblocked ts)) (text_ends names source rows cs ts)) h
 
 -- ---- the answer
 
-pub all_told : {E : Type 0} (json : Bool) (o : Program) (source : List ℕ) (cs : List Condition) (ts : List Told) (r : Result Answer E) → cs ≡ conditions o → length cs ≤ condition_limit → AreTold o cs ts
-    → IfOk r (Says (told_in json o.names source cs ts) (told_status ts)) → IfOk r (IsToldText json o source)
-all_told json o source cs ts (Err e) is few told says = tt
-all_told json o source cs ts (Ok a) is few told says =
+pub all_told : {E : Type 0} (json : Bool) (o : Program) (text source : List ℕ) (rows : Rows) (cs : List Condition) (ts : List Told) (r : Result Answer E) → cs ≡ conditions o → length cs ≤ condition_limit → AreTold o cs ts
+    → IfOk r (Says (told_in json o.names text source rows cs ts) (told_status ts)) → IfOk r (IsToldText json o text source rows)
+all_told json o text source rows cs ts (Err e) is few told says = tt
+all_told json o text source rows cs ts (Ok a) is few told says =
     record {
       few = subst (λ l. length l ≤ condition_limit) is few;
       told = ts;
       each = subst (λ l. AreTold o l ts) is told;
-      says = subst (λ l. Says (told_in json o.names source l ts) (told_status ts) a) is says;
+      says = subst (λ l. Says (told_in json o.names text source rows l ts) (told_status ts) a) is says;
     }
 
-pub told_of : {E : Type 0} (json : Bool) (o : Program) (source : List ℕ) (r : Result Answer E) → IfOk r (IsToldText json o source) → IfOk r (IsToldOf json o source)
-told_of json o source (Err e) h = tt
-told_of json o source (Ok a) h = inl h
+pub told_of : {E : Type 0} (json : Bool) (o : Program) (text source : List ℕ) (rows : Rows) (r : Result Answer E) → IfOk r (IsToldText json o text source rows) → IfOk r (IsToldOf json o text source rows)
+told_of json o text source rows (Err e) h = tt
+told_of json o text source rows (Ok a) h = inl h
 
 -- ---- one after another
 

@@ -1,6 +1,6 @@
 //! The answer of the command that searches, judges and says what is wrong.
 
-ghost use Rattle.std.specs.Prelude.{◌≡◌, ◌<◌, ◌≤◌, ◌^◌, length, map, true, false, IfOk, IfErr, IfSome};
+ghost use Rattle.std.specs.Prelude.{◌≡◌, ◌<◌, ◌≤◌, ◌^◌, length, map, true, false, None, IfOk, IfErr, IfSome};
 ghost use Rattle.og_cond.specs.Conditions.{conditions as conditions_of};
 ghost use Rattle.og_cond.specs.Limits.{condition_limit};
 ghost use Rattle.og_cond.specs.Seen.{seen};
@@ -21,6 +21,7 @@ use og_cond::{Condition, ConditionsError, conditions};
 use og_find::Verdict;
 use og_finder::{Findings, examine_all};
 use og_limits::{Budget, Workers};
+use og_origins::Rows;
 use og_places::Index;
 use og_pool::{Gate, PoolFault};
 use og_prove::{Told, is_safe, is_unblocked, report, tell};
@@ -82,21 +83,32 @@ fn tell_all<'a>(
     Ok(all)
 }
 
+/// The texts in which an outline stands.
+#[derive(Clone, Copy)]
+pub struct Texts<'a> {
+    /// The outline's own.
+    pub own: &'a [u8],
+    /// The one whose places a report tells that is no JSON: the same, or a template.
+    pub told: &'a [u8],
+    /// Where in the template the parts of the outline come from.
+    pub rows: Option<&'a Rows>,
+}
+
 // The text of a report, of which only one that is unblocked says so.
 fn text_of(
     alloc: Global,
     outline: &Outline,
-    source: &[u8],
+    texts: Texts,
     conditions: &[Condition],
     told: &[Told],
 ) -> Result<Vec<u8>, AllocError>
-    requires short { length source.now ≤ 2 ^ 20 }
+    requires short { length texts.told.now ≤ 2 ^ 20 }
     requires each { length told.now ≡ length conditions.now }
     requires few { length told.now < 2 ^ 32 }
-    ensures text { IfOk result (λ t. t.items ≡ told_in false outline.now.names source.now (map seen conditions.now) told.now) }
+    ensures text { IfOk result (λ t. t.items ≡ told_in false outline.now.names texts.entry.own.now texts.entry.told.now texts.entry.rows (map seen conditions.now) told.now) }
     ensures unblocked { IfOk result (λ t. SaysUnblocked false t.items → is_unblocked told.now ≡ true) }
 {
-    let text = report(alloc, outline, source, conditions, told)?;
+    let text = report(alloc, outline, texts.told, texts.rows, conditions, told)?;
     Ok(text)
 }
 
@@ -104,21 +116,22 @@ fn text_of(
 fn told_text(
     alloc: Global,
     outline: &Outline,
-    source: &[u8],
+    texts: Texts,
     conditions: &[Condition],
     told: &[Told],
     in_json: bool,
 ) -> Result<Vec<u8>, AllocError>
-    requires short { length source.now ≤ 2 ^ 20 }
+    requires own { length texts.own.now ≤ 2 ^ 20 }
+    requires short { length texts.told.now ≤ 2 ^ 20 }
     requires each { length told.now ≡ length conditions.now }
     requires few { length told.now < 2 ^ 32 }
-    ensures text { IfOk result (λ t. t.items ≡ told_in in_json outline.now.names source.now (map seen conditions.now) told.now) }
+    ensures text { IfOk result (λ t. t.items ≡ told_in in_json outline.now.names texts.entry.own.now texts.entry.told.now texts.entry.rows (map seen conditions.now) told.now) }
     ensures unblocked { IfOk result (λ t. SaysUnblocked in_json t.items → is_unblocked told.now ≡ true) }
 {
     if !in_json {
-        return text_of(alloc, outline, source, conditions, told);
+        return text_of(alloc, outline, texts, conditions, told);
     }
-    let mut line = json(alloc, outline, source, conditions, told)?;
+    let mut line = json(alloc, outline, texts.own, conditions, told)?;
     line.push(b'\n')?;
     Ok(line)
 }
@@ -127,20 +140,21 @@ fn told_text(
 fn answer_of(
     alloc: Global,
     outline: &Outline,
-    source: &[u8],
+    texts: Texts,
     conditions: &[Condition],
     told: &[Told],
     in_json: bool,
 ) -> Result<Answer, AllocError>
-    requires short { length source.now ≤ 2 ^ 20 }
+    requires own { length texts.own.now ≤ 2 ^ 20 }
+    requires short { length texts.told.now ≤ 2 ^ 20 }
     requires listed { map seen conditions.now ≡ conditions_of outline.now }
     requires told { AreTold outline.now (map seen conditions.now) told.now }
     requires each { length told.now ≡ length conditions.now }
     requires few { length told.now < 2 ^ 32 }
-    ensures says { IfOk result (Says (told_in in_json outline.now.names source.now (map seen conditions.now) told.now) (told_status told.now)) }
+    ensures says { IfOk result (Says (told_in in_json outline.now.names texts.entry.own.now texts.entry.told.now texts.entry.rows (map seen conditions.now) told.now) (told_status told.now)) }
     ensures promises { IfOk result (Promises in_json outline.now) }
 {
-    let text = told_text(alloc, outline, source, conditions, told, in_json)?;
+    let text = told_text(alloc, outline, texts, conditions, told, in_json)?;
     if !is_safe(told) {
         return Ok(Answer { text, status: 1 });
     }
@@ -155,22 +169,56 @@ fn answer_of(
 fn searched<G: Gate, H: Threads + Wait + Sync>(
     rt: &H,
     alloc: Global,
-    source: &Source,
+    outline: &Outline,
+    texts: Texts,
     conditions: &[Condition],
     search: Search,
     gate: &G,
 ) -> Result<Answer, PoolFault>
-    requires listed { map seen conditions.now ≡ conditions_of source.now.outline }
+    requires own { length texts.own.now ≤ 2 ^ 20 }
+    requires short { length texts.told.now ≤ 2 ^ 20 }
+    requires listed { map seen conditions.now ≡ conditions_of outline.now }
     requires few { length conditions.now ≤ condition_limit }
-    ensures told { IfOk result (IsToldText search.json source.now.outline source.now.bytes) }
-    ensures promises { IfOk result (Promises search.json source.now.outline) }
+    ensures told { IfOk result (IsToldText search.json outline.now texts.entry.own.now texts.entry.told.now texts.entry.rows) }
+    ensures promises { IfOk result (Promises search.json outline.now) }
     ensures spawn { IfErr result (λ e. e ≡ Spawn → 1 < search.workers) }
 {
-    let (outline, bytes) = (source.outline(), source.bytes());
     let (budget, workers) = (search.budget.facts(), search.workers.count());
     let findings = examine_all(rt, alloc, conditions, budget, workers, gate)?;
     let told = tell_all(alloc, outline, conditions, &findings)?;
-    Ok(answer_of(alloc, outline, bytes, conditions, &told, search.json)?)
+    Ok(answer_of(alloc, outline, texts, conditions, &told, search.json)?)
+}
+
+/// What searches tell of the conditions of an outline, with places of one of its texts, each of which
+/// has at most 1,048,576 bytes; or the line that says that there are too many conditions, with status
+/// 2. The status is else 0 where every condition but the last is proved, and 1 where one is not. What
+/// status 0 says of the runs is as in `proved`.
+///
+/// # Errors
+///
+/// As `proved`.
+pub fn proved_outline<G: Gate, H: Threads + Wait + Sync>(
+    rt: &H,
+    alloc: Global,
+    outline: &Outline,
+    texts: Texts,
+    search: Search,
+    gate: &G,
+) -> Result<Answer, PoolFault>
+    requires own { length texts.own.now ≤ 2 ^ 20 }
+    requires short { length texts.told.now ≤ 2 ^ 20 }
+    ensures told { IfOk result (IsToldOf search.json outline.now texts.entry.own.now texts.entry.told.now texts.entry.rows) }
+    ensures promises { IfOk result (Promises search.json outline.now) }
+    ensures spawn { IfErr result (λ e. e ≡ Spawn → 1 < search.workers) }
+{
+    match conditions(alloc, outline) {
+        Ok(list) => searched(rt, alloc, outline, texts, &list, search, gate),
+        Err(ConditionsError::Fault(fault)) => {
+            let fault = InputFault::Conditions(fault);
+            Ok(Answer::refused(alloc, &fault, texts.own)?)
+        }
+        Err(ConditionsError::Memory) => Err(PoolFault::Memory),
+    }
 }
 
 // The answer for the outline of a source.
@@ -181,18 +229,17 @@ fn proved_of<G: Gate, H: Threads + Wait + Sync>(
     search: Search,
     gate: &G,
 ) -> Result<Answer, PoolFault>
-    ensures told { IfOk result (IsToldOf search.json source.now.outline source.now.bytes) }
+    ensures told { IfOk result (IsToldOf search.json source.now.outline source.now.bytes source.now.bytes None) }
     ensures promises { IfOk result (Promises search.json source.now.outline) }
     ensures spawn { IfErr result (λ e. e ≡ Spawn → 1 < search.workers) }
 {
-    match conditions(alloc, source.outline()) {
-        Ok(list) => searched(rt, alloc, source, &list, search, gate),
-        Err(ConditionsError::Fault(fault)) => {
-            let fault = InputFault::Conditions(fault);
-            Ok(Answer::refused(alloc, &fault, source.bytes())?)
-        }
-        Err(ConditionsError::Memory) => Err(PoolFault::Memory),
-    }
+    let bytes = source.bytes();
+    let texts = Texts {
+        own: bytes,
+        told: bytes,
+        rows: None,
+    };
+    proved_outline(rt, alloc, source.outline(), texts, search, gate)
 }
 
 /// What searches tell of the conditions of the outline of a source: each one that is not proved with

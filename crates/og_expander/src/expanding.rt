@@ -7,9 +7,10 @@ ghost use Rattle.og_expander.specs.Expanded.{HasOutline, IsExpansion, IsOutlineT
 
 use crate::fault::{ExpandError, ExpandFault, Refusal};
 use crate::line::fault_line;
-use crate::rows::{Rows, rows_text};
+use crate::rows::rows_text;
 use crate::template::of_text;
 use og_answer::Answer;
+use og_origins::Rows;
 use og_source::Source;
 use og_template_words::is_template;
 use og_text::{LexFault, SOURCE_LIMIT};

@@ -15,4 +15,3 @@ mod words;
 
 pub use expanding::{Expansion, Reply, expand_template, expanded};
 pub use fault::ExpandFault;
-pub use rows::{Row, Rows};

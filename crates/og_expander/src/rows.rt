@@ -5,24 +5,9 @@ ghost use Rattle.std.specs.Prelude.{◌≤◌, ◌^◌, length};
 use crate::places::Part;
 use og_expand::{Binding, Origin};
 use og_listing::{Places, put_position};
+use og_origins::{Row, Rows};
 use std::alloc::{AllocError, Global};
-use std::collections::BTreeMap;
 use std::mem;
-
-/// Where a note, a statement or `cobegin` of an expanded outline comes from.
-#[derive(Debug, Drop)]
-pub struct Row {
-    /// The byte offset in the template.
-    pub from: u32,
-    /// ` NAME=INT` for each bound name round it, from the outside.
-    pub instance: Vec<u8>,
-    /// The byte offset in the template of the first relation of each conjunct of a note, where the
-    /// conjunct has one.
-    pub conjuncts: Vec<Option<u32>>,
-}
-
-/// The rows of an expanded outline, by byte offsets in its text.
-pub type Rows = BTreeMap<u32, Row>;
 
 // ` NAME=INT` for each binding.
 fn instance_of(alloc: Global, instance: &[Binding<'_>]) -> Result<Vec<u8>, AllocError> {

@@ -88,13 +88,13 @@ module _ (names : List (List ℕ)) where
 
   module _ (source : List ℕ) where
     abbrev pub overflow_lines : ℕ → ℕ → ℤ → List ℕ
-    overflow_lines at x v = quoted_line source (codes "next") at & too_large_line names x v
+    overflow_lines at x v = quoted_line source None (codes "next") at & too_large_line names x v
 
     -- what makes it wrong
     abbrev pub fault_lines : Fault → List ℕ
-    fault_lines (fault.Assertion p note all) = false_lines names source note.now.at all.items
+    fault_lines (fault.Assertion p note all) = false_lines names source None note.now.at all.items
     fault_lines (fault.Overflow p item x v) = overflow_lines item.now.at x v
-    fault_lines (fault.Post note all) = false_lines names source note.now.at all.items
+    fault_lines (fault.Post note all) = false_lines names source None note.now.at all.items
     fault_lines (fault.Stuck stands) = stand_lines source 1 stands.items
 
     -- the run that leads there

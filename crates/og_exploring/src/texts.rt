@@ -1,16 +1,18 @@
 //! What is told of the end of a run, and of all that was explored.
 
-ghost use Rattle.std.specs.Prelude.{◌≡◌, ◌++◌, ◌≤◌, ◌^◌, true, length, IfOk, OnOk};
+ghost use Rattle.std.specs.Prelude.{◌≡◌, ◌++◌, ◌≤◌, ◌^◌, true, length, None, IfOk, OnOk};
+ghost use Rattle.og_prove.specs.Blocks.{false_lines};
 ghost use Rattle.og_exploring.specs.Texts.{when_text, part_of, what_text, place_of, where_text, blame_line, ended_line, waits_line, stand_line, stand_lines, numbers, all_values, all_line, overflow_lines, fault_lines, head_line, run_lines, finding_text, findings_text, report_text};
 
 use crate::finding::{Blame, Fault, Finding};
 use crate::table::{Page, put_table};
 use crate::totals::{Totals, put_totals};
 use og_listing::{Places, put_action_place, put_number, put_position};
+use og_origins::Origins;
 use og_places::Part;
 use og_prove::{put_false, put_part, put_quoted, put_too_large};
 use og_text::Name;
-use og_typed::{Item, Outline};
+use og_typed::{Assert, Item, Outline};
 use og_values::Values;
 use og_wording::{put_quote, put_values};
 use std::alloc::{AllocError, Global};
@@ -232,8 +234,23 @@ fn put_overflow(
     requires { page.places.now ≡ page.source.now }
     ensures { OnOk result (text.new.items ≡ text.old.items ++ overflow_lines page.entry.names.now page.entry.source.now at var value) }
 {
-    put_quoted(text, b"next", page.source, page.places, at)?;
+    let origins = Origins::own(page.source, page.places);
+    put_quoted(text, b"next", &origins, at)?;
     put_too_large(text, page.names, var, value)
+}
+
+// The conjuncts that are false.
+fn put_false_at(
+    text: &mut Vec<u8>,
+    page: Page,
+    at: u32,
+    found: &[&Assert],
+) -> Result<(), AllocError>
+    requires { page.places.now ≡ page.source.now }
+    ensures { OnOk result (text.new.items ≡ text.old.items ++ false_lines page.entry.names.now page.entry.source.now None at found.now) }
+{
+    let origins = Origins::own(page.source, page.places);
+    put_false(text, page.names, &origins, at, found)
 }
 
 // What makes it wrong.
@@ -242,9 +259,9 @@ fn put_fault(text: &mut Vec<u8>, page: Page, fault: &Fault) -> Result<(), AllocE
     ensures { OnOk result (text.new.items ≡ text.old.items ++ fault_lines page.entry.names.now page.entry.source.now fault.now) }
 {
     match fault {
-        Fault::Assertion(_, note, all) => put_false(text, page.names, page.places, note.at, all),
+        Fault::Assertion(_, note, all) => put_false_at(text, page, note.at, all),
         Fault::Overflow(_, item, var, value) => put_overflow(text, page, item.at, *var, *value),
-        Fault::Post(note, all) => put_false(text, page.names, page.places, note.at, all),
+        Fault::Post(note, all) => put_false_at(text, page, note.at, all),
         Fault::Stuck(stands) => put_stands(text, page.source, page.places, stands),
     }
 }

@@ -53,7 +53,7 @@ AreKnown cs verdicts known = (i place : ℕ) → slice_get known i ≡ Some (Som
 
 -- the verdict of a follower's own search is true of it, or without one that of its leader is
 abbrev pub IsTried : List Condition → List Verdict → Follower → Option (Box Verdict) → Type 0
-IsTried cs verdicts f None = IsKnownAt cs verdicts f.index f.leader
+IsTried cs verdicts f None = IsSomeAnd f.leader (IsKnownAt cs verdicts f.index)
 IsTried cs verdicts f (Some own) = IsVerdictAt cs f.index own.value
 
 -- the same of the n-th follower, from 1

@@ -34,7 +34,7 @@ struct Search<'a, 'c, G> {
 }
 
 impl<'a, 'c, G: Gate> Search<'a, 'c, G> {
-    // What is found of the leaders, and then of those followers for which that does not hold.
+    // What is found of the leaders, and then of the others for which that does not hold.
     fn gathered<R: Threads + Wait + Sync>(
         &self,
         rt: &R,
@@ -83,7 +83,9 @@ impl<'a, 'c, G: Gate> Search<'a, 'c, G> {
 ///
 /// Conditions with equal facts are searched once, and share what was found. Of conditions that differ
 /// in the names of variables alone, but for those that their action assigns, the first one leads: where
-/// it has a certificate, that is tried for the others, and those whose facts it closes share it. The
+/// it has a certificate, that is tried for the others, and those whose facts it closes share it. A
+/// condition from which no other differs so is searched together with those others, so that no worker
+/// waits for it. The
 /// gate is told how many different conditions there are, and before and after each.
 ///
 /// # Errors

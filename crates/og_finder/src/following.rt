@@ -13,7 +13,7 @@ use og_pool::Gate;
 use std::alloc::{AllocError, Global};
 
 /// The certificate of its leader is tried for a follower, which is searched for itself where that does
-/// not close its facts.
+/// not close its facts, or where it has no leader.
 #[derive(Clone, Copy)]
 pub(crate) struct Trial<'a, 'c> {
     pub(crate) conditions: &'a [Condition<'c>],
@@ -28,11 +28,14 @@ impl Trial<'_, '_> {
         &self,
         alloc: Global,
         condition: &Condition,
-        leader: usize,
+        leader: Option<usize>,
     ) -> Result<bool, AllocError>
-        ensures { IfOk result (λ yes. IsTrue yes → IsSomeAnd (slice_get self.now.verdicts.now leader) (IsVerdict (seen condition.now))) }
+        ensures { IfOk result (λ yes. IsTrue yes → IsSomeAnd leader (λ place. IsSomeAnd (slice_get self.now.verdicts.now place) (IsVerdict (seen condition.now)))) }
     {
-        let Some(verdict) = self.verdicts.get(leader) else {
+        let Some(place) = leader else {
+            return Ok(false);
+        };
+        let Some(verdict) = self.verdicts.get(place) else {
             return Ok(false);
         };
         match verdict {

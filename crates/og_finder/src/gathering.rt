@@ -17,14 +17,14 @@ use std::alloc::{AllocError, Global};
 pub(crate) struct Gathered {
     pub(crate) firsts: Vec<usize>,
     pub(crate) verdicts: Vec<Verdict>,
-    pub(crate) places: Vec<usize>,
+    pub(crate) places: Vec<Option<usize>>,
     pub(crate) known: Vec<Option<usize>>,
 }
 
 // Writes the place of a group.
-fn put(places: &mut [usize], group: usize, place: usize) {
+fn put(places: &mut [Option<usize>], group: usize, place: usize) {
     if let Some(its) = places.get_mut(group) {
-        *its = place;
+        *its = Some(place);
     }
 }
 
@@ -100,7 +100,10 @@ fn note_follower(
     let Some(follower) = followers.get(place) else {
         return;
     };
-    note(known, follower.index, follower.leader);
+    let Some(leader) = follower.leader else {
+        return;
+    };
+    note(known, follower.index, leader);
 }
 
 // Notes the followers that share the verdict of their leader.
@@ -157,7 +160,7 @@ impl Gathered {
         verdicts: Vec<Verdict>,
         followers: &[Follower],
         own: Vec<Option<Box<Verdict>>>,
-        places: Vec<usize>,
+        places: Vec<Option<usize>>,
     ) -> Result<Gathered, AllocError>
         ensures { IfOk result (λ g. (cs : List Condition) → AreOfFirsts cs leaders.items verdicts.items → AreTried cs verdicts.items followers.now own.items
             → AreKnown cs g.verdicts.items g.known.items) }
@@ -183,8 +186,8 @@ impl Gathered {
         let mut places = Vec::with_capacity(alloc, groups.len())?;
         for group in groups {
             let place = match self.places.get(*group) {
-                Some(place) => *place,
-                None => self.verdicts.len(),
+                Some(Some(place)) => *place,
+                _ => self.verdicts.len(),
             };
             places.push(place)?;
         }

@@ -1,6 +1,12 @@
 -- What status 0 of the program says.
-use Rattle.std.proofs.Common.{◌≡◌, inl, inr, ℕ, List, false, None, Some, Option, map, sym, ap, arith, ◌∙◌}
-use Rattle.og_engine.proofs.Promised.{wrote_unblocked}
+use Rattle.std.proofs.Common.{◌≡◌, inl, inr, ℕ, List, Bool, true, false, None, Some, Option, map, sym, ap, subst, arith, ◌∙◌}
+use Rattle.og_answer.specs.declared.answer.Answer.{Answer}
+use Rattle.og_engine.proofs.Promised.{written_text, wrote_unblocked}
+use Rattle.og_expander.specs.declared.expanding.Reply.{Reply as Proving}
+use Rattle.og_expander.specs.declared.expanding.Reply.TheVariants as provings
+use Rattle.og_prover.specs.Proof.{WarrantsReply, WarrantsText}
+use Rattle.og_report.specs.Yes.{SaysUnblocked}
+use Rattle.og_template_words.specs.Front.{is_template}
 use Rattle.og_running.proofs.Answering.{run_proven}
 use Rattle.og_running.specs.declared.reply.Reply.{Reply}
 use Rattle.og_running.specs.declared.reply.Reply.TheVariants as replies
@@ -9,7 +15,7 @@ use Rattle.og_judge.specs.Proven.{IsProvenSource}
 use Rattle.og_remark.specs.Starting.{IsProvedRunRemark}
 use Rattle.og_words.specs.declared.job.Job.{Job}
 use Rattle.og_words.specs.declared.job.Job.TheVariants as jobs
-use Rattle.og_program.specs.Served.{Comes, Does, EndsJob, IsWordRemark, Follows, IsProvenIn, IsNeverStuckIn}
+use Rattle.og_program.specs.Served.{Comes, Does, EndsJob, IsWordRemark, Follows, FollowsProving, TellsProvedBy, IsProvenIn, IsNeverStuckIn}
 use Rattle.og_program.specs.Told.{Says}
 use Rattle.og_program.specs.declared.ended.Ended.{Ended}
 use Rattle.og_program.specs.declared.outcome.Outcome.TheVariants as outcomes
@@ -31,11 +37,30 @@ no_listing R V (replies.Told ran) text follows = follows
 no_listing R V (replies.BadValue word) text follows = follows
 no_listing R V (replies.NotMade line) text follows = let never : outcomes.Listing text ≡ outcomes.NotMade line = follows in absurd (cc)
 
+-- nor does a proof
+no_listing_proved : (name source : List ℕ) (reply : Proving) (text : List ℕ) → FollowsProving name source reply (outcomes.Listing text) → ⊥
+no_listing_proved name source (provings.Answer a) text follows = follows
+no_listing_proved name source (provings.Refused a fault) text follows = follows
+no_listing_proved name source (provings.BadValue word) text follows = follows
+
+-- what a reply to `prove` says is said by what is told
+told_answer : (b : Bool) (name source : List ℕ) (a : Answer) (t : Told) → TellsProvedBy b name source a t → t.answer ≡ a
+told_answer true name source a t h = h.0
+told_answer false name source a t h = h.0
+
+proved_warrants : (json : Bool) (name source : List ℕ) (reply : Proving) (t : Told) → WarrantsReply json source reply → FollowsProving name source reply (outcomes.Told t)
+    → WarrantsText json source t.answer.text.items t.answer.status
+proved_warrants json name source (provings.Answer a) t w follows =
+    subst (λ (x : Answer). WarrantsText json source x.text.items x.status) (sym (told_answer (is_template source) name source a t follows)) w
+proved_warrants json name source (provings.Refused a fault) t w follows = subst (λ (x : Answer). WarrantsText json source x.text.items x.status) (sym follows.0) w
+proved_warrants json name source (provings.BadValue word) t w follows = absurd follows
+
 sound_answer : (files : List ℕ → Option (List ℕ)) (input : Option (List ℕ)) (job : Job) (before after err err_after : Option (List ℕ)) (ended : Ended) → Does files input job before after err err_after ended
     → ended.status ≡ 0 → IsProvenIn files input job
 sound_answer files input jobs.Joined before after err err_after ended h zero =
     let w = h.1.2 in (h.1.0, h.1.1, (w.0, w.1, w.2, w.3.1.0 (sym h.2.1 ∙ zero)))
-sound_answer files input (jobs.Prove source budget workers json) before after err err_after ended h zero = (h.1.0, h.1.1, h.1.2.1.0 (sym h.2.1 ∙ zero))
+sound_answer files input (jobs.Prove source budget workers json values) before after err err_after ended h zero =
+    let r = h.1.2 in (h.1.0, h.1.1, (proved_warrants json source.now h.1.0 r.0 h.0 r.2 r.3).0 (sym h.2.1 ∙ zero))
 sound_answer files input (jobs.Check source certs workers json) before after err err_after ended h zero = (h.1.0, h.1.1, h.1.2.2.1.0 (sym h.2.1 ∙ zero))
 sound_answer files input (jobs.Notes source budget) before after err err_after ended h zero = tt
 sound_answer files input (jobs.Conditions source triples smt2 only) before after err err_after ended h zero = tt
@@ -52,8 +77,9 @@ unblocked_answer : (files : List ℕ → Option (List ℕ)) (input : Option (Lis
     → ended.status ≡ 0 → IsNeverStuckIn files input before after job
 unblocked_answer files input jobs.Joined before after err err_after ended h zero = λ wrote.
     let w = h.1.2 in (h.1.0, h.1.1, (w.0, w.1, w.2, wrote_unblocked false w.0 h.0.answer.text.items before after h.0.answer.status w.3.1 h.2.0 (sym h.2.1 ∙ zero) wrote))
-unblocked_answer files input (jobs.Prove source budget workers json) before after err err_after ended h zero = λ wrote.
-    (h.1.0, h.1.1, wrote_unblocked json h.1.0 h.0.answer.text.items before after h.0.answer.status h.1.2.1 h.2.0 (sym h.2.1 ∙ zero) wrote)
+unblocked_answer files input (jobs.Prove source budget workers json values) before after err err_after ended h zero = λ wrote.
+    let r = h.1.2 in
+    (h.1.0, h.1.1, (proved_warrants json source.now h.1.0 r.0 h.0 r.2 r.3).1 (sym h.2.1 ∙ zero) (written_text (SaysUnblocked json) before after h.0.answer.text.items h.2.0 wrote))
 unblocked_answer files input (jobs.Check source certs workers json) before after err err_after ended h zero = λ wrote.
     (h.1.0, h.1.1, wrote_unblocked json h.1.0 h.0.answer.text.items before after h.0.answer.status h.1.2.2.1 h.2.0 (sym h.2.1 ∙ zero) wrote)
 unblocked_answer files input (jobs.Notes source budget) before after err err_after ended h zero = tt
@@ -69,7 +95,8 @@ unblocked_answer files input (jobs.Migrate certs) before after err err_after end
 
 sound_listing : (files : List ℕ → Option (List ℕ)) (input : Option (List ℕ)) (job : Job) (text : List ℕ) → Comes files input job (outcomes.Listing text) → IsProvenIn files input job
 sound_listing files input jobs.Joined text came = absurd came.2.3
-sound_listing files input (jobs.Prove source budget workers json) text came = absurd came.2
+sound_listing files input (jobs.Prove source budget workers json values) text came =
+    absurd (no_listing_proved source.now came.0 came.2.0 text came.2.3)
 sound_listing files input (jobs.Check source certs workers json) text came = absurd came.2.2
 sound_listing files input (jobs.Notes source budget) text came = tt
 sound_listing files input (jobs.Conditions source triples smt2 only) text came = tt
@@ -84,7 +111,8 @@ sound_listing files input (jobs.Migrate certs) text came = tt
 
 unblocked_listing : (files : List ℕ → Option (List ℕ)) (input before after : Option (List ℕ)) (job : Job) (text : List ℕ) → Comes files input job (outcomes.Listing text) → IsNeverStuckIn files input before after job
 unblocked_listing files input before after jobs.Joined text came = absurd came.2.3
-unblocked_listing files input before after (jobs.Prove source budget workers json) text came = absurd came.2
+unblocked_listing files input before after (jobs.Prove source budget workers json values) text came =
+    absurd (no_listing_proved source.now came.0 came.2.0 text came.2.3)
 unblocked_listing files input before after (jobs.Check source certs workers json) text came = absurd came.2.2
 unblocked_listing files input before after (jobs.Notes source budget) text came = tt
 unblocked_listing files input before after (jobs.Conditions source triples smt2 only) text came = tt

@@ -2,13 +2,13 @@
 use Rattle.std.specs.Prelude.{◌≡◌, ◌≢◌, ◌⊎◌, ◌<◌, ℕ, Bool, true, false, not, ◌||◌, List, Option, None, Some, IfSome, Result, Ok, Err, IfOk, IfErr, map, codes, string_bytes, ⊤}
 use Rattle.std.specs.Borrow.{Bor}
 use Rattle.std.specs.Io.KnownBytes.{Appends, Keeps}
+use Rattle.og_answer.specs.declared.answer.Answer.{Answer}
 use Rattle.og_engine.specs.Answers.{IsChecked}
 use Rattle.og_engine.specs.NeverStuck.{HasNeverStuckSource}
 use Rattle.og_engine.specs.Proven.{HasProvenSource}
 use Rattle.og_engine.specs.Commands.{IsErased}
 use Rattle.og_engine.specs.Inputs.{source_of, certs_of, joined_of, Reads}
 use Rattle.og_engine.specs.Making.{IsFound, IsMigrated}
-use Rattle.og_engine.specs.Proving.{IsProving}
 use Rattle.og_engine.specs.Unfinished.{AppendsFront}
 use Rattle.og_engine.specs.Warrants.{Warrants}
 use Rattle.og_engine.specs.Wrote.{Wrote}
@@ -28,6 +28,7 @@ use Rattle.og_listings.specs.declared.choosing.Reply.TheVariants as listings
 use Rattle.og_listings.specs.declared.form.Form.{Form}
 use Rattle.og_listings.specs.declared.form.Form.TheVariants as forms
 use Rattle.og_notes.specs.Noted.{IsNoted}
+use Rattle.og_prover.specs.Proof as proof
 use Rattle.og_remark.specs.Expansion.{IsExpansionRemark}
 use Rattle.og_remark.specs.Missing.{IsMissingRemark}
 use Rattle.og_remark.specs.Remarks.{IsSourceRemark, IsConditionsRemark, IsCheckRemark, IsCertificatesRemark}
@@ -41,6 +42,7 @@ use Rattle.og_running.specs.Starts.{HasStart, HasProvedStart}
 use Rattle.og_running.specs.declared.reply.Ran.{Ran}
 use Rattle.og_running.specs.declared.reply.Reply.{Reply}
 use Rattle.og_running.specs.declared.reply.Reply.TheVariants as replies
+use Rattle.og_template_words.specs.Front.{is_template}
 use Rattle.og_words.specs.Jobs.{IsAsked}
 use Rattle.og_words.specs.declared.job.Job.{Job}
 use Rattle.og_words.specs.declared.job.Job.TheVariants as jobs
@@ -79,11 +81,6 @@ abbrev pub Checks : Bool → List ℕ → List ℕ → List ℕ → List ℕ →
 Checks json name certs_name source certs t =
     IsChecked json source certs t.answer × Warrants json source t.answer.text.items t.answer.status
     × RemarksBoth (IsCheckRemark name certs_name source certs) (IsMissingRemark name source certs) t
-
--- what searches tell of the conditions, and what that says of the source
-abbrev pub Proves : Bool → List ℕ → List ℕ → Told → Type 0
-Proves json name source t =
-    IsProving json source t.answer × Warrants json source t.answer.text.items t.answer.status × Remarks (IsConditionsRemark name source) t
 
 abbrev pub NotesOn : List ℕ → List ℕ → Told → Type 0
 NotesOn name source t = IsNoted source t.answer × Remarks (IsSourceRemark name source) t
@@ -148,6 +145,21 @@ FollowsExpanding name template (expandings.Refused answer fault) outcome =
     OnTold (λ t. (t.answer ≡ answer) × Noted (IsExpansionNote name template fault) t) outcome
 FollowsExpanding name template (expandings.BadValue word) outcome = OnBad (λ _ _. ⊥) word outcome
 
+-- an answer about a source, and beside it why its conditions are refused; about a template nothing is told beside it
+abbrev pub TellsProvedBy : Bool → List ℕ → List ℕ → Answer → Told → Type 0
+TellsProvedBy true name source answer t = (t.answer ≡ answer) × (t.note ≡ Ok None)
+TellsProvedBy false name source answer t = (t.answer ≡ answer) × Remarks (IsConditionsRemark name source) t
+
+abbrev pub TellsProved : List ℕ → List ℕ → Answer → Told → Type 0
+TellsProved name source answer t = TellsProvedBy (is_template source) name source answer t
+
+-- what is told of the reply to a proof of a source or of a template
+abbrev pub FollowsProving : List ℕ → List ℕ → Expanding → Outcome → Type 0
+FollowsProving name source (expandings.Answer answer) outcome = OnTold (TellsProved name source answer) outcome
+FollowsProving name source (expandings.Refused answer fault) outcome =
+    OnTold (λ t. (t.answer ≡ answer) × Noted (IsExpansionNote name source fault) t) outcome
+FollowsProving name source (expandings.BadValue word) outcome = OnBad (λ _ _. ⊥) word outcome
+
 -- what is told of the reply to whoever asks for conditions
 abbrev pub FollowsListing : List ℕ → List ℕ → Listing → Outcome → Type 0
 FollowsListing name source (listings.Listing text) outcome = outcome ≡ outcomes.Listing text
@@ -187,6 +199,11 @@ abbrev pub Explores : Bool → Bool → List (List ℕ) → List ℕ → List �
 Explores erased json words name source outcome =
     (reply : Exploring) × IsReply json source erased words reply × FollowsExploring (IsSourceRemark name source) (IsValueRemark gives.Ranges source) reply outcome
 
+-- what searches tell of the conditions of a source or of a template, and what that says of the runs
+abbrev pub Proves : Bool → List (List ℕ) → List ℕ → List ℕ → Outcome → Type 0
+Proves json words name source outcome =
+    (reply : Expanding) × proof.IsReply json source words reply × proof.WarrantsReply json source reply × FollowsProving name source reply outcome
+
 -- an expansion, as a map or as a text
 abbrev pub Expands : Bool → List (List ℕ) → List ℕ → List ℕ → Outcome → Type 0
 Expands as_map words name template outcome =
@@ -195,7 +212,7 @@ Expands as_map words name template outcome =
 -- what a job comes to, by the bytes that were read of its files
 abbrev pub Comes : (List ℕ → Option (List ℕ)) → Option (List ℕ) → Job → Outcome → Type 0
 Comes files input jobs.Joined = OfJoined input
-Comes files input (jobs.Prove source budget workers json) = OfSource files input source.now (λ s. OnTold (Proves json source.now s))
+Comes files input (jobs.Prove source budget workers json values) = OfSource files input source.now (Proves json (map (λ w. w.now) values.items) source.now)
 Comes files input (jobs.Check source certs workers json) = OfBoth files input source.now certs.now (λ s c. OnTold (Checks json source.now certs.now s c))
 Comes files input (jobs.Notes source budget) = OfSource files input source.now (λ s. OnTold (NotesOn source.now s))
 Comes files input (jobs.Conditions source triples smt2 only) = OfSource files input source.now (Lists (form_of triples smt2) only source.now)
@@ -232,7 +249,7 @@ Refuses files input job text = (outcome : Outcome) × Comes files input job outc
 -- the job opens a file of this name
 abbrev pub Opens : Job → List ℕ → Type 0
 Opens jobs.Joined = λ name. name ≡ codes "-"
-Opens (jobs.Prove source budget workers json) = λ name. name ≡ source.now
+Opens (jobs.Prove source budget workers json values) = λ name. name ≡ source.now
 Opens (jobs.Check source certs workers json) = λ name. (name ≡ source.now) ⊎ (name ≡ certs.now)
 Opens (jobs.Notes source budget) = λ name. name ≡ source.now
 Opens (jobs.Conditions source triples smt2 only) = λ name. name ≡ source.now
@@ -251,7 +268,7 @@ lacks_given missing source (Some certs) = lacks_certs missing source certs.now
 -- there is known to be no file of a name that the job opens
 abbrev pub lacks : (List ℕ → Bool) → Job → Bool
 lacks missing jobs.Joined = false
-lacks missing (jobs.Prove source budget workers json) = lacks_bytes missing source.now
+lacks missing (jobs.Prove source budget workers json values) = lacks_bytes missing source.now
 lacks missing (jobs.Check source certs workers json) = lacks_bytes missing source.now || lacks_certs missing source.now certs.now
 lacks missing (jobs.Notes source budget) = lacks_bytes missing source.now
 lacks missing (jobs.Conditions source triples smt2 only) = lacks_bytes missing source.now
@@ -270,7 +287,7 @@ reads_given (Some certs) = not (is_file certs.now)
 -- whether the job is told to read standard input, which else is left as it is
 abbrev pub reads_input : Job → Bool
 reads_input jobs.Joined = true
-reads_input (jobs.Prove source budget workers json) = not (is_file source.now)
+reads_input (jobs.Prove source budget workers json values) = not (is_file source.now)
 reads_input (jobs.Check source certs workers json) = not (is_file source.now) || not (is_file certs.now)
 reads_input (jobs.Notes source budget) = not (is_file source.now)
 reads_input (jobs.Conditions source triples smt2 only) = not (is_file source.now)
@@ -294,7 +311,7 @@ StartsAs files input source erased (Some certs) schedule words = StartsProved fi
 -- a job starts threads: a search or a check by two workers or more, and such a run
 abbrev pub StartsThreads : (List ℕ → Option (List ℕ)) → Option (List ℕ) → Job → Type 0
 StartsThreads files input jobs.Joined = ⊥
-StartsThreads files input (jobs.Prove source budget workers json) = 1 < workers
+StartsThreads files input (jobs.Prove source budget workers json values) = 1 < workers
 StartsThreads files input (jobs.Check source certs workers json) = 1 < workers
 StartsThreads files input (jobs.Notes source budget) = ⊥
 StartsThreads files input (jobs.Conditions source triples smt2 only) = ⊥
@@ -341,7 +358,7 @@ IsProvenRun source (Some certs) = Reads source_of source IsProvenSource
 -- the source that a job proves or checks, or runs where certificates prove it, is proven
 abbrev pub IsProvenIn : (List ℕ → Option (List ℕ)) → Option (List ℕ) → Job → Type 0
 IsProvenIn files input jobs.Joined = Reads joined_of input HasProvenSource
-IsProvenIn files input (jobs.Prove source budget workers json) = Reads source_of (bytes_in files input source.now) IsProvenSource
+IsProvenIn files input (jobs.Prove source budget workers json values) = Reads source_of (bytes_in files input source.now) proof.IsProvenText
 IsProvenIn files input (jobs.Check source certs workers json) = Reads source_of (bytes_in files input source.now) IsProvenSource
 IsProvenIn files input (jobs.Notes source budget) = ⊤
 IsProvenIn files input (jobs.Conditions source triples smt2 only) = ⊤
@@ -355,8 +372,8 @@ IsProvenIn files input (jobs.Migrate certs) = ⊤
 -- it never gets stuck, where what was written says that it is unblocked
 abbrev pub IsNeverStuckIn : (List ℕ → Option (List ℕ)) → Option (List ℕ) → Option (List ℕ) → Option (List ℕ) → Job → Type 0
 IsNeverStuckIn files input before after jobs.Joined = Wrote (SaysUnblocked false) before after → Reads joined_of input HasNeverStuckSource
-IsNeverStuckIn files input before after (jobs.Prove source budget workers json) =
-    Wrote (SaysUnblocked json) before after → Reads source_of (bytes_in files input source.now) IsNeverStuckSource
+IsNeverStuckIn files input before after (jobs.Prove source budget workers json values) =
+    Wrote (SaysUnblocked json) before after → Reads source_of (bytes_in files input source.now) proof.IsNeverStuckText
 IsNeverStuckIn files input before after (jobs.Check source certs workers json) =
     Wrote (SaysUnblocked json) before after → Reads source_of (bytes_in files input source.now) IsNeverStuckSource
 IsNeverStuckIn files input before after (jobs.Notes source budget) = ⊤

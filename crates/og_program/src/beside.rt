@@ -7,7 +7,7 @@ ghost use Rattle.og_remark.specs.Starting.{IsRunRemark, IsProvedRunRemark};
 ghost use Rattle.og_remark.specs.Values.{schedule_text, reason_line, IsValueRemark};
 ghost use Rattle.og_remark.specs.declared.values.Gives.TheVariants as gives;
 ghost use Rattle.og_program.specs.Told.{Noted};
-ghost use Rattle.og_program.specs.Served.{Remarks, RemarksBoth, TellsRan, IsWordRemark, IsExpansionNote, Follows, FollowsExploring, FollowsExpanding, FollowsListing};
+ghost use Rattle.og_program.specs.Served.{Remarks, RemarksBoth, TellsRan, IsWordRemark, IsExpansionNote, Follows, FollowsExploring, FollowsExpanding, FollowsListing, FollowsProving, TellsProved, OnBad};
 
 use crate::outcome::{BadValue, Outcome, Told};
 use og_advice::Names;
@@ -20,6 +20,7 @@ use og_remark::{
     proved_run_remark, run_remark, schedule_remark, source_remark, value_remark,
 };
 use og_running::{Ran, Reply};
+use og_template_words::is_template;
 use std::alloc::Global;
 use std::sync::Wait;
 use std::thread::Threads;
@@ -290,6 +291,44 @@ fn beside_fault(
     }
 }
 
+// A word that gives no constant a value, and no line why.
+fn bad_constant(word: &str) -> Outcome<'_>
+    ensures { OnBad (λ _ _. ⊥) word.entry result }
+{
+    Outcome::BadValue(BadValue { word, why: None })
+}
+
+// An answer about a source, or about a template, of which nothing goes to standard error.
+fn beside_proved(alloc: Global, name: &str, source: &[u8], answer: Answer) -> Told
+    ensures { TellsProved name.now source.now answer result }
+{
+    if is_template(source) {
+        return Told {
+            answer,
+            note: Ok(None),
+        };
+    }
+    beside_conditions(alloc, name, source, answer)
+}
+
+/// What is told of the reply to a proof of a source or of a template.
+pub(crate) fn beside_proof<'a>(
+    alloc: Global,
+    name: &str,
+    source: &[u8],
+    reply: Expanded<'a>,
+) -> Outcome<'a>
+    ensures { FollowsProving name.now source.now reply.entry result }
+{
+    match reply {
+        Expanded::Answer(answer) => Outcome::Told(beside_proved(alloc, name, source, answer)),
+        Expanded::Refused(answer, fault) => {
+            Outcome::Told(beside_fault(alloc, name, source, answer, &fault))
+        }
+        Expanded::BadValue(word) => bad_constant(word),
+    }
+}
+
 /// What is told of the reply to an expansion of a template.
 pub(crate) fn beside_expansion<'a>(
     alloc: Global,
@@ -304,6 +343,6 @@ pub(crate) fn beside_expansion<'a>(
         Expanded::Refused(answer, fault) => {
             Outcome::Told(beside_fault(alloc, name, template, answer, &fault))
         }
-        Expanded::BadValue(word) => Outcome::BadValue(BadValue { word, why: None }),
+        Expanded::BadValue(word) => bad_constant(word),
     }
 }

@@ -1,40 +1,42 @@
 //! What the commands come to that search, by threads.
 
-ghost use Rattle.std.specs.Prelude.{◌≡◌, ◌<◌, true, IfErr, IfOk};
+ghost use Rattle.std.specs.Prelude.{◌≡◌, ◌<◌, true, map, IfErr, IfOk};
 ghost use Rattle.og_program.specs.Failing.{IsFault, IsUnread};
 ghost use Rattle.og_program.specs.Named.{is_file, lacks_bytes};
 ghost use Rattle.og_program.specs.Served.{OfSource, OnTold, Proves, Finds};
 
-use crate::beside::{beside_conditions, beside_found};
+use crate::beside::{beside_found, beside_proof};
 use crate::fault::Fault;
 use crate::files::Files;
 use crate::outcome::Outcome;
 use crate::program::Program;
 use crate::reading::source_bytes;
-use og_engine::{Search, found, proved};
+use og_engine::{Search, found};
 use og_limits::{Budget, CertVersion, Workers};
 use og_pool::Gate;
+use og_prover::prove;
 use std::io::Read;
 use std::sync::Wait;
 use std::thread::Threads;
 
 impl<'r, F: Files, G: Gate, H: Threads + Wait + Sync> Program<'r, F, G, H> {
-    /// What searches tell of the conditions of a source.
+    /// What searches tell of the conditions of a source, or of a template under the values that the
+    /// words give.
     pub(crate) fn prove<'a, I: Read>(
         &self,
         source: &'a str,
+        words: &[&'a str],
         search: Search,
         input: &mut I,
     ) -> Result<Outcome<'a>, Fault<'a>>
-        ensures came { IfOk result (OfSource (F.contents self.now.files.now) (I.remaining input.old) source.now (λ s. OnTold (Proves search.json source.now s))) }
+        ensures came { IfOk result (OfSource (F.contents self.now.files.now) (I.remaining input.old) source.now (Proves search.json (map (λ w. w.now) words.now) source.now)) }
         ensures fault { IfErr result (IsFault (λ n. n ≡ source.now) ⊥ (1 < search.workers)) }
         ensures missing { lacks_bytes (F.is_missing self.now.files.now) source.now ≡ true → IsUnread result }
         ensures kept { is_file source.now ≡ true → I.remaining input.new ≡ I.remaining input.old }
     {
         let bytes = source_bytes(self.alloc, self.files, source, input)?;
-        let answer = proved(self.rt, self.alloc, &bytes, search, self.gate)?;
-        let told = beside_conditions(self.alloc, source, &bytes, answer);
-        Ok(Outcome::Told(told))
+        let reply = prove(self.rt, self.alloc, &bytes, words, search, self.gate)?;
+        Ok(beside_proof(self.alloc, source, &bytes, reply))
     }
 
     /// The certificates that are found for a source.

@@ -41,6 +41,7 @@ impl<'r, F: Files, G: Gate, H: Threads + Wait + Sync> Program<'r, F, G, H> {
                 budget,
                 workers,
                 json,
+                values,
             } => {
                 let (budget, workers, json) = (*budget, *workers, *json);
                 let search = Search {
@@ -48,7 +49,7 @@ impl<'r, F: Files, G: Gate, H: Threads + Wait + Sync> Program<'r, F, G, H> {
                     workers,
                     json,
                 };
-                self.prove(source, search, input)
+                self.prove(source, values, search, input)
             }
             Job::Check {
                 source,

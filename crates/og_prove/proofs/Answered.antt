@@ -1,5 +1,5 @@
 -- Conditions that are told as proved are true.
-use Rattle.std.proofs.Common.{◌≡◌, ℕ, ◌+◌, ◌-◌, List, [], ◌∷◌, ◌++◌, length, take, drop, map, slice_get, Some, Bool, true, false, refl, sym, ap, subst, ◌∙◌, length-append, append_assoc, arith, true≢false}
+use Rattle.std.proofs.Common.{◌≡◌, ◌-◌, List, [], ◌∷◌, ◌++◌, length, take, slice_get, Some, true, refl, sym, ap, subst, ◌∙◌, length-append, append_assoc, arith, true≢false}
 use Rattle.std.specs.List.{list_all}
 use Rattle.std.proofs.Math.Seq.{take-append_seam}
 use Rattle.std.proofs.lemmas.Bool.{and_parts}

@@ -3,7 +3,8 @@ use Rattle.std.specs.Prelude.{ℕ, ◌+◌, List, [], ◌∷◌, Bool, false, if
 use Rattle.std.specs.Fmt.{decimal}
 use Rattle.std.specs.Str.{bytes_eq}
 use Rattle.og_typed.specs.Syntax.{Formula}
-use Rattle.og_listing.specs.Places.{◌&◌, position_of, position_text}
+use Rattle.og_listing.specs.Places.{◌&◌}
+use Rattle.og_origins.specs.Origins.{Rows, told_at}
 use Rattle.og_places.specs.Seen.{statement_of}
 use Rattle.og_places.specs.declared.sites.StatementSite.{StatementSite}
 use Rattle.og_wording.specs.Assertions.{assertion_text}
@@ -33,10 +34,10 @@ module _ (names : List (List ℕ)) where
   abbrev pub alike_line : ℕ → List Formula → List ℕ
   alike_line k found = codes "  as condition " & decimal k & codes ": " & together found & codes "\n"
 
-  module _ (source : List ℕ) where
+  module _ (source : List ℕ) (rows : Rows) where
     -- effects are the same where these texts are
     abbrev pub effect_text : ℕ × List Formula → List ℕ
-    effect_text effect = position_text (position_of source effect.0) & codes " " & together effect.1
+    effect_text effect = told_at source rows effect.0 & codes " " & together effect.1
 
     abbrev pub has_text : List ℕ → Option (ℕ × List Formula) → Bool
     has_text text None = false

@@ -5,17 +5,20 @@ use Rattle.std.specs.List.{list_all}
 use Rattle.og_typed.specs.Syntax.{Formula}
 use Rattle.og_cond.specs.Condition.{Condition}
 use Rattle.og_cond.specs.Names.{name_of_kind}
-use Rattle.og_listing.specs.Places.{◌&◌, position_of, position_text, with_text}
+use Rattle.og_listing.specs.Places.{◌&◌}
+use Rattle.og_origins.specs.Origins.{Rows, told_at, with_told}
 use Rattle.og_prove.specs.Blocks.{block_text}
 use Rattle.og_prove.specs.Effects.{effect_of, effect_text, first_with, alike_line}
+use Rattle.og_prove.specs.Together.{keys_of, mores, shown, more_text}
 use Rattle.og_prove.specs.declared.block.Block.{Block}
 use Rattle.og_prove.specs.declared.telling.Told.{Told}
 use Rattle.og_prove.specs.declared.telling.Told.TheVariants as told
 
-abbrev pub head_text : List ℕ → ℕ → Condition → List ℕ → List ℕ
-head_text source n c word =
-    position_text (position_of source c.at) & codes ": condition " & decimal n & codes " " & name_of_kind c.kind
-    & with_text source c.action_at & codes ": " & word & codes "\n"
+-- and how many more are told with it
+abbrev pub head_text : List ℕ → Rows → ℕ → Condition → List ℕ → ℕ → List ℕ
+head_text source rows n c word more =
+    told_at source rows c.at & codes ": condition " & decimal n & codes " " & name_of_kind c.kind
+    & with_told source rows c.action_at & codes ": " & word & more_text more & codes "\n"
 
 -- ---- totals
 
@@ -70,32 +73,38 @@ totals_text ts =
 
 -- ---- all of it
 
-module _ (names : List (List ℕ)) (source : List ℕ) where
+module _ (names : List (List ℕ)) (source : List ℕ) (rows : Rows) where
   -- the block, or that the condition is as an earlier one
   abbrev pub alike_or_block : Option ℕ → List Formula → Block → List ℕ
-  alike_or_block None found block = block_text names source block
+  alike_or_block None found block = block_text names source rows block
   alike_or_block (Some k) found block = alike_line names k found
 
   -- where it is known which conditions told an effect before
   abbrev pub effect_or_block : (List ℕ → Option ℕ) → Option (ℕ × List Formula) → Block → List ℕ
-  effect_or_block known None block = block_text names source block
-  effect_or_block known (Some effect) block = alike_or_block (known (effect_text names source effect)) effect.1 block
+  effect_or_block known None block = block_text names source rows block
+  effect_or_block known (Some effect) block = alike_or_block (known (effect_text names source rows effect)) effect.1 block
 
   abbrev pub body_text : (List ℕ → Option ℕ) → Block → List ℕ
   body_text known block = effect_or_block known (effect_of block.explanation.action block.explanation.fault) block
 
   -- nothing of a condition that is proved
-  abbrev pub told_text : (List ℕ → Option ℕ) → ℕ → Condition → Told → List ℕ
-  told_text known n c told.Proved = []
-  told_text known n c (told.False block) = head_text source n c (codes "false") & body_text known block
-  told_text known n c told.Open = head_text source n c (codes "open")
+  abbrev pub one_text : (List ℕ → Option ℕ) → ℕ → Condition → ℕ → Told → List ℕ
+  one_text known n c more told.Proved = []
+  one_text known n c more (told.False block) = head_text source rows n c (codes "false") more & body_text known block
+  one_text known n c more told.Open = head_text source rows n c (codes "open") more
+
+  -- and of one that is told with an earlier one
+  abbrev pub told_text : (List ℕ → Option ℕ) → ℕ → Condition → Option ℕ → Told → List ℕ
+  told_text known n c None t = []
+  told_text known n c (Some more) t = one_text known n c more t
 
   -- after these
-  abbrev pub told_lines : List Told → List Condition → List Told → List ℕ
-  told_lines done [] ts = []
-  told_lines done (c ∷ cs) [] = []
-  told_lines done (c ∷ cs) (t ∷ ts) =
-      told_text (λ text. first_with names source text 1 done) (length done + 1) c t & told_lines (done ++ t ∷ []) cs ts
+  abbrev pub told_lines : List Told → List Condition → List (Option ℕ) → List Told → List ℕ
+  told_lines done [] ms ts = []
+  told_lines done (c ∷ cs) [] ts = []
+  told_lines done (c ∷ cs) (m ∷ ms) [] = []
+  told_lines done (c ∷ cs) (m ∷ ms) (t ∷ ts) =
+      told_text (λ text. first_with names source rows text 1 done) (length done + 1) c m t & told_lines (done ++ shown m t ∷ []) cs ms ts
 
   abbrev pub report_text : List Condition → List Told → List ℕ
-  report_text cs ts = told_lines [] cs ts & totals_text ts
+  report_text cs ts = told_lines [] cs (mores (keys_of rows cs ts)) ts & totals_text ts

@@ -7,6 +7,7 @@ use Rattle.og_find.specs.Found.{IsFalseAt}
 use Rattle.og_find.specs.declared.verdict.Verdict.{Verdict}
 use Rattle.og_find.specs.declared.verdict.Verdict.TheVariants as verdicts
 use Rattle.og_explain.specs.Explanations.{IsExplained}
+use Rattle.og_prove.specs.Numbers.{fault_numbers}
 use Rattle.og_prove.specs.declared.block.Block.{Block}
 use Rattle.og_prove.specs.declared.telling.Told.{Told}
 use Rattle.og_prove.specs.declared.telling.Told.TheVariants as told
@@ -16,6 +17,7 @@ pub record IsBlock (o : Program) (c : Condition) (block : Block) : Type 0 where
   pub is_false : IsFalseAt c block.values
   pub explained : IsExplained o c block.values block.explanation
   pub kind : block.kind ≡ c.kind
+  pub conjuncts : block.conjuncts.items ≡ fault_numbers block.explanation.after block.explanation.fault
 
 -- proved: true in every state; false: in the state that is told
 abbrev pub IsTold : Program → Condition → Told → Type 0

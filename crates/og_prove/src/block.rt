@@ -9,7 +9,7 @@ use crate::lines::{
 use crate::sentences::put_sentence;
 use og_cond::Kind;
 use og_explain::{Actors, Explanation};
-use og_listing::Places;
+use og_origins::Origins;
 use og_text::Name;
 use og_values::Values;
 use std::alloc::AllocError;
@@ -23,6 +23,8 @@ pub struct Block<'a> {
     pub values: Values,
     /// Why the condition is false there.
     pub explanation: Explanation<'a>,
+    /// The numbers, from 0, of the conjuncts that are false among all of their assertion.
+    pub conjuncts: Vec<usize>,
     /// The variables of what is false.
     pub focus: Vec<u32>,
     /// The variables whose values are told first, and then those of the others.
@@ -48,17 +50,16 @@ fn put_head(text: &mut Vec<u8>, names: &[Name], block: &Block) -> Result<(), All
 fn put_true(
     text: &mut Vec<u8>,
     names: &[Name],
-    source: &[u8],
-    places: &Places,
+    origins: &Origins,
     block: &Block,
 ) -> Result<(), AllocError>
-    requires { places.now ≡ source.now }
-    ensures { OnOk result (text.new.items ≡ text.old.items ++ true_lines names.now source.now block.now) }
+    requires { origins.now.places.now ≡ origins.now.source.now }
+    ensures { OnOk result (text.new.items ≡ text.old.items ++ true_lines names.now origins.now.source.now origins.now.rows block.now) }
 {
     let explanation = &block.explanation;
-    put_known_lines(text, names, places, &block.focus, &explanation.known)?;
+    put_known_lines(text, names, origins, &block.focus, &explanation.known)?;
     put_more_line(text, names, b"initially", &block.values, &block.initial)?;
-    put_test(text, source, places, explanation.test)
+    put_test(text, origins, explanation.test)
 }
 
 /// Adds the block to the text: each line after two blanks.
@@ -69,16 +70,15 @@ fn put_true(
 pub fn put_block(
     text: &mut Vec<u8>,
     names: &[Name],
-    source: &[u8],
-    places: &Places,
+    origins: &Origins,
     block: &Block,
 ) -> Result<(), AllocError>
-    requires { places.now ≡ source.now }
-    ensures { OnOk result (text.new.items ≡ text.old.items ++ block_text names.now source.now block.now) }
+    requires { origins.now.places.now ≡ origins.now.source.now }
+    ensures { OnOk result (text.new.items ≡ text.old.items ++ block_text names.now origins.now.source.now origins.now.rows block.now) }
 {
     let explanation = &block.explanation;
     put_head(text, names, block)?;
-    put_true(text, names, source, places, block)?;
-    put_action(text, names, source, places, explanation, &block.assigned)?;
-    put_fault(text, names, source, places, &explanation.fault)
+    put_true(text, names, origins, block)?;
+    put_action(text, names, origins, explanation, &block.assigned)?;
+    put_fault(text, names, origins, &explanation.fault)
 }

@@ -6,7 +6,8 @@ ghost use Rattle.og_wording.specs.Seen.{formulas_of};
 ghost use Rattle.og_prove.specs.Effects.{effect_of, together, alike_line, effect_text};
 
 use og_explain::{Explanation, Fault};
-use og_listing::{Places, put_number, put_position};
+use og_listing::put_number;
+use og_origins::Origins;
 use og_text::Name;
 use og_typed::Assert;
 use og_wording::{put_assertion, put_conjuncts};
@@ -54,14 +55,15 @@ pub(crate) fn put_alike(
 pub(crate) fn effect_text(
     alloc: Global,
     names: &[Name],
-    places: &Places,
+    origins: &Origins,
     at: u32,
     found: &[&Assert],
 ) -> Result<Vec<u8>, AllocError>
-    ensures { IfOk result (λ text. text.items ≡ effect_text names.now places.now (at, formulas_of found.now)) }
+    requires { origins.now.places.now ≡ origins.now.source.now }
+    ensures { IfOk result (λ text. text.items ≡ effect_text names.now origins.now.source.now origins.now.rows (at, formulas_of found.now)) }
 {
     let mut text = Vec::new(alloc);
-    put_position(&mut text, places.position(at))?;
+    origins.put_place(&mut text, at)?;
     text.extend_from_slice(b" ")?;
     put_together(&mut text, names, found)?;
     Ok(text)

@@ -1,6 +1,7 @@
 //! What is told of the conditions of an outline.
 //!
-//! specs/Told.antt says what is promised; specs/Sentences.antt, Blocks.antt, Effects.antt and Report.antt define the texts.
+//! specs/Told.antt and Numbers.antt say what is promised; specs/Sentences.antt, Blocks.antt,
+//! Effects.antt and Report.antt define the texts, and Together.antt what is told together.
 #![tactic(auto)]
 
 mod block;
@@ -10,6 +11,7 @@ mod lines;
 mod reporting;
 mod sentences;
 mod telling;
+mod together;
 
 pub use block::{Block, put_block};
 pub use lines::{put_false, put_quoted, put_too_large};

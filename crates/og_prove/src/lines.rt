@@ -8,12 +8,12 @@ ghost use Rattle.og_prove.specs.Blocks.{place_text, quoted_line, test_line, wait
 use crate::block::Block;
 use crate::sentences::put_part;
 use og_explain::{Explanation, Fault, Stand, Test};
-use og_listing::{Places, put_position};
+use og_origins::Origins;
 use og_places::{NoteSite, StatementSite};
 use og_text::Name;
 use og_typed::{Assert, Note};
 use og_values::Values;
-use og_wording::{put_assertion, put_known, put_quote, put_value, put_values};
+use og_wording::{put_assertion, put_known, put_value, put_values};
 use std::alloc::AllocError;
 
 /// The most bytes of a quote.
@@ -29,13 +29,14 @@ fn put_word(text: &mut Vec<u8>, word: &[u8]) -> Result<(), AllocError>
 }
 
 // A word and a place, before what stands there.
-fn put_place(text: &mut Vec<u8>, word: &[u8], places: &Places, at: u32) -> Result<(), AllocError>
-    ensures { OnOk result (text.new.items ≡ text.old.items ++ place_text places.now word.now at) }
+fn put_place(text: &mut Vec<u8>, word: &[u8], origins: &Origins, at: u32) -> Result<(), AllocError>
+    requires { origins.now.places.now ≡ origins.now.source.now }
+    ensures { OnOk result (text.new.items ≡ text.old.items ++ place_text origins.now.source.now origins.now.rows word.now at) }
 {
     text.extend_from_slice(b"  ")?;
     text.extend_from_slice(word)?;
     text.extend_from_slice(b" at ")?;
-    put_position(text, places.position(at))?;
+    origins.put_place(text, at)?;
     text.extend_from_slice(b": ")
 }
 
@@ -47,15 +48,14 @@ fn put_place(text: &mut Vec<u8>, word: &[u8], places: &Places, at: u32) -> Resul
 pub fn put_quoted(
     text: &mut Vec<u8>,
     word: &[u8],
-    source: &[u8],
-    places: &Places,
+    origins: &Origins,
     at: u32,
 ) -> Result<(), AllocError>
-    requires { places.now ≡ source.now }
-    ensures { OnOk result (text.new.items ≡ text.old.items ++ quoted_line source.now word.now at) }
+    requires { origins.now.places.now ≡ origins.now.source.now }
+    ensures { OnOk result (text.new.items ≡ text.old.items ++ quoted_line origins.now.source.now origins.now.rows word.now at) }
 {
-    put_place(text, word, places, at)?;
-    put_quote(text, QUOTE_LIMIT, source, at)?;
+    put_place(text, word, origins, at)?;
+    origins.put_quote(text, QUOTE_LIMIT, at)?;
     text.extend_from_slice(b"\n")
 }
 
@@ -94,13 +94,14 @@ pub(crate) fn put_more_line(
 fn put_known_line(
     text: &mut Vec<u8>,
     names: &[Name],
-    places: &Places,
+    origins: &Origins,
     focus: &[u32],
     note: &Note,
 ) -> Result<(), AllocError>
-    ensures { OnOk result (text.new.items ≡ text.old.items ++ known_line names.now places.now focus.now (noted note.now)) }
+    requires { origins.now.places.now ≡ origins.now.source.now }
+    ensures { OnOk result (text.new.items ≡ text.old.items ++ known_line names.now origins.now.source.now origins.now.rows focus.now (noted note.now)) }
 {
-    put_place(text, b"true", places, note.at)?;
+    put_place(text, b"true", origins, note.at)?;
     put_known(text, names, focus, &note.assertion)?;
     text.extend_from_slice(b"\n")
 }
@@ -109,14 +110,15 @@ fn put_known_line(
 pub(crate) fn put_known_lines(
     text: &mut Vec<u8>,
     names: &[Name],
-    places: &Places,
+    origins: &Origins,
     focus: &[u32],
     notes: &[&Note],
 ) -> Result<(), AllocError>
-    ensures { OnOk result (text.new.items ≡ text.old.items ++ known_lines names.now places.now focus.now notes.now) }
+    requires { origins.now.places.now ≡ origins.now.source.now }
+    ensures { OnOk result (text.new.items ≡ text.old.items ++ known_lines names.now origins.now.source.now origins.now.rows focus.now notes.now) }
 {
     for note in notes {
-        put_known_line(text, names, places, focus, note)?;
+        put_known_line(text, names, origins, focus, note)?;
     }
     Ok(())
 }
@@ -124,12 +126,11 @@ pub(crate) fn put_known_lines(
 /// Adds the test with its truth.
 pub(crate) fn put_test(
     text: &mut Vec<u8>,
-    source: &[u8],
-    places: &Places,
+    origins: &Origins,
     test: Option<Test>,
 ) -> Result<(), AllocError>
-    requires { places.now ≡ source.now }
-    ensures { OnOk result (text.new.items ≡ text.old.items ++ test_line source.now test.entry) }
+    requires { origins.now.places.now ≡ origins.now.source.now }
+    ensures { OnOk result (text.new.items ≡ text.old.items ++ test_line origins.now.source.now origins.now.rows test.entry) }
 {
     match test {
         None => Ok(()),
@@ -139,7 +140,7 @@ pub(crate) fn put_test(
             } else {
                 b"test false"
             };
-            put_quoted(text, word, source, places, test.site.item.at)
+            put_quoted(text, word, origins, test.site.item.at)
         }
     }
 }
@@ -163,18 +164,17 @@ fn put_after(
 pub(crate) fn put_action(
     text: &mut Vec<u8>,
     names: &[Name],
-    source: &[u8],
-    places: &Places,
+    origins: &Origins,
     explanation: &Explanation,
     vars: &[u32],
 ) -> Result<(), AllocError>
-    requires { places.now ≡ source.now }
-    ensures { OnOk result (text.new.items ≡ text.old.items ++ action_lines names.now source.now explanation.now.action explanation.now.after vars.now) }
+    requires { origins.now.places.now ≡ origins.now.source.now }
+    ensures { OnOk result (text.new.items ≡ text.old.items ++ action_lines names.now origins.now.source.now origins.now.rows explanation.now.action explanation.now.after vars.now) }
 {
     match &explanation.action {
         None => Ok(()),
         Some(site) => {
-            put_quoted(text, b"step", source, places, site.item.at)?;
+            put_quoted(text, b"step", origins, site.item.at)?;
             put_after(text, names, &explanation.after, vars)
         }
     }
@@ -184,13 +184,14 @@ pub(crate) fn put_action(
 fn put_false_line(
     text: &mut Vec<u8>,
     names: &[Name],
-    places: &Places,
+    origins: &Origins,
     at: u32,
     assert: &Assert,
 ) -> Result<(), AllocError>
-    ensures { OnOk result (text.new.items ≡ text.old.items ++ false_line names.now places.now at (formula assert.now)) }
+    requires { origins.now.places.now ≡ origins.now.source.now }
+    ensures { OnOk result (text.new.items ≡ text.old.items ++ false_line names.now origins.now.source.now origins.now.rows at (formula assert.now)) }
 {
-    put_place(text, b"false", places, at)?;
+    put_place(text, b"false", origins, at)?;
     put_assertion(text, names, assert)?;
     text.extend_from_slice(b"\n")
 }
@@ -203,14 +204,15 @@ fn put_false_line(
 pub fn put_false(
     text: &mut Vec<u8>,
     names: &[Name],
-    places: &Places,
+    origins: &Origins,
     at: u32,
     found: &[&Assert],
 ) -> Result<(), AllocError>
-    ensures { OnOk result (text.new.items ≡ text.old.items ++ false_lines names.now places.now at found.now) }
+    requires { origins.now.places.now ≡ origins.now.source.now }
+    ensures { OnOk result (text.new.items ≡ text.old.items ++ false_lines names.now origins.now.source.now origins.now.rows at found.now) }
 {
     for assert in found {
-        put_false_line(text, names, places, at, assert)?;
+        put_false_line(text, names, origins, at, assert)?;
     }
     Ok(())
 }
@@ -234,63 +236,49 @@ pub fn put_too_large(
 }
 
 // Where a process waits.
-fn put_waits(
-    text: &mut Vec<u8>,
-    source: &[u8],
-    places: &Places,
-    site: &StatementSite,
-) -> Result<(), AllocError>
-    requires { places.now ≡ source.now }
-    ensures { OnOk result (text.new.items ≡ text.old.items ++ waits_line source.now (statement_of site.now)) }
+fn put_waits(text: &mut Vec<u8>, origins: &Origins, site: &StatementSite) -> Result<(), AllocError>
+    requires { origins.now.places.now ≡ origins.now.source.now }
+    ensures { OnOk result (text.new.items ≡ text.old.items ++ waits_line origins.now.source.now origins.now.rows (statement_of site.now)) }
 {
     text.extend_from_slice(b"  ")?;
     put_part(text, false, site.part)?;
     text.extend_from_slice(b" waits at ")?;
-    put_position(text, places.position(site.item.at))?;
+    origins.put_place(text, site.item.at)?;
     text.extend_from_slice(b": ")?;
-    put_quote(text, QUOTE_LIMIT, source, site.item.at)?;
+    origins.put_quote(text, QUOTE_LIMIT, site.item.at)?;
     text.extend_from_slice(b"\n")
 }
 
 // Where a process has ended.
-fn put_ended(text: &mut Vec<u8>, places: &Places, site: &NoteSite) -> Result<(), AllocError>
-    ensures { OnOk result (text.new.items ≡ text.old.items ++ ended_line places.now (note_of site.now)) }
+fn put_ended(text: &mut Vec<u8>, origins: &Origins, site: &NoteSite) -> Result<(), AllocError>
+    requires { origins.now.places.now ≡ origins.now.source.now }
+    ensures { OnOk result (text.new.items ≡ text.old.items ++ ended_line origins.now.source.now origins.now.rows (note_of site.now)) }
 {
     text.extend_from_slice(b"  ")?;
     put_part(text, false, site.part)?;
     text.extend_from_slice(b" has ended at ")?;
-    put_position(text, places.position(site.note.at))?;
+    origins.put_place(text, site.note.at)?;
     text.extend_from_slice(b"\n")
 }
 
 // Where a process stands.
-fn put_stand(
-    text: &mut Vec<u8>,
-    source: &[u8],
-    places: &Places,
-    stand: &Stand,
-) -> Result<(), AllocError>
-    requires { places.now ≡ source.now }
-    ensures { OnOk result (text.new.items ≡ text.old.items ++ stand_line source.now stand.now) }
+fn put_stand(text: &mut Vec<u8>, origins: &Origins, stand: &Stand) -> Result<(), AllocError>
+    requires { origins.now.places.now ≡ origins.now.source.now }
+    ensures { OnOk result (text.new.items ≡ text.old.items ++ stand_line origins.now.source.now origins.now.rows stand.now) }
 {
     match stand {
-        Stand::Waits(site) => put_waits(text, source, places, site),
-        Stand::Ended(site) => put_ended(text, places, site),
+        Stand::Waits(site) => put_waits(text, origins, site),
+        Stand::Ended(site) => put_ended(text, origins, site),
     }
 }
 
 // Where each process stands.
-fn put_stands(
-    text: &mut Vec<u8>,
-    source: &[u8],
-    places: &Places,
-    stands: &[Stand],
-) -> Result<(), AllocError>
-    requires { places.now ≡ source.now }
-    ensures { OnOk result (text.new.items ≡ text.old.items ++ stand_lines source.now stands.now) }
+fn put_stands(text: &mut Vec<u8>, origins: &Origins, stands: &[Stand]) -> Result<(), AllocError>
+    requires { origins.now.places.now ≡ origins.now.source.now }
+    ensures { OnOk result (text.new.items ≡ text.old.items ++ stand_lines origins.now.source.now origins.now.rows stands.now) }
 {
     for stand in stands {
-        put_stand(text, source, places, stand)?;
+        put_stand(text, origins, stand)?;
     }
     Ok(())
 }
@@ -299,16 +287,15 @@ fn put_stands(
 pub(crate) fn put_fault(
     text: &mut Vec<u8>,
     names: &[Name],
-    source: &[u8],
-    places: &Places,
+    origins: &Origins,
     fault: &Fault,
 ) -> Result<(), AllocError>
-    requires { places.now ≡ source.now }
-    ensures { OnOk result (text.new.items ≡ text.old.items ++ fault_lines names.now source.now fault.now) }
+    requires { origins.now.places.now ≡ origins.now.source.now }
+    ensures { OnOk result (text.new.items ≡ text.old.items ++ fault_lines names.now origins.now.source.now origins.now.rows fault.now) }
 {
     match fault {
-        Fault::False(note, found) => put_false(text, names, places, note.at, found),
+        Fault::False(note, found) => put_false(text, names, origins, note.at, found),
         Fault::TooLarge(var, value) => put_too_large(text, names, *var, *value),
-        Fault::Blocked(stands) => put_stands(text, source, places, stands),
+        Fault::Blocked(stands) => put_stands(text, origins, stands),
     }
 }

@@ -1,47 +1,71 @@
 //! What is told of all conditions of an outline.
 
-ghost use Rattle.std.specs.Prelude.{◌≡◌, ◌+◌, ◌++◌, ◌<◌, ◌≤◌, ◌^◌, if◌then◌else◌, ℕ, List, [], length, map, IfOk, OnOk};
+ghost use Rattle.std.specs.Prelude.{◌≡◌, ◌+◌, ◌++◌, ◌<◌, ◌≤◌, ◌^◌, if◌then◌else◌, ℕ, List, [], length, map, codes, IfOk, OnOk};
 ghost use Rattle.og_cond.specs.Seen.{seen};
 ghost use Rattle.og_cert_read.specs.Firsts.{found as number_of};
 ghost use Rattle.og_prove.specs.Effects.{effect_of, after_effect, after_told};
-ghost use Rattle.og_prove.specs.Report.{body_text, head_text, is_proved, is_false, is_open, count, is_safe, is_unblocked, yes_line, number_line, totals_text, told_text, told_lines, report_text};
+ghost use Rattle.og_prove.specs.Together.{shown, more_text};
+ghost use Rattle.og_prove.specs.Report.{body_text, one_text, head_text, is_proved, is_false, is_open, count, is_safe, is_unblocked, yes_line, number_line, totals_text, told_text, told_lines, report_text};
 
 use crate::block::{Block, put_block};
 use crate::earlier::{Firsts, effect_of, effect_text, number_or_add, put_alike};
 use crate::telling::Told;
+use crate::together::mores;
 use og_cond::Condition;
-use og_listing::{Places, put_action_place, put_number, put_position};
+use og_listing::{Places, put_number};
+use og_origins::{Origins, Rows};
 use og_text::Name;
 use og_typed::Outline;
 use std::alloc::{AllocError, Global};
 
+// How many more are told with a condition.
+fn put_more(text: &mut Vec<u8>, more: usize) -> Result<(), AllocError>
+    ensures { OnOk result (text.new.items ≡ text.old.items ++ more_text more) }
+{
+    if more == 0 {
+        return Ok(());
+    }
+    text.extend_from_slice(b" (and ")?;
+    put_number(text, more as u128)?;
+    text.extend_from_slice(b" more)")
+}
+
+// What is found of a condition, and of how many more with it.
+fn put_found(text: &mut Vec<u8>, word: &[u8], more: usize) -> Result<(), AllocError>
+    ensures { OnOk result (text.new.items ≡ text.old.items ++ (word.now ++ (more_text more ++ codes "\n"))) }
+{
+    text.extend_from_slice(word)?;
+    put_more(text, more)?;
+    text.extend_from_slice(b"\n")
+}
+
 // The place, the number and the kind of a condition, and what is found of it.
 fn put_head(
     text: &mut Vec<u8>,
-    places: &Places,
+    origins: &Origins,
     number: u128,
     condition: &Condition,
     word: &[u8],
+    more: usize,
 ) -> Result<(), AllocError>
-    ensures { OnOk result (text.new.items ≡ text.old.items ++ head_text places.now number (seen condition.now) word.now) }
+    requires { origins.now.places.now ≡ origins.now.source.now }
+    ensures { OnOk result (text.new.items ≡ text.old.items ++ head_text origins.now.source.now origins.now.rows number (seen condition.now) word.now more) }
 {
-    put_position(text, places.position(condition.at))?;
+    origins.put_place(text, condition.at)?;
     text.extend_from_slice(b": condition ")?;
     put_number(text, number)?;
     text.extend_from_slice(b" ")?;
     text.extend_from_slice(condition.kind.name().as_bytes())?;
-    put_action_place(text, places, condition.action_at)?;
+    origins.put_action_place(text, condition.action_at)?;
     text.extend_from_slice(b": ")?;
-    text.extend_from_slice(word)?;
-    text.extend_from_slice(b"\n")
+    put_found(text, word, more)
 }
 
 // What all that is told is printed with.
 #[derive(Clone, Copy)]
 struct Page<'a> {
     names: &'a [Name],
-    source: &'a [u8],
-    places: &'a Places<'a>,
+    origins: &'a Origins<'a>,
 }
 
 // The block of a false condition, or that it is as an earlier one.
@@ -52,41 +76,64 @@ fn put_body(
     number: u128,
     block: &Block,
 ) -> Result<(), AllocError>
-    requires { page.places.now ≡ page.source.now }
-    ensures text { OnOk result (text.new.items ≡ text.old.items ++ body_text page.entry.names.now page.entry.source.now (λ t. number_of t firsts.old) block.now) }
+    requires { page.origins.now.places.now ≡ page.origins.now.source.now }
+    ensures text { OnOk result (text.new.items ≡ text.old.items ++ body_text page.entry.names.now page.entry.origins.now.source.now page.entry.origins.now.rows (λ t. number_of t firsts.old) block.now) }
     ensures firsts { OnOk result ((t : List ℕ) → number_of t firsts.new
-        ≡ after_effect page.entry.names.now page.entry.source.now (effect_of block.now.explanation.action block.now.explanation.fault) t number (number_of t firsts.old)) }
+        ≡ after_effect page.entry.names.now page.entry.origins.now.source.now page.entry.origins.now.rows (effect_of block.now.explanation.action block.now.explanation.fault) t number (number_of t firsts.old)) }
 {
     let Some((at, found)) = effect_of(&block.explanation) else {
-        return put_block(text, page.names, page.source, page.places, block);
+        return put_block(text, page.names, page.origins, block);
     };
-    let effect = effect_text(*text.allocator(), page.names, page.places, at, found)?;
+    let effect = effect_text(*text.allocator(), page.names, page.origins, at, found)?;
     match number_or_add(firsts, effect, number)? {
         Some(first) => put_alike(text, page.names, first, found),
-        None => put_block(text, page.names, page.source, page.places, block),
+        None => put_block(text, page.names, page.origins, block),
     }
 }
 
-// What is told of a condition.
+// What is told of a condition, and of how many more with it.
+fn put_one(
+    text: &mut Vec<u8>,
+    firsts: &mut Firsts,
+    page: Page,
+    number: u128,
+    condition: &Condition,
+    more: usize,
+    told: &Told,
+) -> Result<(), AllocError>
+    requires { page.origins.now.places.now ≡ page.origins.now.source.now }
+    ensures text { OnOk result (text.new.items ≡ text.old.items ++ one_text page.entry.names.now page.entry.origins.now.source.now page.entry.origins.now.rows (λ t. number_of t firsts.old) number (seen condition.now) more told.now) }
+    ensures firsts { OnOk result ((t : List ℕ) → number_of t firsts.new
+        ≡ after_told page.entry.names.now page.entry.origins.now.source.now page.entry.origins.now.rows told.now t number (number_of t firsts.old)) }
+{
+    match told {
+        Told::Proved => Ok(()),
+        Told::False(block) => {
+            put_head(text, page.origins, number, condition, b"false", more)?;
+            put_body(text, firsts, page, number, block)
+        }
+        Told::Open => put_head(text, page.origins, number, condition, b"open", more),
+    }
+}
+
+// The same, or nothing of one that is told with an earlier one.
 fn put_told(
     text: &mut Vec<u8>,
     firsts: &mut Firsts,
     page: Page,
     number: u128,
     condition: &Condition,
+    more: Option<usize>,
     told: &Told,
 ) -> Result<(), AllocError>
-    requires { page.places.now ≡ page.source.now }
-    ensures text { OnOk result (text.new.items ≡ text.old.items ++ told_text page.entry.names.now page.entry.source.now (λ t. number_of t firsts.old) number (seen condition.now) told.now) }
-    ensures firsts { OnOk result ((t : List ℕ) → number_of t firsts.new ≡ after_told page.entry.names.now page.entry.source.now told.now t number (number_of t firsts.old)) }
+    requires { page.origins.now.places.now ≡ page.origins.now.source.now }
+    ensures text { OnOk result (text.new.items ≡ text.old.items ++ told_text page.entry.names.now page.entry.origins.now.source.now page.entry.origins.now.rows (λ t. number_of t firsts.old) number (seen condition.now) more told.now) }
+    ensures firsts { OnOk result ((t : List ℕ) → number_of t firsts.new
+        ≡ after_told page.entry.names.now page.entry.origins.now.source.now page.entry.origins.now.rows (shown more told.now) t number (number_of t firsts.old)) }
 {
-    match told {
-        Told::Proved => Ok(()),
-        Told::False(block) => {
-            put_head(text, page.places, number, condition, b"false")?;
-            put_body(text, firsts, page, number, block)
-        }
-        Told::Open => put_head(text, page.places, number, condition, b"open"),
+    match more {
+        None => Ok(()),
+        Some(more) => put_one(text, firsts, page, number, condition, more, told),
     }
 }
 
@@ -95,11 +142,13 @@ fn put_all(
     text: &mut Vec<u8>,
     page: Page,
     conditions: &[Condition],
+    mores: &[Option<usize>],
     told: &[Told],
 ) -> Result<(), AllocError>
-    requires places { page.places.now ≡ page.source.now }
+    requires places { page.origins.now.places.now ≡ page.origins.now.source.now }
+    requires mores { length mores.now ≡ length conditions.now }
     requires each { length told.now ≡ length conditions.now }
-    ensures { OnOk result (text.new.items ≡ text.old.items ++ told_lines page.entry.names.now page.entry.source.now [] (map seen conditions.now) told.now) }
+    ensures { OnOk result (text.new.items ≡ text.old.items ++ told_lines page.entry.names.now page.entry.origins.now.source.now page.entry.origins.now.rows [] (map seen conditions.now) mores.now told.now) }
 {
     let mut firsts = Firsts::new(*text.allocator());
     for index in 0..conditions.len() {
@@ -110,6 +159,7 @@ fn put_all(
             page,
             number,
             &conditions[index],
+            mores[index],
             &told[index],
         )?;
     }
@@ -229,7 +279,9 @@ fn put_totals(text: &mut Vec<u8>, told: &[Told]) -> Result<(), AllocError>
 }
 
 /// What is told of all conditions of an outline, as a text: those that are not proved, in order,
-/// and the totals. Places are lines and columns of the source, which has at most 1,048,576 bytes.
+/// and the totals. Places are lines and columns of the text in which the outline stands, or of a
+/// template, by its rows. The text has at most 1,048,576 bytes. Of a template's outline the false
+/// conditions that differ in their instances alone are told together, where the first one stands.
 ///
 /// # Errors
 ///
@@ -238,22 +290,28 @@ pub fn report(
     alloc: Global,
     outline: &Outline,
     source: &[u8],
+    rows: Option<&Rows>,
     conditions: &[Condition],
     told: &[Told],
 ) -> Result<Vec<u8>, AllocError>
     requires short { length source.now ≤ 2 ^ 20 }
     requires each { length told.now ≡ length conditions.now }
     requires few { length told.now < 2 ^ 32 }
-    ensures { IfOk result (λ text. text.items ≡ report_text outline.now.names source.now (map seen conditions.now) told.now) }
+    ensures { IfOk result (λ text. text.items ≡ report_text outline.now.names source.now rows.entry (map seen conditions.now) told.now) }
 {
     let places = Places::new(alloc, source)?;
+    let origins = Origins {
+        source,
+        places: &places,
+        rows,
+    };
+    let mores = mores(alloc, rows, conditions, told)?;
     let mut text = Vec::new(alloc);
     let page = Page {
         names: outline.names(),
-        source,
-        places: &places,
+        origins: &origins,
     };
-    put_all(&mut text, page, conditions, told)?;
+    put_all(&mut text, page, conditions, &mores, told)?;
     put_totals(&mut text, told)?;
     Ok(text)
 }

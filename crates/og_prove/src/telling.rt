@@ -3,18 +3,22 @@
 ghost use Rattle.std.specs.Prelude.{◌≡◌, IfOk};
 ghost use Rattle.og_cond.specs.Seen.{seen};
 ghost use Rattle.og_find.specs.Found.{IsVerdict, IsFalseAt};
-ghost use Rattle.og_prove.specs.Told.{IsTold, IsOfState, Follows};
+ghost use Rattle.og_typed.specs.Plain.{noted};
+ghost use Rattle.og_wording.specs.Conjuncts.{conjuncts};
+ghost use Rattle.og_prove.specs.Numbers.{false_numbers, fault_numbers};
+ghost use Rattle.og_prove.specs.Told.{IsBlock, IsTold, IsOfState, Follows};
 
 use crate::block::Block;
 use crate::focus::Vars;
 use og_cond::Condition;
-use og_explain::{Actors, Explanation, Unexplained, explain};
+use og_explain::{Actors, Explanation, Fault, Unexplained, explain};
 use og_find::Verdict;
 use og_linear::State;
 use og_places::Index;
 use og_subst::Action;
-use og_typed::Outline;
+use og_typed::{Note, Outline};
 use og_values::Values;
+use og_wording::add_conjuncts;
 use std::alloc::{AllocError, Global};
 
 /// What is told of a condition.
@@ -54,7 +58,35 @@ fn assigned(alloc: Global, count: u32, action: &Option<Action>) -> Result<Vec<u3
     Ok(vars)
 }
 
-// The block of a condition that is false in a state.
+// The numbers, from 0, of the conjuncts of an assertion that are false.
+fn false_numbers(alloc: Global, note: &Note, values: &Values) -> Result<Vec<usize>, Unexplained>
+    ensures { IfOk result (λ v. v.items ≡ false_numbers values.now 0 (conjuncts (noted note.now).assertion)) }
+{
+    let mut all = Vec::new(alloc);
+    add_conjuncts(&mut all, &note.assertion)?;
+    let mut numbers = Vec::new(alloc);
+    for i in 0..all.len() {
+        let Some(holds) = values.truth(all[i]) else {
+            return Err(Unexplained::Open);
+        };
+        if !holds {
+            numbers.push(i)?;
+        }
+    }
+    Ok(numbers)
+}
+
+// Those of what makes a condition false.
+fn fault_numbers(alloc: Global, explanation: &Explanation) -> Result<Vec<usize>, Unexplained>
+    ensures { IfOk result (λ v. v.items ≡ fault_numbers explanation.now.after explanation.now.fault) }
+{
+    match &explanation.fault {
+        Fault::False(note, _) => false_numbers(alloc, note, &explanation.after),
+        Fault::TooLarge(..) | Fault::Blocked(_) => Ok(Vec::new(alloc)),
+    }
+}
+
+// The block of a condition by what explains that it is false.
 fn block_of<'a>(
     alloc: Global,
     outline: &Outline,
@@ -62,8 +94,9 @@ fn block_of<'a>(
     condition: &Condition,
     values: Values,
     explanation: Explanation<'a>,
+    conjuncts: Vec<usize>,
 ) -> Result<Block<'a>, AllocError>
-    ensures { IfOk result (λ b. (b.kind ≡ condition.now.kind) × (b.values ≡ values) × (b.explanation ≡ explanation.entry)) }
+    ensures { IfOk result (λ b. (b.kind ≡ condition.now.kind) × (b.values ≡ values) × (b.explanation ≡ explanation.entry) × (b.conjuncts.items ≡ conjuncts.items)) }
 {
     let mut focus = Vars::of_fault(alloc, condition, &explanation.fault)?;
     let vars = focus.list(alloc)?;
@@ -76,12 +109,41 @@ fn block_of<'a>(
         actors: Actors::of(outline, index, condition),
         values,
         explanation,
+        conjuncts,
         focus: vars,
         state,
         besides,
         initial,
         assigned,
     })
+}
+
+// The block of a condition that is false in the state.
+fn block_at<'a>(
+    alloc: Global,
+    outline: &'a Outline,
+    index: &Index<'a>,
+    condition: &Condition,
+    state: &State,
+) -> Result<Block<'a>, Unexplained>
+    requires index { index.now ≡ outline.now }
+    requires is_false { IsFalseAt (seen condition.now) state.now }
+    ensures block { IfOk result (IsBlock outline.now (seen condition.now)) }
+    ensures state { IfOk result (λ b. b.values ≡ state.now) }
+{
+    let explanation = explain(alloc, outline, index, condition, state)?;
+    let numbers = fault_numbers(alloc, &explanation)?;
+    let values = Values::of(alloc, state)?;
+    let block = block_of(
+        alloc,
+        outline,
+        index,
+        condition,
+        values,
+        explanation,
+        numbers,
+    )?;
+    Ok(block)
 }
 
 // What is told of a condition that is false in the state.
@@ -97,12 +159,8 @@ fn told_false<'a>(
     ensures told { IfOk result (IsTold outline.now (seen condition.now)) }
     ensures state { IfOk result (IsOfState state.now) }
 {
-    match explain(alloc, outline, index, condition, state) {
-        Ok(explanation) => {
-            let values = Values::of(alloc, state)?;
-            let block = block_of(alloc, outline, index, condition, values, explanation)?;
-            Ok(Told::False(block))
-        }
+    match block_at(alloc, outline, index, condition, state) {
+        Ok(block) => Ok(Told::False(block)),
         Err(Unexplained::Open) => Ok(Told::Open),
         Err(Unexplained::Memory) => Err(AllocError),
     }

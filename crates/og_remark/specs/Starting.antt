@@ -37,7 +37,7 @@ help_line n = if n == 0 then [] else codes "help: words NAME=INT give variables 
 -- the place of the precondition, the values of the variables that are no auxiliaries, and the conjuncts that are false
 abbrev pub start_text : List ℕ → List ℕ → Program → List ℤ → List (Bor Assert) → List ℕ
 start_text name source o s found =
-    refused_text name source o.pre.at & start_line o.names s o.vars & false_lines o.names source o.pre.at found
+    refused_text name source o.pre.at & start_line o.names s o.vars & false_lines o.names source None o.pre.at found
     & help_line o.vars
 
 -- these are all conjuncts of the precondition that are false in the state s

@@ -9,6 +9,7 @@ use og_advice::Names;
 use og_explain::{Unexplained, false_in};
 use og_linear::State;
 use og_listing::{Places, put_position};
+use og_origins::Origins;
 use og_prove::put_false;
 use og_running::{WordsError, values};
 use og_source::{Source, SourceError};
@@ -106,7 +107,8 @@ fn start_text(
     let mut text = Vec::new(alloc);
     put_refused(&mut text, name, &places, at)?;
     put_start_line(&mut text, names, values, outline.vars())?;
-    put_false(&mut text, names, &places, at, found)?;
+    let origins = Origins::own(source.bytes(), &places);
+    put_false(&mut text, names, &origins, at, found)?;
     put_help(&mut text, outline.vars())?;
     Ok(text)
 }

@@ -47,7 +47,7 @@ fn text_of(
     requires few { length conditions.now < 2 ^ 32 }
 {
     let told = told_of(alloc, outline, conditions)?;
-    let text = report(alloc, outline, source.as_bytes(), conditions, &told);
+    let text = report(alloc, outline, source.as_bytes(), None, conditions, &told);
     drop(told);
     text
 }

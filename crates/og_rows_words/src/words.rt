@@ -10,15 +10,19 @@ const JOBS: &[(&str, &str)] = &[
     ("", "Joined"),
     (
         "prove a",
-        "Prove { source: \"a\", budget: Budget { facts: 100000 }, workers: Workers { count: 1 }, json: false }",
+        "Prove { source: \"a\", budget: Budget { facts: 100000 }, workers: Workers { count: 1 }, json: false, values: [] }",
     ),
     (
         "prove - --budget 1 --workers 64 --json",
-        "Prove { source: \"-\", budget: Budget { facts: 1 }, workers: Workers { count: 64 }, json: true }",
+        "Prove { source: \"-\", budget: Budget { facts: 1 }, workers: Workers { count: 64 }, json: true, values: [] }",
     ),
     (
         "prove --json --workers 2 --budget 1000000000 a",
-        "Prove { source: \"a\", budget: Budget { facts: 1000000000 }, workers: Workers { count: 2 }, json: true }",
+        "Prove { source: \"a\", budget: Budget { facts: 1000000000 }, workers: Workers { count: 2 }, json: true, values: [] }",
+    ),
+    (
+        "prove a N=3 M=-2 --budget 7",
+        "Prove { source: \"a\", budget: Budget { facts: 7 }, workers: Workers { count: 1 }, json: false, values: [\"N=3\", \"M=-2\"] }",
     ),
     (
         "check a b",

@@ -76,7 +76,7 @@ abbrev pub command : Text → List Rule → Shape
 command name rules = record (new_shape name) { rules = rules }
 
 abbrev pub prover : Shape
-prover = command (codes "prove") (source ∷ budget ∷ workers ∷ flag (codes "json") ∷ [])
+prover = command (codes "prove") (source ∷ budget ∷ workers ∷ flag (codes "json") ∷ values ∷ [])
 
 abbrev pub check : Shape
 check = command (codes "check") (source ∷ certs ∷ workers ∷ flag (codes "json") ∷ [])

@@ -24,7 +24,7 @@ verb_name verbs.Migrate = codes "migrate"
 -- the word that names a job's command; the joined run has none
 abbrev pub command_of : Job → Option (List ℕ)
 command_of jobs.Joined = None
-command_of (jobs.Prove source budget workers json) = Some (codes "prove")
+command_of (jobs.Prove source budget workers json values) = Some (codes "prove")
 command_of (jobs.Check source certs workers json) = Some (codes "check")
 command_of (jobs.Notes source budget) = Some (codes "notes")
 command_of (jobs.Conditions source triples smt2 only) = Some (codes "conditions")
@@ -38,9 +38,10 @@ command_of (jobs.Migrate certs) = Some (codes "migrate")
 -- the job holds what is given for each argument of its command
 abbrev pub Holds : List Row → Job → Type 0
 Holds rows jobs.Joined = ⊤
-Holds rows (jobs.Prove source budget workers json) =
+Holds rows (jobs.Prove source budget workers json values) =
     (text_of (codes "SOURCE") rows ≡ Some source.now) × (number_of (codes "budget") rows ≡ Some budget)
     × (number_of (codes "workers") rows ≡ Some workers) × (json ≡ is_given (codes "json") rows)
+    × (map (λ w. w.now) values.items ≡ texts_of (codes "NAME=INT") rows)
 Holds rows (jobs.Check source certs workers json) =
     (text_of (codes "SOURCE") rows ≡ Some source.now) × (text_of (codes "CERTS") rows ≡ Some certs.now)
     × (number_of (codes "workers") rows ≡ Some workers) × (json ≡ is_given (codes "json") rows)

@@ -79,7 +79,8 @@ fn prove_command<'a>(alloc: Global) -> Result<Command<'a>, AllocError>
         .arg(source_arg(alloc))?
         .arg(budget_arg(alloc))?
         .arg(workers_arg(alloc, "How many threads work, 1 to 64"))?
-        .arg(json_arg(alloc))
+        .arg(json_arg(alloc))?
+        .arg(template_constants_arg(alloc))
 }
 
 fn check_command<'a>(alloc: Global) -> Result<Command<'a>, AllocError>
@@ -251,6 +252,12 @@ fn constants_arg<'a>(alloc: Global) -> Arg<'a>
     ensures { IsArg line.values result }
 {
     words_arg(alloc, "NAME=INT").help("A constant's value")
+}
+
+fn template_constants_arg<'a>(alloc: Global) -> Arg<'a>
+    ensures { IsArg line.values result }
+{
+    words_arg(alloc, "NAME=INT").help("A constant's value, where SOURCE is a template")
 }
 
 fn ranges_arg<'a>(alloc: Global) -> Arg<'a>

@@ -27,7 +27,7 @@ pub(crate) enum Verb {
 pub enum Job<'a> {
     /// Check one input that holds the source and then the certificates.
     Joined,
-    /// Search for the certificates of an outline and judge it by them.
+    /// Search for the certificates of an outline, or of a template's, and judge it by them.
     Prove {
         source: &'a str,
         /// How many steps each search may make.
@@ -36,6 +36,8 @@ pub enum Job<'a> {
         workers: Workers,
         /// Whether the report is to be JSON.
         json: bool,
+        /// Words that give constants their values, where the source is a template.
+        values: Vec<&'a str>,
     },
     /// Check an outline by its certificates.
     Check {

@@ -75,21 +75,6 @@ fn moments_of(m: &ArgMatches<'_>) -> Option<MomentLimit>
     MomentLimit::new(m.get_one::<u32>("limit")?)
 }
 
-fn prove_job<'a>(m: &ArgMatches<'a>) -> Option<Job<'a>>
-    ensures command { IfSome result (λ job. command_of job ≡ Some (verb_name Verb.Prove)) }
-    ensures holds { IfSome result (Holds (rows_of (found_of m.now))) }
-{
-    let source = text_of(m, "SOURCE")?;
-    let (budget, workers) = (budget_of(m)?, workers_of(m)?);
-    let json = has_flag(m, "json");
-    Some(Job::Prove {
-        source,
-        budget,
-        workers,
-        json,
-    })
-}
-
 fn check_job<'a>(m: &ArgMatches<'a>) -> Option<Job<'a>>
     ensures command { IfSome result (λ job. command_of job ≡ Some (verb_name Verb.Check)) }
     ensures holds { IfSome result (Holds (rows_of (found_of m.now))) }
@@ -169,6 +154,31 @@ fn texts_of<'a>(alloc: Global, m: &ArgMatches<'a>, name: &str) -> Result<Vec<&'a
     Ok(texts)
 }
 
+// The job of a proof, with the words that give constants their values.
+fn prove_with<'a>(m: &ArgMatches<'a>, values: Vec<&'a str>) -> Option<Job<'a>>
+    requires { map (λ w. w.now) values.items ≡ texts_of (codes "NAME=INT") (rows_of (found_of m.now)) }
+    ensures command { IfSome result (λ job. command_of job ≡ Some (verb_name Verb.Prove)) }
+    ensures holds { IfSome result (Holds (rows_of (found_of m.now))) }
+{
+    let source = text_of(m, "SOURCE")?;
+    let (budget, workers) = (budget_of(m)?, workers_of(m)?);
+    let json = has_flag(m, "json");
+    Some(Job::Prove {
+        source,
+        budget,
+        workers,
+        json,
+        values,
+    })
+}
+
+fn prove_job<'a>(alloc: Global, m: &ArgMatches<'a>) -> Result<Option<Job<'a>>, AllocError>
+    ensures command { IfOk result (λ r. IfSome r (λ job. command_of job ≡ Some (verb_name Verb.Prove))) }
+    ensures holds { IfOk result (λ r. IfSome r (Holds (rows_of (found_of m.now)))) }
+{
+    Ok(prove_with(m, texts_of(alloc, m, "NAME=INT")?))
+}
+
 // The job of a run, with the words that give variables their values.
 fn run_with<'a>(m: &ArgMatches<'a>, values: Vec<&'a str>) -> Option<Job<'a>>
     requires { map (λ w. w.now) values.items ≡ texts_of (codes "NAME=INT") (rows_of (found_of m.now)) }
@@ -244,7 +254,7 @@ fn job_of<'a>(alloc: Global, verb: Verb, m: &ArgMatches<'a>) -> Result<Option<Jo
     ensures holds { IfOk result (λ r. IfSome r (Holds (rows_of (found_of m.now)))) }
 {
     match verb {
-        Verb::Prove => Ok(prove_job(m)),
+        Verb::Prove => prove_job(alloc, m),
         Verb::Check => Ok(check_job(m)),
         Verb::Notes => Ok(notes_job(m)),
         Verb::Conditions => Ok(conditions_job(m)),

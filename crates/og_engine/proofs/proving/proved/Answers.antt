@@ -1,4 +1,4 @@
-use Rattle.std.proofs.Common.{ℕ, List, IfOk, subst}
+use Rattle.std.proofs.Common.{ℕ, List, None, IfOk, subst}
 use Rattle.std.proofs.lemmas.Result.{IfOk-weaker}
 use Rattle.og_engine.specs.Proving.{IsToldOf}
 use Rattle.og_engine.proofs.Answering.{of_source}
@@ -10,8 +10,8 @@ returns-in-Ok-clause-answer g c =
     let json = c.args.search.json in
     let o = c.in-Ok.source.outline in
     let r = c.proved_of-answer.result in
-    of_source (λ o. IsToldOf json o c.args.source.now) c.args.source.now o r c.in-Ok.ensures.outline
-    (subst (λ (s : List ℕ). IfOk r (IsToldOf json o s)) c.in-Ok.ensures.same c.proved_of-answer.ensures.told)
+    of_source (λ o. IsToldOf json o c.args.source.now c.args.source.now None) c.args.source.now o r c.in-Ok.ensures.outline
+    (subst (λ (s : List ℕ). IfOk r (IsToldOf json o s s None)) c.in-Ok.ensures.same c.proved_of-answer.ensures.told)
 
 pub returns-in-Ok-clause-sound : goal.returns-in-Ok-clause-sound
 returns-in-Ok-clause-sound g c =

@@ -6,4 +6,4 @@ use Rattle.og_engine.proofs.proving.text_of.Goals as goal
 
 pub returns-clause-unblocked : goal.returns-clause-unblocked
 returns-clause-unblocked c = λ says.
-    text_says c.args.outline.now.names c.args.source.now (map seen c.args.conditions.now) c.args.told.now (subst (EndsWith (codes "unblocked: yes\n")) c.in_ok-text.ensures says)
+    text_says c.args.outline.now.names c.args.texts.told.now c.args.texts.rows (map seen c.args.conditions.now) c.args.told.now (subst (EndsWith (codes "unblocked: yes\n")) c.in_ok-text.ensures says)

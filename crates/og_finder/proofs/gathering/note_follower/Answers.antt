@@ -1,5 +1,6 @@
 use Rattle.std.proofs.Common.{◌≡◌, ◌+◌, ◌-◌, ℕ, Some, None, refl, ap, ◌∙◌, subst, arith}
-use Rattle.std.specs.Prelude.{slice_get}
+use Rattle.std.specs.Prelude.{slice_get, Option, IsSomeAnd}
+use Rattle.og_finder.specs.Findings.{IsKnownAt}
 use Rattle.std.proofs.lemmas.Option.{slice_get_read}
 use Rattle.og_finder.proofs.gathering.note_follower.Goals as goal
 
@@ -11,4 +12,5 @@ returns c = λ cs verdicts tried before.
     let its : slice_get own c.args.place ≡ Some c.in-Some-None.field-0.now = slice_get_read own _ _ _ refl c.in-Some-None.ensures.lookup.3.0 c.in-Some-None.ensures.lookup.1 in
     let at : slice_get followers c.args.place ≡ Some follower = slice_get_read followers _ _ _ refl c.in-Some.ensures.lookup.3.0 c.in-Some.ensures.lookup.1 in
     let back : c.args.place ≡ c.args.place + 1 - 1 = omega arith in
-    c.note.ensures cs verdicts (tried c.args.place None (its ∙ ap Some c.in-Some-None.field-0-is) follower (subst (λ (k : ℕ). slice_get followers k ≡ Some follower) back at)) before
+    let led = tried c.args.place None (its ∙ ap Some c.in-Some-None.field-0-is) follower (subst (λ (k : ℕ). slice_get followers k ≡ Some follower) back at) in
+    c.note.ensures cs verdicts (subst (λ (leader : Option ℕ). IsSomeAnd leader (IsKnownAt cs verdicts follower.index)) c.in-Some-leader.is led) before

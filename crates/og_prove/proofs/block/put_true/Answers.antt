@@ -7,14 +7,15 @@ use Rattle.og_prove.proofs.block.put_true.Goals as goal
 pub returns : goal.returns
 returns c =
     let names = c.args.names.now in
-    let source = c.args.source.now in
+    let source = c.args.origins.now.source.now in
+    let rows = c.args.origins.now.rows in
     let block = c.args.block.now in
     let old = c.args.text.now.items in
     let first = c.put_known_lines.new.text.items in
     let second = c.put_more_line.new.text.items in
-    let known = known_lines names source block.focus.items block.explanation.known.items in
+    let known = known_lines names source rows block.focus.items block.explanation.known.items in
     let initial = more_line names (codes "initially") block.values block.initial.items in
-    let test = test_line source block.explanation.test in
+    let test = test_line source rows block.explanation.test in
     let one : first ≡ old ++ known = search rules in
     let two : second ≡ first ++ initial =
     c.in_ok-put_more_line.ensures ∙ ap (λ vars. first ++ more_line names (codes "initially") block.values vars) c.deref-3.ensures.value in

@@ -1,17 +1,18 @@
-use Rattle.std.proofs.Common.{ℕ, List}
-use Rattle.og_answer.specs.declared.answer.Answer.{Answer}
-use Rattle.og_engine.specs.Proving.{IsProving}
-use Rattle.og_engine.specs.Warrants.{Warrants}
-use Rattle.og_remark.specs.Remarks.{IsConditionsRemark}
-use Rattle.og_program.specs.Served.{Remarks}
-use Rattle.og_program.specs.declared.outcome.Told.{Told}
-use Rattle.og_program.proofs.Shown.{shown}
+use Rattle.std.proofs.Common.{ℕ, List, map, subst}
+use Rattle.og_prover.specs.Proof.{IsReply, WarrantsReply}
+use Rattle.og_program.specs.Served.{FollowsProving}
 use Rattle.og_program.proofs.program.Program.prove.Goals as goal
 
 pub returns-clause-came : goal.returns-clause-came
 returns-clause-came g c =
-    let json = c.args.search.json in
-    let h = shown (λ (s : List ℕ) (a : Answer). IsProving json s a × Warrants json s a.text.items a.status) (λ (s : List ℕ) (t : Told). Remarks (IsConditionsRemark c.args.source.now s) t)
-    c.in_ok-bytes.bytes.items c.deref.result.now c.deref-2.result.now c.in_ok-answer.answer c.beside_conditions-told.result c.deref.ensures.value c.deref-2.ensures.value c.beside_conditions-told.ensures.answer
-    (c.in_ok-answer.ensures.answer, (c.in_ok-answer.ensures.sound, c.in_ok-answer.ensures.unblocked)) c.beside_conditions-told.ensures.remark in
-    (c.in_ok-bytes.bytes.items, c.in_ok-bytes.ensures.text, (h.0.0, h.0.1, h.1))
+    let words = map (λ w. w.now) c.args.words.now in
+    let json = c.args.search.json in (
+      c.in_ok-bytes.bytes.items,
+      c.in_ok-bytes.ensures.text,
+      (
+        c.in_ok-reply.reply,
+        subst (λ (s : List ℕ). IsReply json s words c.in_ok-reply.reply) c.deref.ensures.value c.in_ok-reply.ensures.reply,
+        subst (λ (s : List ℕ). WarrantsReply json s c.in_ok-reply.reply) c.deref.ensures.value c.in_ok-reply.ensures.warrants,
+        subst (λ (s : List ℕ). FollowsProving c.args.source.now s c.in_ok-reply.reply c.beside_proof.result) c.deref-2.ensures.value c.beside_proof.ensures,
+      ),
+    )
