@@ -3,13 +3,15 @@ use Rattle.std.proofs.Common.{◌≡◌, ◌++◌, ◌∙◌, ℕ, suc, ◌+◌,
 use Rattle.std.proofs.lemmas.List.{length-append, length-map}
 use Rattle.std.specs.Prelude.{not, find}
 use Rattle.std.specs.List.{list_all}
+use Rattle.og_typed.specs.Syntax.{Program}
 use Rattle.og_cond.specs.Condition as plain
+use Rattle.og_cond.specs.Conditions.{conditions}
 use Rattle.og_cond.specs.declared.condition.Condition.{Condition}
 use Rattle.og_cond.specs.Seen.{seen}
 use Rattle.og_listing.specs.Listing.{condition_lines, conditions_lines}
 use Rattle.og_listings.specs.declared.form.Form.{Form}
 use Rattle.og_listings.specs.declared.form.Form.TheVariants as forms
-use Rattle.og_listings.specs.Listings.{wanted_text, wanted_lines}
+use Rattle.og_listings.specs.Listings.{opening_text, wanted_text, wanted_lines, listing_text}
 
 module _ (form : Form) (only : Option (List ℕ)) (names : List (List ℕ)) (source : List ℕ) where
   abbrev lines : ℕ → List plain.Condition → List ℕ
@@ -31,6 +33,16 @@ module _ (form : Form) (only : Option (List ℕ)) (names : List (List ℕ)) (sou
       let next : m ≡ suc n + length xs = omega (arith, e) in
       ap (λ l. wanted_text form only names source n x ++ l) (wanted-append (suc n) m xs ys next)
       ∙ sym (append_assoc (wanted_text form only names source n x) (lines (suc n) xs) (lines m ys))
+
+-- ---- a whole listing, of what was read of an outline
+
+pub whole : (form : Form) (only : Option (List ℕ)) (o : Program) (source text places : List ℕ) (names : List (List ℕ)) (cs : List plain.Condition) → text ≡ opening_text form names → names ≡ o.names → places ≡ source
+    → cs ≡ conditions o → text ++ wanted_lines form only names places 1 cs ≡ listing_text form only o source
+whole form only o source text places names cs made named placed are =
+    ap (λ t. t ++ wanted_lines form only names places 1 cs) made
+    ∙ ap (λ ns. opening_text form ns ++ wanted_lines form only ns places 1 cs) named
+    ∙ ap (λ p. opening_text form o.names ++ wanted_lines form only o.names p 1 cs) placed
+    ∙ ap (λ l. opening_text form o.names ++ wanted_lines form only o.names source 1 l) are
 
 -- ---- all conditions with their facts
 

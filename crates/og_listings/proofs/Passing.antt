@@ -1,9 +1,14 @@
 -- What is written of a text that is made piece by piece.
-use Rattle.std.proofs.Common.{◌≡◌, refl, ℕ, List, [], ◌++◌, Option, ap, sym, subst, ◌∙◌, append_assoc, append-nil}
+use Rattle.std.proofs.Common.{◌≡◌, refl, ℕ, List, [], ◌++◌, Option, Result, Ok, Err, IfErr, ap, sym, subst, ◌∙◌, append_assoc, append-nil}
 use Rattle.std.proofs.KnownBytes.{Appends-nil, Appends-trans}
 use Rattle.std.specs.Io.KnownBytes.{Appends}
 use Rattle.og_engine.specs.Unfinished.{AppendsFront}
 use Rattle.og_listings.specs.Written.{Passes}
+
+-- what holds holds at every error
+pub failed : {T E : Type 0} (r : Result T E) (P : Type 0) → P → IfErr r (λ _. P)
+failed (Ok x) P h = tt
+failed (Err e) P h = h
 
 -- ---- one piece
 

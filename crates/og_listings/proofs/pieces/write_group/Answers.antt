@@ -3,7 +3,7 @@ use Rattle.std.proofs.lemmas.List.{drop_all}
 use Rattle.og_cond.specs.Seen.{seen}
 use Rattle.og_listings.specs.Listings.{numbers_in, wanted_lines}
 use Rattle.og_listings.proofs.Loops.{first_wanted}
-use Rattle.og_listings.proofs.Passing.{begun, goes_on, ended, stopped}
+use Rattle.og_listings.proofs.Passing.{failed, begun, goes_on, ended, stopped}
 use Rattle.og_listings.proofs.pieces.write_group.Goals as goal
 
 pub loop-condition-init : goal.loop-condition-init
@@ -25,4 +25,4 @@ pub returns-in_err-write_wanted-clause-unfinished : goal.returns-in_err-write_wa
 returns-in_err-write_wanted-clause-unfinished g c =
     let l = c.args.lines.now in
     let is = first_wanted l.form (numbers_in l.only) l.names.now l.places.now c.args.group.now c.loop-condition.condition-index c.loop-condition.number c.condition-item.result c.loop-condition-test.true c.condition-item.is in
-    stopped _ _ _ _ _ _ _ _ _ is c.loop-condition.invariant.passed c.in_err-write_wanted.ensures.unfinished
+    failed _ _ (stopped _ _ _ _ _ _ _ _ _ is c.loop-condition.invariant.passed c.in_err-write_wanted.ensures.unfinished)

@@ -1,10 +1,10 @@
-use Rattle.std.proofs.Common.{◌≡◌, ◌∙◌, ◌+◌, ◌++◌, refl, sym, length, map, ap, arith}
+use Rattle.std.proofs.Common.{◌≡◌, ◌∙◌, ◌+◌, ◌++◌, [], refl, sym, length, map, ap, arith}
 use Rattle.std.proofs.lemmas.List.{length-map}
 use Rattle.og_cond.specs.Groups.{rest}
 use Rattle.og_cond.specs.Seen.{seen}
 use Rattle.og_listings.specs.Listings.{numbers_in, wanted_lines}
 use Rattle.og_listings.proofs.Loops.{counted, wanted-append}
-use Rattle.og_listings.proofs.Passing.{nothing_yet, begun, goes_on, ended, stopped}
+use Rattle.og_listings.proofs.Passing.{failed, nothing_yet, begun, goes_on, ended, stopped}
 use Rattle.og_listings.proofs.pieces.write_groups.Goals as goal
 
 pub loop-group-init : goal.loop-group-init
@@ -31,11 +31,14 @@ loop-group-preserved g c =
 pub returns-clause-written : goal.returns-clause-written
 returns-clause-written g c =
     let l = c.args.lines.now in
-    let none = rw c.in-None.is at c.in_ok-group.ensures.next in
+    let none = rw c.in_default.is at c.in_ok-group.ensures.next in
     ended _ _ _ _ _ _ (ap (wanted_lines l.form (numbers_in l.only) l.names.now l.places.now c.loop-group.number) none) c.loop-group.invariant.passed
 
 pub returns-in_err-group-clause-unfinished : goal.returns-in_err-group-clause-unfinished
-returns-in_err-group-clause-unfinished g c = stopped _ _ _ _ _ _ _ _ _ refl c.loop-group.invariant.passed (nothing_yet _ _)
+returns-in_err-group-clause-unfinished g c =
+    let l = c.args.lines.now in
+    let later = wanted_lines l.form (numbers_in l.only) l.names.now l.places.now c.loop-group.number (rest c.loop-group.groups) in
+    failed _ _ (stopped _ _ _ _ _ _ later [] later refl c.loop-group.invariant.passed (nothing_yet _ _))
 
 pub returns-in_err-write_group-clause-unfinished : goal.returns-in_err-write_group-clause-unfinished
 returns-in_err-write_group-clause-unfinished g c =
@@ -46,4 +49,4 @@ returns-in_err-write_group-clause-unfinished g c =
     let n = c.loop-group.number in
     let is : old ≡ map seen group ++ new = (rw c.in-Some.is at c.in_ok-group.ensures.next).0 ∙ ap (λ cs. map seen cs ++ new) (sym c.deref.ensures.value) in
     let split = wanted-append l.form (numbers_in l.only) l.names.now l.places.now n (n + length (map seen group)) (map seen group) new refl in
-    stopped _ _ _ _ _ _ _ _ _ (ap (wanted_lines l.form (numbers_in l.only) l.names.now l.places.now n) is ∙ split) c.loop-group.invariant.passed c.in_err-write_group.ensures.unfinished
+    failed _ _ (stopped _ _ _ _ _ _ _ _ _ (ap (wanted_lines l.form (numbers_in l.only) l.names.now l.places.now n) is ∙ split) c.loop-group.invariant.passed c.in_err-write_group.ensures.unfinished)
