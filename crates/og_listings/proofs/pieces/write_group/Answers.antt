@@ -1,4 +1,4 @@
-use Rattle.std.proofs.Common.{◌+◌, ap, map, drop, arith}
+use Rattle.std.proofs.Common.{ap, map, arith}
 use Rattle.std.proofs.lemmas.List.{drop_all}
 use Rattle.og_cond.specs.Seen.{seen}
 use Rattle.og_listings.specs.Listings.{numbers_in, wanted_lines}
