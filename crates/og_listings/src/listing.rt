@@ -88,7 +88,7 @@ impl Listing {
         only: Option<Vec<u32>>,
         source: Source<'_>,
     ) -> Result<Listing, AllocError>
-        requires { length (conditions source.entry.outline) ≤ condition_limit }
+        requires { length (conditions source.outline) ≤ condition_limit }
         ensures { IfOk result (λ listing. listing ≡ listing_text form (numbers_of only) source.entry.outline source.entry.bytes) }
     {
         let bytes = Vec::from_slice(alloc, source.bytes())?;
