@@ -1,1 +1,1 @@
-pub mod Proof
+pub mod Warranted

@@ -47,7 +47,7 @@ fn of_expanded<G: Gate, H: Threads + Wait + Sync>(
 }
 
 // The reply for a template.
-#[tactic(auto, using(crate::proofs::Proof::refused_warrants))]
+#[tactic(auto, using(crate::proofs::Warranted::refused_warrants))]
 fn of_template<'a, G: Gate, H: Threads + Wait + Sync>(
     rt: &H,
     alloc: Global,
@@ -85,7 +85,7 @@ fn unread(alloc: Global, text: &[u8]) -> Result<Option<Answer>, AllocError>
 }
 
 // The reply for an outline behind which a word stands, once the outline is read.
-#[tactic(auto, using(crate::proofs::Proof::unread_warrants))]
+#[tactic(auto, using(crate::proofs::Warranted::unread_warrants))]
 fn of_words<'a>(
     alloc: Global,
     text: &[u8],

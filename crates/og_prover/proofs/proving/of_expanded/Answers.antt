@@ -1,4 +1,4 @@
-use Rattle.og_prover.proofs.Proof.{told_of_template, warranted_of_template}
+use Rattle.og_prover.proofs.Warranted.{told_of_template, warranted_of_template}
 use Rattle.og_prover.proofs.proving.of_expanded.Goals as goal
 
 pub returns-clause-answer : goal.returns-clause-answer
