@@ -12,5 +12,5 @@ mod violation;
 
 pub use along::first_along;
 pub use laws::{refutes_progress, refutes_safety};
-pub use replay::replayed;
+pub use replay::{copy_of, moment_after, replayed};
 pub use violation::{Violation, Wrong};

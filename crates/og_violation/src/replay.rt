@@ -13,7 +13,11 @@ use og_typed::Outline;
 use std::alloc::{AllocError, Global};
 
 /// An equal state.
-pub(crate) fn copy_of(alloc: Global, values: &State) -> Result<State, AllocError>
+///
+/// # Errors
+///
+/// An allocation was refused.
+pub fn copy_of(alloc: Global, values: &State) -> Result<State, AllocError>
     ensures { IfOk result (λ copy. copy ≡ values.now) }
 {
     Ok(State::new(Vec::from_slice(alloc, values.as_slice())?))
@@ -36,8 +40,13 @@ pub(crate) fn begun<'a>(
     }
 }
 
-// The moment to which the history leads, where each of its numbers is a step.
-fn replay<'a>(
+/// The moment to which the history leads, where the values are a start and each of its numbers is a
+/// step.
+///
+/// # Errors
+///
+/// An allocation was refused.
+pub fn moment_after<'a>(
     alloc: Global,
     outline: &'a Outline,
     values: &State,
@@ -74,7 +83,7 @@ pub fn replayed(
     ensures same { IfOk result (λ found. IfSome found (λ v. v ≡ record { values = values; history = history; wrong = wrong })) }
     ensures none { IfOk result (λ found. IfNone found (IsWrong outline.now values history.items wrong → ⊥)) }
 {
-    let Some(mut moment) = replay(alloc, outline, &values, &history)? else {
+    let Some(mut moment) = moment_after(alloc, outline, &values, &history)? else {
         return Ok(None);
     };
     if is_wrong(outline, &mut moment, wrong) {

@@ -1,6 +1,6 @@
 use Rattle.std.proofs.Common.{◌≡◌, drop, Some}
 use Rattle.og_typed.specs.Machine.{IsStart, run_on, start_of}
-use Rattle.og_violation.proofs.replay.replay.Given as goal
+use Rattle.og_violation.proofs.replay.moment_after.Given as goal
 
 abbrev pub invariant-loop-p : goal.invariant-loop-p
 invariant-loop-p l = record {

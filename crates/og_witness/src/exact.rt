@@ -1,0 +1,115 @@
+//! Who stands at the places of a condition, by the places of what comes next. Nothing is promised
+//! of these answers: they only choose among the moments at which a condition is false.
+
+use crate::place::Place;
+use crate::placing::number_of;
+use og_cond::Kind;
+use og_places::{Index, StatementSite};
+use og_step::Moment;
+use og_typed::{Item, Outline, Stmt};
+use og_values::Values;
+use std::alloc::{AllocError, Global};
+
+// The most branches and bodies that end together.
+const MOST_ENDS: u32 = 1_000;
+
+// Whether process p stands at the assertion of this byte offset.
+fn is_at(outline: &Outline, moment: &Moment, p: u32, at: u32) -> bool {
+    match moment.head(p) {
+        Some(item) => item.before.at == at,
+        None => match outline.processes().get(p as usize) {
+            Some(seq) => seq.last.at == at,
+            None => false,
+        },
+    }
+}
+
+// Whether process p stands before the statement of this byte offset.
+fn is_before(outline: &Outline, moment: &Moment, site: &StatementSite) -> bool {
+    match moment.head(number_of(outline, site.part)) {
+        Some(item) => item.at == site.item.at,
+        None => false,
+    }
+}
+
+/// Whether the processes stand at the very places.
+pub(crate) fn is_exact(outline: &Outline, moment: &Moment, place: &Place) -> bool {
+    match place {
+        Place::Before(site) => is_before(outline, moment, site),
+        Place::Between(site, note) => {
+            is_before(outline, moment, site)
+                && is_at(outline, moment, number_of(outline, note.part), note.note.at)
+        }
+        Place::At(note) => is_at(outline, moment, number_of(outline, note.part), note.note.at),
+        Place::Exit(..) | Place::Left(_) | Place::Ended | Place::Stuck => true,
+    }
+}
+
+// The byte offset of the assertion to which the statement leads first, by the truth of its test.
+fn first_at(site: &StatementSite, holds: bool) -> u32 {
+    match &site.item.stmt {
+        Stmt::If(_, branch, _) if holds => branch.first().at,
+        Stmt::If(_, _, Some(other)) => other.first().at,
+        Stmt::While(_, body) if holds => body.first().at,
+        _ => site.after.at,
+    }
+}
+
+// The truth of the test of an `if` or a `while`; of nothing else.
+fn test_holds(item: &Item, values: &Values) -> bool {
+    match &item.stmt {
+        Stmt::If(test, ..) => values.truth(test).unwrap_or(false),
+        Stmt::While(test, _) => values.truth(test).unwrap_or(false),
+        _ => false,
+    }
+}
+
+/// The byte offset of the assertion to which the next statement of process p leads first.
+pub(crate) fn leads_to(
+    alloc: Global,
+    index: &Index,
+    moment: &Moment,
+    p: u32,
+) -> Result<Option<u32>, AllocError> {
+    let Some(item) = moment.head(p) else {
+        return Ok(None);
+    };
+    let values = Values::of(alloc, moment.state())?;
+    let holds = test_holds(item, &values);
+    match index.statement(item.at) {
+        Some(site) => Ok(Some(first_at(&site, holds))),
+        None => Ok(None),
+    }
+}
+
+/// Whether a step to the assertion of the first byte offset goes through that of the second one,
+/// which ends a branch or a body.
+pub(crate) fn goes_through(index: &Index, first: Option<u32>, end: u32) -> bool {
+    let Some(mut at) = first else {
+        return false;
+    };
+    for _ in 0..MOST_ENDS {
+        if at == end {
+            return true;
+        }
+        let Some(note) = index.note(at) else {
+            return false;
+        };
+        let Some(leads) = note.leads else {
+            return false;
+        };
+        at = leads.at;
+    }
+    false
+}
+
+/// Whether a run with this history is one before which nobody has moved that the condition speaks
+/// of.
+pub(crate) fn is_early(outline: &Outline, kind: Kind, history: &[u32]) -> bool {
+    let main = outline.processes().len();
+    match kind {
+        Kind::Prologue => history.is_empty(),
+        Kind::Start => history.iter().all(|p| *p as usize == main),
+        _ => true,
+    }
+}
