@@ -1,8 +1,15 @@
-use Rattle.std.proofs.Common.{◌≡◌, true}
-use Rattle.og_program.specs.Served.{lacks, FailsToRead, IsProvenIn, IsNeverStuckIn}
+use Rattle.std.proofs.Common.{◌≡◌, true, Result, subst, sym}
+use Rattle.og_words.specs.declared.job.Job.{Job}
+use Rattle.og_words.specs.declared.job.Usage.{Usage}
+use Rattle.og_program.specs.Served.{lacks, Ends, FailsToRead, IsProvenIn, IsNeverStuckIn}
 use Rattle.og_program.proofs.Ending.{of_job}
 use Rattle.og_program.proofs.Status.{sound_job, unblocked_job}
 use Rattle.og_program.proofs.serving.serve.Goals as goal
+
+pub returns-in-Ok-clause-ended : goal.returns-in-Ok-clause-ended
+returns-in-Ok-clause-ended g c =
+    subst (λ (r : Result Job Usage). Ends (g.F.Files.contents c.args.files.now) (g.I.Read.remaining c.args.input.now) r (g.O.Write.contents c.args.out.now) (g.O.Write.contents c.perform.new.out) (g.E.Write.contents c.args.err.now) (g.E.Write.contents c.perform.new.err) c.perform.result)
+    (sym c.in-Ok.is) c.perform.ensures.ended
 
 pub returns-in-Ok-clause-sound : goal.returns-in-Ok-clause-sound
 returns-in-Ok-clause-sound g c =

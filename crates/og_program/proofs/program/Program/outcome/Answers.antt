@@ -8,6 +8,9 @@ returns-in-Prove-clause-kept g c = unread _ _ c.in-Prove.source.now _ c.in-Prove
 pub returns-in-Check-clause-kept : goal.returns-in-Check-clause-kept
 returns-in-Check-clause-kept g c = unread_both _ _ c.in-Check.source.now c.in-Check.certs.now _ c.in-Check.is refl c.check.ensures.kept
 
+pub returns-in-Conditions-clause-kept : goal.returns-in-Conditions-clause-kept
+returns-in-Conditions-clause-kept g c = unread _ _ c.in-Conditions.source.now _ c.in-Conditions.is refl c.conditions.ensures.kept
+
 pub returns-in-Find-clause-kept : goal.returns-in-Find-clause-kept
 returns-in-Find-clause-kept g c = unread _ _ c.in-Find.source.now _ c.in-Find.is refl c.find.ensures.kept
 
