@@ -1,6 +1,6 @@
 //! Readers and writers, and devices that fail.
 
-ghost use Rattle.std.specs.Prelude.{◌≡◌, IfOk};
+ghost use Rattle.std.specs.Prelude.{◌≡◌, ◌<◌, IfOk};
 
 use og_engine::{EngineFault, Options, WriteFault, engine, engine_joined};
 use og_limits::Workers;
@@ -374,7 +374,9 @@ fn listing_of(alloc: Global, source: &[u8]) -> Result<Option<Listing>, AllocErro
 }
 
 // Each write fails in turn, and what was written stays.
-fn expect_cut<R: Abort>(rt: &R, alloc: Global, listing: &Listing, whole: &[u8], step: usize) {
+fn expect_cut<R: Abort>(rt: &R, alloc: Global, listing: &Listing, whole: &[u8], step: usize)
+    requires { 0 < step }
+{
     for fails_at in (1..whole.len() + 1).step_by(step) {
         let mut paper = Paper::new(alloc, fails_at);
         let got = listing.write(alloc, &mut paper);
