@@ -21,6 +21,10 @@ const JOBS: &[(&str, &str)] = &[
         "Prove { source: \"a\", budget: Budget { facts: 1000000000 }, workers: Workers { count: 2 }, json: true, values: [] }",
     ),
     (
+        "prove a b",
+        "Prove { source: \"a\", budget: Budget { facts: 100000 }, workers: Workers { count: 1 }, json: false, values: [\"b\"] }",
+    ),
+    (
         "prove a N=3 M=-2 --budget 7",
         "Prove { source: \"a\", budget: Budget { facts: 7 }, workers: Workers { count: 1 }, json: false, values: [\"N=3\", \"M=-2\"] }",
     ),
@@ -136,7 +140,6 @@ const JOBS: &[(&str, &str)] = &[
 const NO_JOBS: &[(&str, &str)] = &[
     ("prove", "wrong"),
     ("prove --json", "wrong"),
-    ("prove a b", "wrong"),
     ("prove a --budget 0", "wrong"),
     ("prove a --budget 1000000001", "wrong"),
     ("prove a --workers 0", "wrong"),
