@@ -42,13 +42,23 @@ fn put_source(text: &mut Vec<u8>, source: Source) -> Result<(), AllocError>
     }
 }
 
+// How often a term is taken, with a space before it. Most are taken once.
+fn put_times(text: &mut Vec<u8>, times: u64) -> Result<(), AllocError>
+    ensures { OnOk result (text.new.items ≡ text.old.items ++ 32 ∷ (decimal times ++ 42 ∷ [])) }
+{
+    if times == 1 {
+        return text.extend_from_slice(b" 1*");
+    }
+    text.extend_from_slice(b" ")?;
+    put_number(text, times)?;
+    text.extend_from_slice(b"*")
+}
+
 // A term with a space before it.
 fn put_term(text: &mut Vec<u8>, t: Term) -> Result<(), AllocError>
     ensures { OnOk result (text.new.items ≡ text.old.items ++ 32 ∷ term_text (t.times, ref_of t.source)) }
 {
-    text.extend_from_slice(b" ")?;
-    put_number(text, t.times)?;
-    text.extend_from_slice(b"*")?;
+    put_times(text, t.times)?;
     put_source(text, t.source)
 }
 

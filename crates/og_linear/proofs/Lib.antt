@@ -7,3 +7,4 @@ pub mod Cuts
 pub mod Coefficients
 pub mod Sizes
 pub mod Pushed
+pub mod Kept

@@ -26,7 +26,7 @@ abbrev pub with_front : Terms → Option Terms → Option Terms
 with_front front None = None
 with_front front (Some ts) = Some (front ++ ts)
 
-none_behind : (xs : Terms) → xs ++ [] ≡ xs
+pub none_behind : (xs : Terms) → xs ++ [] ≡ xs
 none_behind [] = refl
 none_behind (y ∷ ys) = ap (λ zs. y ∷ zs) (none_behind ys)
 
@@ -96,7 +96,7 @@ none_fits (Some d) z h e = absurd (none-some d (sym e))
 pub drop_at : (ts : Terms) (i : ℕ) → i < length ts → drop i ts ≡ get_or ts i (0, pos 0) ∷ drop (i + 1) ts
 drop_at ts i h = drop-cons ts i (0, pos 0) h ∙ ap (λ k. get_or ts i (0, pos 0) ∷ drop k ts) (sym (add-one i))
 
-checked_some : (z c : ℤ) → checked_int z ≡ Some c → (fits_i128 z ≡ true) × (z ≡ c)
+pub checked_some : (z c : ℤ) → checked_int z ≡ Some c → (fits_i128 z ≡ true) × (z ≡ c)
 checked_some z c e = cond_some (fits_i128 z) z c e
 
 checked_none : (z : ℤ) → checked_int z ≡ None → fits_i128 z ≡ false
@@ -189,7 +189,7 @@ pub with_front-none : (out : Terms) (o : Option Terms) → with_front out o ≡ 
 with_front-none out None e = refl
 with_front-none out (Some x) e = absurd (none-some (out ++ x) (sym e))
 
-merge-none : (ts : Terms) → merge ts [] ≡ ts
+pub merge-none : (ts : Terms) → merge ts [] ≡ ts
 merge-none [] = refl
 merge-none (t ∷ ts) = ap (λ us. t ∷ us) (merge-none ts)
 

@@ -1,7 +1,7 @@
 -- Arithmetic on forms as far as each number fits 128 bits.
 use Rattle.std.specs.Prelude.{ℕ, ◌^◌, ℤ, pos, negsuc, ◌+ℤ◌, List, [], ◌∷◌, Bool, ◌&&◌, if◌then◌else◌, nat_lt, ◌==◌, Option, Some, None, int_lt, int_le, int_div, int_rem, option_and_then}
 use Rattle.std.specs.Ordering.{int_eq}
-use Rattle.std.specs.List.{list_all}
+use Rattle.std.specs.List.{list_any, list_all}
 use Rattle.og_linear.specs.Linear.{Terms, FormValue, form_value}
 use Rattle.og_linear.specs.Arith.{scaled, plus, variable}
 
@@ -28,6 +28,10 @@ MapValue = List (ℕ × FormValue)
 abbrev pub map_set : MapValue → ℕ → FormValue → MapValue
 map_set [] x g = (x, g) ∷ []
 map_set (e ∷ m) x g = if x == e.0 then (x, g) ∷ m else e ∷ map_set m x g
+
+-- the map has a form for x
+abbrev pub names : MapValue → ℕ → Bool
+names m x = list_any (λ e. x == e.0) m
 
 -- the form that stands for x
 abbrev pub image : MapValue → ℕ → FormValue

@@ -1,5 +1,5 @@
 -- Forms, states, and the value of a form at a state.
-use Rattle.std.specs.Prelude.{ℕ, zero, suc, ◌+◌, ℤ, pos, negsuc, ◌+ℤ◌, ◌*ℤ◌, List, [], ◌∷◌, All, get_or, FitsSigned, Bool, ◌==◌, ◌&&◌, nat_lt, nat_le, ◌^◌, nat_abs}
+use Rattle.std.specs.Prelude.{ℕ, zero, suc, ℤ, pos, negsuc, ◌+ℤ◌, ◌*ℤ◌, List, [], ◌∷◌, All, get_or, FitsSigned, Bool, ◌==◌, ◌&&◌, nat_lt, nat_le, ◌^◌, nat_abs}
 use Rattle.std.specs.List.{list_any, list_all}
 use mir.Syntax.{w64}
 

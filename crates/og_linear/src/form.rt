@@ -1,12 +1,13 @@
 //! Linear forms.
 
-ghost use Rattle.std.specs.Prelude.{◌≡◌, ◌≢◌, [], ◌<◌, ◌≤◌, pos, ◌≤ℤ◌, true, nat_lt, IfOk, OnErr, All, length, slice_get};
+ghost use Rattle.std.specs.Prelude.{◌≡◌, ◌≢◌, [], ◌∷◌, ◌<◌, ◌≤◌, pos, ◌≤ℤ◌, true, nat_lt, not, IfOk, IfSome, OnErr, All, length, slice_get};
 ghost use Rattle.std.specs.List.{list_all};
 ghost use Rattle.og_linear.specs.Linear.{form_value, is_term, val, is_small};
 ghost use Rattle.og_linear.specs.Tidy.{IsTidy};
 ghost use Rattle.og_linear.specs.Arith as arith;
 ghost use Rattle.og_linear.specs.Bounded as bounded;
 ghost use Rattle.og_linear.specs.Replaced as replaced;
+ghost use Rattle.og_linear.specs.Bounded.{names};
 ghost use Rattle.og_linear.specs.Answer.{IsAnswer, OnMemory, checked};
 ghost use Rattle.og_linear.specs.declared.fault.FormFault.TheVariants as faults;
 
@@ -14,7 +15,8 @@ use crate::fault::{FormError, FormFault};
 use crate::map::Map;
 use crate::state::State;
 use crate::terms::{
-    are_small, ceil_div, fits_i64, multiples, others, product_of, quotients, sum_of, sums, weighed,
+    are_small, ceil_div, fits_i64, multiples, others, product_of, push_term, quotients, sum_of,
+    sums, weighed,
 };
 use std::alloc::{AllocError, Global};
 use std::marker::Model;
@@ -77,9 +79,18 @@ impl Form {
         ensures { IfOk result (λ f. f ≡ self.now) }
     {
         Ok(Form {
-            terms: self.terms.clone()?,
+            terms: Vec::from_slice(*self.terms.allocator(), &self.terms)?,
             constant: self.constant,
         })
+    }
+
+    /// A law: the variables rise, no coefficient is 0, and each number is an `i128`.
+    pub fn numbers_fit(&self)
+        ensures tidy { IsTidy self.now.terms }
+        ensures fits { bounded.fits_form self.now ≡ true }
+    {
+        let _terms = &self.terms;
+        let _constant = self.constant;
     }
 
     /// The constant.
@@ -135,14 +146,59 @@ impl Form {
         })
     }
 
-    /// Adds k times the other form.
-    ///
-    /// `TooLarge` where a product of k and a number of the other form, or a sum of such a product
-    /// and a number of this form, leaves `i128`. An error leaves the form as it was.
-    pub fn add_scaled(&mut self, k: i128, other: &Form) -> Result<(), FormError>
+    // The sum of this form and the other one, which is added once.
+    fn with(&self, other: &Form) -> Result<Form, FormError>
+        ensures { IsAnswer (λ f. f) faults.TooLarge result (bounded.add_scaled self.now (pos 1) other.now) }
+    {
+        other.numbers_fit();
+        if self.terms.len() == 0 {
+            self.offset_plus(other.copy()?)
+        } else {
+            self.plus(other)
+        }
+    }
+
+    // Whether the variable comes after all others.
+    fn is_last(&self, var: u32) -> bool
+        ensures { result ≡ list_all (λ t. nat_lt t.0 var) self.now.terms }
+    {
+        match self.terms.last() {
+            Some(t) => t.0 < var,
+            None => true,
+        }
+    }
+
+    // The one term of the form, where there is nothing else.
+    fn only_term(&self) -> Option<(u32, i128)>
+        ensures { IfSome result (λ t. self.now ≡ form_value (t ∷ []) (pos 0)) }
+    {
+        if self.terms.len() == 1 && self.constant == 0 {
+            self.terms.first().copied()
+        } else {
+            None
+        }
+    }
+
+    // Adds k times the term, whose variable comes after all others.
+    fn push_term(&mut self, k: i128, var: u32, c: i128) -> Result<(), FormError>
+        requires last { list_all (λ t. nat_lt t.0 var) self.old.terms ≡ true }
+        ensures answer { IsAnswer (λ _. self.new) faults.TooLarge result (bounded.add_scaled self.old k (form_value ((var, c) ∷ []) (pos 0))) }
+        ensures unchanged { OnErr result (self.new ≡ self.old) }
+    {
+        let product = product_of(k, c)?;
+        push_term(&mut self.terms, var, product)?;
+        Ok(())
+    }
+
+    // Adds k times the other form, term by term.
+    fn add_terms(&mut self, k: i128, other: &Form) -> Result<(), FormError>
         ensures answer { IsAnswer (λ _. self.new) faults.TooLarge result (bounded.add_scaled self.old k other.now) }
         ensures unchanged { OnErr result (self.new ≡ self.old) }
     {
+        if k == 1 {
+            *self = self.with(other)?;
+            return Ok(());
+        }
         let own = other.scaled(k)?;
         let sum = if self.terms.len() == 0 {
             self.offset_plus(own)?
@@ -151,6 +207,22 @@ impl Form {
         };
         *self = sum;
         Ok(())
+    }
+
+    /// Adds k times the other form.
+    ///
+    /// `TooLarge` where a product of k and a number of the other form, or a sum of such a product
+    /// and a number of this form, leaves `i128`. An error leaves the form as it was.
+    pub fn add_scaled(&mut self, k: i128, other: &Form) -> Result<(), FormError>
+        ensures answer { IsAnswer (λ _. self.new) faults.TooLarge result (bounded.add_scaled self.old k other.now) }
+        ensures unchanged { OnErr result (self.new ≡ self.old) }
+    {
+        if let Some((var, c)) = other.only_term() {
+            if self.terms.len() > 0 && self.is_last(var) {
+                return self.push_term(k, var, c);
+            }
+        }
+        self.add_terms(k, other)
     }
 
     // The coefficient of the variable, 0 where it doesn't occur.
@@ -187,29 +259,12 @@ impl Form {
         Ok(sum)
     }
 
-    // Whether the variable comes after all others.
-    fn is_last(&self, var: u32) -> bool
-        ensures { result ≡ list_all (λ t. nat_lt t.0 var) self.now.terms }
-    {
-        self.terms.iter().all(|t| t.0 < var)
-    }
-
-    // Adds k times the variable, which comes after all others.
-    fn push_variable(&mut self, k: i128, var: u32) -> Result<(), FormError>
-        requires some { k ≢ pos 0 }
-        requires last { list_all (λ t. nat_lt t.0 var) self.old.terms ≡ true }
-        ensures { IsAnswer (λ _. self.new) faults.TooLarge result (bounded.add_scaled self.old k (arith.variable var)) }
-    {
-        self.terms.push((var, k))?;
-        Ok(())
-    }
-
     // Adds k times the variable.
     fn add_variable(&mut self, k: i128, var: u32) -> Result<(), FormError>
         ensures { IsAnswer (λ _. self.new) faults.TooLarge result (bounded.add_scaled self.old k (arith.variable var)) }
     {
-        if k != 0 && self.is_last(var) {
-            return self.push_variable(k, var);
+        if self.is_last(var) {
+            return self.push_term(k, var, 1);
         }
         let own = Form::variable(*self.terms.allocator(), var)?;
         self.add_scaled(k, &own)
@@ -226,11 +281,15 @@ impl Form {
         }
     }
 
-    /// The form with the map's forms in place of the variables, all at once: the constant, and then
-    /// for each rising variable its coefficient times its form added.
-    ///
-    /// `TooLarge` where one of these additions leaves `i128`, as in `add_scaled`.
-    pub fn apply(&self, map: &Map) -> Result<Form, FormError>
+    // Whether the map names none of the variables.
+    fn is_kept(&self, map: &Map) -> bool
+        ensures { result ≡ list_all (λ t. not (names map.now t.0)) self.now.terms }
+    {
+        self.terms.iter().all(|t| !map.names(t.0))
+    }
+
+    // As `apply`, variable by variable.
+    fn images(&self, map: &Map) -> Result<Form, FormError>
         ensures { IsAnswer (λ f. f) faults.TooLarge result (bounded.apply map.now self.now) }
     {
         let mut sum = Form::constant(*self.terms.allocator(), self.constant);
@@ -238,6 +297,20 @@ impl Form {
             sum.add_image(t.1, map, t.0)?;
         }
         Ok(sum)
+    }
+
+    /// The form with the map's forms in place of the variables, all at once: the constant, and then
+    /// for each rising variable its coefficient times its form added.
+    ///
+    /// `TooLarge` where one of these additions leaves `i128`, as in `add_scaled`.
+    pub fn apply(&self, map: &Map) -> Result<Form, FormError>
+        ensures { IsAnswer (λ f. f) faults.TooLarge result (bounded.apply map.now self.now) }
+    {
+        self.numbers_fit();
+        if self.is_kept(map) {
+            return Ok(self.copy()?);
+        }
+        self.images(map)
     }
 
     /// The form cut by d: each coefficient divided by d, and the constant divided and rounded up.

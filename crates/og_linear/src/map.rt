@@ -3,6 +3,7 @@
 ghost use Rattle.std.specs.Prelude.{◌≡◌, ◌≢◌, [], All, OnOk, OnErr, IfSome, IfNone};
 ghost use Rattle.og_linear.specs.Arith as arith;
 ghost use Rattle.og_linear.specs.Bounded as bounded;
+ghost use Rattle.og_linear.specs.Bounded.{names};
 
 use crate::form::Form;
 use std::alloc::{AllocError, Global};
@@ -49,6 +50,13 @@ impl Map {
         }
         self.entries.push((var, form))?;
         Ok(())
+    }
+
+    // Whether the variable is named.
+    pub(crate) fn names(&self, var: u32) -> bool
+        ensures { result ≡ names self.now var }
+    {
+        self.entries.iter().any(|e| e.0 == var)
     }
 
     // The form that is named for the variable.

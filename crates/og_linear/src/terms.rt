@@ -54,8 +54,9 @@ pub(crate) fn ceil_div(c: i128, d: i128) -> i128
 }
 
 // A term at the end, unless its coefficient is 0.
-fn push_term(terms: &mut Vec<(u32, i128)>, var: u32, c: i128) -> Result<(), FormError>
+pub(crate) fn push_term(terms: &mut Vec<(u32, i128)>, var: u32, c: i128) -> Result<(), FormError>
     ensures added { OnOk result (terms.new.items ≡ terms.old.items ++ with_term var c []) }
+    ensures unchanged { OnErr result (terms.new.items ≡ terms.old.items) }
     ensures memory { IfErr result (λ e. e ≡ errors.Memory) }
     ensures asked { OnErr result (c ≢ pos 0) }
 {
@@ -73,7 +74,7 @@ pub(crate) fn multiples(
 ) -> Result<Vec<(u32, i128)>, FormError>
     ensures { IsAnswer (λ v. v.items) faults.TooLarge result (checked_terms (scale_terms k terms.now)) }
 {
-    let mut out = Vec::new(alloc);
+    let mut out = Vec::with_capacity(alloc, terms.len())?;
     for t in terms {
         let c = product_of(k, t.1)?;
         push_term(&mut out, t.0, c)?;
@@ -91,7 +92,7 @@ pub(crate) fn sums(
     requires b_fits { fits_terms b.now ≡ true }
     ensures { IsAnswer (λ v. v.items) faults.TooLarge result (checked_terms (merge a.now b.now)) }
 {
-    let mut out = Vec::new(alloc);
+    let mut out = Vec::with_capacity(alloc, a.len().saturating_add(b.len()))?;
     let mut i = 0;
     let mut j = 0;
     'both: while i < a.len() && j < b.len() {
