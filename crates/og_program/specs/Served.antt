@@ -31,7 +31,7 @@ use Rattle.og_notes.specs.Noted.{IsNoted}
 use Rattle.og_prover.specs.Proof as proof
 use Rattle.og_remark.specs.Expansion.{IsExpansionRemark}
 use Rattle.og_remark.specs.Missing.{IsMissingRemark}
-use Rattle.og_remark.specs.Remarks.{IsSourceRemark, IsConditionsRemark, IsCheckRemark, IsCertificatesRemark}
+use Rattle.og_remark.specs.Remarks.{IsSourceRemark, IsConditionsRemark, IsTooManyRemark, IsCheckRemark, IsCertificatesRemark}
 use Rattle.og_remark.specs.Starting.{IsRunRemark, IsProvedRunRemark}
 use Rattle.og_remark.specs.Values.{schedule_text, reason_line, IsValueRemark}
 use Rattle.og_remark.specs.declared.values.Gives.TheVariants as gives
@@ -145,9 +145,9 @@ FollowsExpanding name template (expandings.Refused answer fault) outcome =
     OnTold (λ t. (t.answer ≡ answer) × Noted (IsExpansionNote name template fault) t) outcome
 FollowsExpanding name template (expandings.BadValue word) outcome = OnBad (λ _ _. ⊥) word outcome
 
--- an answer about a source, and beside it why its conditions are refused; about a template nothing is told beside it
+-- an answer about a source, and beside it why its conditions are refused; an outline of a template is refused for their number alone
 abbrev pub TellsProvedBy : Bool → List ℕ → List ℕ → Answer → Told → Type 0
-TellsProvedBy true name source answer t = (t.answer ≡ answer) × (t.note ≡ Ok None)
+TellsProvedBy true name source answer t = (t.answer ≡ answer) × Remarks (IsTooManyRemark name source) t
 TellsProvedBy false name source answer t = (t.answer ≡ answer) × Remarks (IsConditionsRemark name source) t
 
 abbrev pub TellsProved : List ℕ → List ℕ → Answer → Told → Type 0

@@ -2,7 +2,7 @@
 
 ghost use Rattle.std.specs.Prelude.{◌≡◌, map, None, IfSome};
 ghost use Rattle.og_remark.specs.Missing.{IsMissingRemark};
-ghost use Rattle.og_remark.specs.Remarks.{IsSourceRemark, IsConditionsRemark, IsCheckRemark, IsCertificatesRemark};
+ghost use Rattle.og_remark.specs.Remarks.{IsSourceRemark, IsConditionsRemark, IsTooManyRemark, IsCheckRemark, IsCertificatesRemark};
 ghost use Rattle.og_remark.specs.Starting.{IsRunRemark, IsProvedRunRemark};
 ghost use Rattle.og_remark.specs.Values.{schedule_text, reason_line, IsValueRemark};
 ghost use Rattle.og_remark.specs.declared.values.Gives.TheVariants as gives;
@@ -17,7 +17,7 @@ use og_explorer::Reply as Explored;
 use og_listings::Reply as Listed;
 use og_remark::{
     Gives, certificates_remark, check_remark, conditions_remark, expansion_remark, missing_remark,
-    proved_run_remark, run_remark, schedule_remark, source_remark, value_remark,
+    proved_run_remark, run_remark, schedule_remark, source_remark, too_many_remark, value_remark,
 };
 use og_running::{Ran, Reply};
 use og_template_words::is_template;
@@ -298,15 +298,25 @@ fn bad_constant(word: &str) -> Outcome<'_>
     Outcome::BadValue(BadValue { word, why: None })
 }
 
-// An answer about a source, or about a template, of which nothing goes to standard error.
+// An answer about a template, and why its outline is refused where it is.
+fn beside_template(alloc: Global, name: &str, template: &[u8], answer: Answer) -> Told
+    ensures answer { result.answer ≡ answer }
+    ensures remark { Remarks (IsTooManyRemark name.now template.now) result }
+{
+    let note = if answer.status == REFUSED {
+        too_many_remark(alloc, name, template).map(Some)
+    } else {
+        Ok(None)
+    };
+    Told { answer, note }
+}
+
+// An answer about a source or a template, and why its conditions are refused where they are.
 fn beside_proved(alloc: Global, name: &str, source: &[u8], answer: Answer) -> Told
     ensures { TellsProved name.now source.now answer result }
 {
     if is_template(source) {
-        return Told {
-            answer,
-            note: Ok(None),
-        };
+        return beside_template(alloc, name, source, answer);
     }
     beside_conditions(alloc, name, source, answer)
 }

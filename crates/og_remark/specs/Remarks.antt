@@ -44,6 +44,11 @@ abbrev pub IsConditionsRemark : List ℕ → List ℕ → Option (List ℕ) → 
 IsConditionsRemark name source None = (o : Program) × IsSource source o × (length (conditions o) ≤ condition_limit)
 IsConditionsRemark name source (Some text) = (fault : InputFault) × IsListingFault source fault × IsAdvice name [] source fault text
 
+-- of a template of this name whose outline has more conditions than the limit
+abbrev pub IsTooManyRemark : List ℕ → List ℕ → Option (List ℕ) → Type 0
+IsTooManyRemark name template None = ⊥
+IsTooManyRemark name template (Some text) = (fault : TooMany) × IsAdvice name [] template (faults.Conditions fault) text
+
 -- of a source and certificates of these names
 abbrev pub IsCheckRemark : List ℕ → List ℕ → List ℕ → List ℕ → Option (List ℕ) → Type 0
 IsCheckRemark name certs_name source certs None = (o : Program) × (entries : List Entry) × IsReport source certs o entries

@@ -12,6 +12,8 @@ mod values;
 
 pub use expansion::expansion_remark;
 pub use missing::missing_remark;
-pub use remarks::{certificates_remark, check_remark, conditions_remark, source_remark};
+pub use remarks::{
+    certificates_remark, check_remark, conditions_remark, source_remark, too_many_remark,
+};
 pub use starting::{proved_run_remark, run_remark};
 pub use values::{Gives, schedule_remark, value_remark};

@@ -1,7 +1,7 @@
 //! What is told beside a refusal.
 
-ghost use Rattle.std.specs.Prelude.{option_map, IfOk};
-ghost use Rattle.og_remark.specs.Remarks.{IsSourceRemark, IsCounted, IsListed, IsConditionsRemark, IsCheckRemark, IsCertificatesRemark};
+ghost use Rattle.std.specs.Prelude.{option_map, Some, IfOk};
+ghost use Rattle.og_remark.specs.Remarks.{IsSourceRemark, IsCounted, IsListed, IsConditionsRemark, IsTooManyRemark, IsCheckRemark, IsCertificatesRemark};
 
 use og_advice::{Names, advise};
 use og_answer::InputFault;
@@ -95,6 +95,22 @@ pub fn conditions_remark(
         certs: "",
     };
     Ok(Some(advise(alloc, names, &fault, source)?))
+}
+
+/// What is told of a template of this name whose outline has more than 4,000,000 conditions.
+///
+/// # Errors
+///
+/// An allocation was refused.
+pub fn too_many_remark(alloc: Global, name: &str, template: &[u8]) -> Result<Vec<u8>, AllocError>
+    ensures { IfOk result (λ note. IsTooManyRemark name.now template.now (Some note.items)) }
+{
+    let names = Names {
+        source: name,
+        certs: "",
+    };
+    let fault = InputFault::Conditions(TooMany);
+    advise(alloc, names, &fault, template)
 }
 
 /// What is told of a source and certificates of these names that are refused; nothing of others.
