@@ -9,7 +9,7 @@ ghost use Rattle.og_cond.specs.Condition.{assignments};
 ghost use Rattle.og_places.specs.Seen.{statement_of};
 ghost use Rattle.og_wording.specs.Seen.{formulas_of};
 ghost use Rattle.og_subst.specs.Actions.{action_tree};
-ghost use Rattle.og_explain.specs.Explained.{IsTrueNote, IsAction, IsOneAction, HaveValues, false_ones};
+ghost use Rattle.og_explain.specs.Explained.{IsNoteOf, IsTrueNote, IsAction, IsOneAction, HaveValues, false_ones};
 ghost use Rattle.og_explain.specs.Explanations.{IsFault, IsFalseNote, IsTooLarge, IsExplained, TestIs};
 
 use crate::explanation::{Explanation, Fault, Test};
@@ -174,6 +174,20 @@ pub fn false_in<'a>(
     Ok(found)
 }
 
+/// The assertion of the outline to which the condition leads: its goal, by the condition's kind and
+/// place. None for a range and for blocking. Takes no memory.
+pub fn goal_note<'a>(
+    outline: &'a Outline,
+    index: &Index<'a>,
+    condition: &Condition,
+) -> Option<&'a Note>
+    requires { index.now ≡ outline.now }
+    ensures { IfSome result (λ note. IsNoteOf outline.now (noted note.now)) }
+{
+    let at = goal_at(index, condition)?;
+    note_at(outline, index, at)
+}
+
 // What is false of the goal.
 fn fault_of<'a>(
     alloc: Global,
@@ -190,10 +204,7 @@ fn fault_of<'a>(
         Goal::Never => Ok(Fault::Blocked(stands(alloc, outline, index, values)?)),
         Goal::Fits => too_large(alloc, condition, values),
         Goal::Holds(_) => {
-            let Some(at) = goal_at(index, condition) else {
-                return Err(Unexplained::Open);
-            };
-            let Some(note) = note_at(outline, index, at) else {
+            let Some(note) = goal_note(outline, index, condition) else {
                 return Err(Unexplained::Open);
             };
             Ok(Fault::False(note, false_in(alloc, note, after)?))

@@ -14,6 +14,7 @@ mod stands;
 mod unexplained;
 
 pub use actor::Actors;
-pub use explaining::{explain, false_in};
+pub use explaining::{explain, false_in, goal_note};
 pub use explanation::{Explanation, Fault, Stand, Test};
+pub use lookup::{true_site, waiting};
 pub use unexplained::Unexplained;

@@ -78,7 +78,8 @@ pub(crate) fn tested<'a>(
 }
 
 /// The await at the byte offset `at`, where the assertion before it is true and its guard false.
-pub(crate) fn waiting<'a>(index: &Index<'a>, at: u32, values: &Values) -> Option<StatementSite<'a>>
+/// Takes no memory.
+pub fn waiting<'a>(index: &Index<'a>, at: u32, values: &Values) -> Option<StatementSite<'a>>
     ensures { IfSome result (λ site. IsWaiting index.now values.now (statement_of site)) }
 {
     let site = tested(index, at, false, values)?.site;
@@ -89,8 +90,8 @@ pub(crate) fn waiting<'a>(index: &Index<'a>, at: u32, values: &Values) -> Option
     }
 }
 
-/// The assertion of a process at the byte offset `at`, where it is true.
-pub(crate) fn true_site<'a>(index: &Index<'a>, at: u32, values: &Values) -> Option<NoteSite<'a>>
+/// The assertion of a process at the byte offset `at`, where it is true. Takes no memory.
+pub fn true_site<'a>(index: &Index<'a>, at: u32, values: &Values) -> Option<NoteSite<'a>>
     ensures { IfSome result (λ site. IsTrueSite index.now values.now (note_of site)) }
 {
     let site = index.note(at)?;

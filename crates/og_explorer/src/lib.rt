@@ -13,3 +13,5 @@ mod words;
 pub use answering::answer;
 pub use exploring::{Reply, explored};
 pub use request::Request;
+pub use starting::{only, ranges};
+pub use words::{WordsError, given};

@@ -97,8 +97,10 @@ fn searched(
     }
 }
 
-// The range of one value.
-fn only(value: i64) -> Range {
+/// The range of one value. Takes no memory.
+pub fn only(value: i64) -> Range
+    ensures { result ≡ (value, value) }
+{
     match Range::new(value, value) {
         Some(range) => range,
         None => unreachable!(),
@@ -128,7 +130,7 @@ fn value_of(state: &Option<State>, var: u32) -> i64 {
 /// # Errors
 ///
 /// An allocation was refused.
-pub(crate) fn ranges(
+pub fn ranges(
     alloc: Global,
     outline: &Outline,
     given: &[Option<Range>],

@@ -10,7 +10,7 @@ use og_typed::Outline;
 use std::alloc::{AllocError, AllocFailed, Global};
 
 /// Why words give no ranges.
-pub(crate) enum WordsError<'a> {
+pub enum WordsError<'a> {
     /// The first word that gives no variable a range.
     Bad(&'a str),
     /// An allocation was refused.
@@ -83,7 +83,11 @@ fn nothing(alloc: Global, vars: u32) -> Result<Vec<Option<Range>>, AllocError>
 
 /// For each variable that is no auxiliary the range that a word gives it, if one does. A word is
 /// NAME=INT or NAME=LO..HI; each names a variable that no word before it names.
-pub(crate) fn given<'a>(
+///
+/// # Errors
+///
+/// `Bad` with the first word that gives none. `Memory` where an allocation was refused.
+pub fn given<'a>(
     alloc: Global,
     outline: &Outline,
     words: &[&'a str],

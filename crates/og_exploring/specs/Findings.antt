@@ -63,6 +63,10 @@ AreRows o m [] (row ∷ rows) k = ⊥
 AreRows o m (p ∷ ps) [] k = ⊥
 AreRows o m (p ∷ ps) (row ∷ rows) k = (n : Moment) × IsRow o m n p row × AreRows o n ps rows k
 
+-- the same from the start with these values
+abbrev pub AreRowsOf : Program → List ℤ → List ℕ → List Row → Type 0
+AreRowsOf o values history rows = (k : Moment) × AreRows o (start_of o values) history rows k
+
 -- the state before the last step of the history, from the moment m; without a step its own
 abbrev pub IsBefore : Moment → List ℕ → List ℤ → Type 0
 IsBefore m history s = (k : Moment) × (run_on (take (length history - 1) history) (Some m) ≡ Some k) × (s ≡ k.state)

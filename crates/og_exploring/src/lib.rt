@@ -14,7 +14,7 @@ mod texts;
 mod totals;
 
 pub use finding::{Blame, Did, Fault, Finding, Row};
-pub use table::printed_number;
-pub use telling::tell;
+pub use table::{printed_number, put_did};
+pub use telling::{rows_of, tell};
 pub use texts::{numbers, place_of, report};
 pub use totals::{Found, Totals};

@@ -106,8 +106,12 @@ fn put_entries(text: &mut Vec<u8>, names: &[Name], entries: &[(u32, i64)]) -> Re
     Ok(())
 }
 
-// What a step did.
-fn put_did(text: &mut Vec<u8>, names: &[Name], did: &Did) -> Result<(), AllocError>
+/// Adds what a step did: its test's truth, or the variables that it assigned, with their values.
+///
+/// # Errors
+///
+/// An allocation was refused; the text has what it had, and perhaps a part of this.
+pub fn put_did(text: &mut Vec<u8>, names: &[Name], did: &Did) -> Result<(), AllocError>
     ensures { OnOk result (text.new.items ≡ text.old.items ++ did_text names.now did.now) }
 {
     match did {

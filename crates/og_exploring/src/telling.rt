@@ -4,7 +4,7 @@ ghost use Rattle.std.specs.Prelude.{◌≡◌, map, IfOk, IfSome};
 ghost use Rattle.og_typed.specs.Machine.{start_of};
 ghost use Rattle.og_cond.specs.Seen.{seen};
 ghost use Rattle.og_violation.specs.Violations.{IsViolation};
-ghost use Rattle.og_exploring.specs.Findings.{AreRows, IsBefore, IsFinding};
+ghost use Rattle.og_exploring.specs.Findings.{AreRows, AreRowsOf, IsBefore, IsFinding};
 
 use crate::blaming::{Scene, blame};
 use crate::faults::fault_of;
@@ -71,6 +71,30 @@ fn steps_of<'a>(
         rows.push(row)?;
     }
     Ok(Some(Steps { rows, before }))
+}
+
+/// The steps of the run from the start at which the variables that are no auxiliaries have these values,
+/// by the processes of the history; none where one of them cannot step, or a number on the way leaves 128
+/// bits.
+///
+/// # Errors
+///
+/// An allocation was refused.
+pub fn rows_of<'a>(
+    alloc: Global,
+    outline: &'a Outline,
+    values: &State,
+    history: &[u32],
+) -> Result<Option<Vec<Row<'a>>>, AllocError>
+    ensures { IfOk result (λ found. IfSome found (λ rows. AreRowsOf outline.now values.now history.now rows.items)) }
+{
+    let Some(mut moment) = begun(alloc, outline, values)? else {
+        return Ok(None);
+    };
+    match steps_of(alloc, outline, &mut moment, history)? {
+        Some(steps) => Ok(Some(steps.rows)),
+        None => Ok(None),
+    }
 }
 
 // The last row's place.
