@@ -1,6 +1,6 @@
 //! The answers of the commands that make certificates.
 
-ghost use Rattle.std.specs.Prelude.{◌≡◌, ◌<◌, ◌≤◌, length, map, IfOk, IfErr};
+ghost use Rattle.std.specs.Prelude.{◌≡◌, ◌<◌, ◌≤◌, if◌then◌else◌, length, map, IfOk, IfErr};
 ghost use Rattle.og_cert_text.specs.Shown.{shown};
 ghost use Rattle.og_cond.specs.Limits.{condition_limit};
 ghost use Rattle.og_cond.specs.Seen.{seen};
@@ -9,10 +9,10 @@ ghost use Rattle.og_engine.specs.Making.{text_in, TellsWhetherAll, HasCertificat
 
 use og_answer::{Answer, InputFault};
 use og_cert_read::write_certs_2;
-use og_cert_text::{CertFile, CertTextError, write_certs};
+use og_cert_text::{CertFile, CertTextError};
 use og_cond::{Condition, ConditionsError, conditions};
 use og_find::has_all;
-use og_finder::find_all;
+use og_finder::{Written, find_all, write_all};
 use og_judge::migrate;
 use og_limits::{Budget, CertVersion, Workers};
 use og_pool::{Gate, PoolFault};
@@ -21,29 +21,63 @@ use std::alloc::{AllocError, Global};
 use std::sync::Wait;
 use std::thread::Threads;
 
-// The text of a file in this version.
-fn text_in(alloc: Global, file: &CertFile, version: CertVersion) -> Result<Vec<u8>, AllocError>
-    ensures { IfOk result (λ t. t.items ≡ text_in version (shown file.now)) }
+// The status: 0 where each condition has a certificate, 1 where some has none.
+fn status_of(all: bool) -> u8
+    ensures { result ≡ if all then 0 else 1 }
 {
-    if version.is_second() {
-        write_certs_2(alloc, file)
-    } else {
-        write_certs(alloc, file)
-    }
+    if all { 0 } else { 1 }
 }
 
-// The text of a file, and whether each of so many conditions has a certificate in it.
-fn of_file(
-    alloc: Global,
-    file: &CertFile,
-    count: u32,
-    version: CertVersion,
-) -> Result<Answer, AllocError>
-    ensures text { IfOk result (λ a. a.text.items ≡ text_in version (shown file.now)) }
+// The text of a file in version 2, and whether each of so many conditions has a certificate in it.
+fn of_file(alloc: Global, file: &CertFile, count: u32) -> Result<Answer, AllocError>
+    ensures text { IfOk result (λ a. a.text.items ≡ text_in 2 (shown file.now)) }
     ensures status { IfOk result (λ a. TellsWhetherAll count (shown file.now) a.status) }
 {
-    let text = text_in(alloc, file, version)?;
-    let status = if has_all(file, count) { 0 } else { 1 };
+    let text = write_certs_2(alloc, file)?;
+    let status = status_of(has_all(file, count));
+    Ok(Answer { text, status })
+}
+
+// The certificates that are found for conditions, in version 2.
+fn in_second<G: Gate, H: Threads + Wait + Sync>(
+    rt: &H,
+    alloc: Global,
+    conditions: &[Condition],
+    budget: Budget,
+    workers: Workers,
+    gate: &G,
+) -> Result<Answer, PoolFault>
+    requires { length conditions.now ≤ condition_limit }
+    ensures found { IfOk result (HasCertificates 2 (map seen conditions.now)) }
+    ensures spawn { IfErr result (λ e. e ≡ Spawn → 1 < workers) }
+{
+    let file = find_all(rt, alloc, conditions, budget.facts(), workers.count(), gate)?;
+    let answer = of_file(alloc, &file, conditions.len() as u32)?;
+    Ok(answer)
+}
+
+// The certificates that are found for conditions, in version 1.
+fn in_first<G: Gate, H: Threads + Wait + Sync>(
+    rt: &H,
+    alloc: Global,
+    conditions: &[Condition],
+    budget: Budget,
+    workers: Workers,
+    gate: &G,
+) -> Result<Answer, PoolFault>
+    requires { length conditions.now ≤ condition_limit }
+    ensures found { IfOk result (HasCertificates 1 (map seen conditions.now)) }
+    ensures spawn { IfErr result (λ e. e ≡ Spawn → 1 < workers) }
+{
+    let Written { text, all } = write_all(
+        rt,
+        alloc,
+        conditions,
+        budget.facts(),
+        workers.count(),
+        gate,
+    )?;
+    let status = status_of(all);
     Ok(Answer { text, status })
 }
 
@@ -61,9 +95,11 @@ fn of_search<G: Gate, H: Threads + Wait + Sync>(
     ensures found { IfOk result (HasCertificates version (map seen conditions.now)) }
     ensures spawn { IfErr result (λ e. e ≡ Spawn → 1 < workers) }
 {
-    let file = find_all(rt, alloc, conditions, budget.facts(), workers.count(), gate)?;
-    let answer = of_file(alloc, &file, conditions.len() as u32, version)?;
-    Ok(answer)
+    if version.is_second() {
+        in_second(rt, alloc, conditions, budget, workers, gate)
+    } else {
+        in_first(rt, alloc, conditions, budget, workers, gate)
+    }
 }
 
 // The answer for the outline of a source.
@@ -92,7 +128,7 @@ fn found_of<G: Gate, H: Threads + Wait + Sync>(
 /// The certificates that searches find for the conditions of the outline of a source, in this version
 /// of their text, with status 0 where each condition has one and 1 where some has none; or the line
 /// of a refusal and status 2. Each search has the budget, as in `og_find::find`. The answer is the
-/// same for every number of workers. The gate is told of the searches as by `og_finder::find_all`.
+/// same for every number of workers. The gate is told of the searches as by `og_finder::examine_all`.
 ///
 /// # Errors
 ///

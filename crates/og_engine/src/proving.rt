@@ -1,6 +1,6 @@
 //! The answer of the command that searches, judges and says what is wrong.
 
-ghost use Rattle.std.specs.Prelude.{◌≡◌, ◌<◌, ◌≤◌, ◌^◌, length, map, true, false, None, IfOk, IfErr, IfSome};
+ghost use Rattle.std.specs.Prelude.{◌≡◌, ◌<◌, ◌≤◌, ◌^◌, length, map, true, false, None, IfOk, IfErr, IfSome, MatchOption};
 ghost use Rattle.og_cond.specs.Conditions.{conditions as conditions_of};
 ghost use Rattle.og_cond.specs.Limits.{condition_limit};
 ghost use Rattle.og_cond.specs.Seen.{seen};
@@ -10,7 +10,7 @@ ghost use Rattle.og_judge.specs.NeverStuck.{IsNeverStuckSource};
 ghost use Rattle.og_judge.specs.Proven.{IsProvenSource};
 ghost use Rattle.og_pool.specs.declared.fault.PoolFault.TheVariants.{Spawn};
 ghost use Rattle.og_prove.specs.Report.{is_unblocked};
-ghost use Rattle.og_prove.specs.Told.{IsTold, AreTold};
+ghost use Rattle.og_prove.specs.Told.{IsTold, AreTold, Follows};
 ghost use Rattle.og_report.specs.Yes.{SaysUnblocked};
 ghost use Rattle.og_answer.specs.Told.{Says};
 ghost use Rattle.og_engine.specs.Promised.{Promises};
@@ -44,8 +44,12 @@ pub struct Search {
     pub json: bool,
 }
 
-// What is told of a condition by the verdict on it; it is open where there is none.
-fn told_by<'a>(
+/// What is told of a condition by the verdict on it; it is open where there is none.
+///
+/// # Errors
+///
+/// An allocation was refused.
+pub fn told_by<'a>(
     alloc: Global,
     outline: &'a Outline,
     index: &Index<'a>,
@@ -54,7 +58,8 @@ fn told_by<'a>(
 ) -> Result<Told<'a>, AllocError>
     requires index { index.now ≡ outline.now }
     requires verdict { IfSome verdict (λ v. IsVerdict (seen condition.now) v.now) }
-    ensures { IfOk result (IsTold outline.now (seen condition.now)) }
+    ensures told { IfOk result (IsTold outline.now (seen condition.now)) }
+    ensures follows { IfOk result (λ t. MatchOption verdict.entry (t ≡ Told.Open) (λ v. Follows v.now t)) }
 {
     match verdict {
         Some(verdict) => tell(alloc, outline, index, condition, verdict),
@@ -62,8 +67,12 @@ fn told_by<'a>(
     }
 }
 
-// What is told of each condition.
-fn tell_all<'a>(
+/// What is told of each condition by the verdicts on them.
+///
+/// # Errors
+///
+/// An allocation was refused.
+pub fn tell_all<'a>(
     alloc: Global,
     outline: &'a Outline,
     conditions: &[Condition],

@@ -1,3 +1,4 @@
 pub mod Filed
 pub mod Gathered
 pub mod Served
+pub mod Texts

@@ -11,11 +11,14 @@ mod filing;
 mod finder;
 mod findings;
 mod following;
+mod formatting;
 mod gathering;
 mod groups;
 mod leading;
 mod marking;
 mod searching;
+mod writing;
 
 pub use finder::{examine_all, find_all};
 pub use findings::Findings;
+pub use writing::{Written, write_all};

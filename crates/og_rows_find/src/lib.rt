@@ -11,3 +11,5 @@ mod searching;
 mod sources;
 #[cfg(test)]
 mod workers;
+#[cfg(test)]
+mod writing;

@@ -26,7 +26,7 @@ loop-i-preserved c =
     let rest = map seen (drop (i + 1) list) in
     let before = subst (λ l. MakesAll o (map seen list) l told) (dropped seen list i condition at) c.loop-i.invariant.told in
     record {
-      told = subst (MakesAll o (map seen list) rest) (sym c.in_ok-push.ensures.items) (all_go_on o (map seen list) rest (seen condition) told c.in_ok-told.told c.in_ok-told.ensures before);
+      told = subst (MakesAll o (map seen list) rest) (sym c.in_ok-push.ensures.items) (all_go_on o (map seen list) rest (seen condition) told c.in_ok-told.told c.in_ok-told.ensures.told before);
       each = search rules;
     }
 

@@ -1,0 +1,152 @@
+-- The text of the certificates that are found.
+use Rattle.std.proofs.Common.{◌≡◌, ⊎_elim, ◌≤◌, ◌<◌, ℕ, ◌+◌, ◌-◌, zero, suc, List, [], ◌∷◌, ◌++◌, length, true, false, Option, Some, None, refl, sym, ap, ◌∙◌, subst, arith}
+use Rattle.std.specs.Prelude.{◌==◌, ◌&&◌, ◌↔◌, slice_get, Result, Ok, Err, IfOk, IsSome, IsSomeAnd, IsTrue}
+use Rattle.std.specs.Global.{Vec}
+use Rattle.std.specs.List.{list_all}
+use Rattle.std.proofs.Math.Nat.{eq-or-lt_of_le}
+use Rattle.std.proofs.lemmas.Bool.Decides.{nat_tests}
+use Rattle.std.proofs.lemmas.Option.{slice_get_within}
+use Rattle.og_cert_text.specs.Tree.{Cert}
+use Rattle.og_cert_text.specs.Lines.{is_number}
+use Rattle.og_cert_text.specs.Shallow.{is_well_formed}
+use Rattle.og_cert_text.specs.Files.{Entries, certificate_of}
+use Rattle.og_cert_text.specs.Listing.{file_text}
+use Rattle.og_cert_text.specs.Rising.{rise_from}
+use Rattle.og_cert_text.proofs.Forms.{both_true, le_true}
+use Rattle.og_cert_text.proofs.Writing.{entries_text, entry_text, one_more}
+use Rattle.og_cond.specs.Condition.{Condition}
+use Rattle.og_draws.specs.Answers.{AreAnswers}
+use Rattle.og_find.specs.Found.{AreOf, Certifies}
+use Rattle.og_find.specs.declared.verdict.Verdict.{Verdict}
+use Rattle.og_find.specs.declared.verdict.Verdict.TheVariants as verdicts
+use Rattle.og_finder.specs.Findings.{verdict_of, AreVerdicts}
+use Rattle.og_finder.specs.Filing.{IsCertificateOf, AreFiled}
+use Rattle.og_finder.specs.Written.{certificate_in, lines_of, entry_lines, AreLines, with_first, entries_from, entries_of, AreCertified, IsWritten}
+use Rattle.og_finder.specs.declared.findings.Findings.{Findings}
+use Rattle.og_finder.specs.declared.writing.Written.{Written}
+use Rattle.og_finder.proofs.Filed.{all_of}
+
+-- ---- lines that workers made
+
+pub are_lines : (n : ℕ) (vs : List Verdict) (all : List (Vec ℕ)) → AreAnswers n (λ k lines. lines.items ≡ lines_of (certificate_in (slice_get vs (k - 1)))) all → AreLines vs all
+are_lines n vs all h place lines at =
+    let back : place + 1 - 1 ≡ place = omega arith in
+    h.1 place lines at ∙ ap (λ k. lines_of (certificate_in (slice_get vs k))) back
+
+-- ---- one entry more
+
+next_entries : (f : Findings) (i n : ℕ) → i < n → entries_from f i (n - i) ≡ with_first (i + 1) (certificate_in (verdict_of f i)) (entries_from f (i + 1) (n - (i + 1)))
+next_entries f i n lt =
+    let left : n - i ≡ suc (n - (i + 1)) = omega arith in
+    ap (entries_from f i) left
+
+first_text : (n : ℕ) (o : Option Cert) (es : Entries) → entries_text (with_first n o es) ≡ entry_lines n o ++ entries_text es
+first_text n None es = refl
+first_text n (Some c) es = entry_text n c es
+
+pub put_next : (f : Findings) (i n : ℕ) (t0 t1 whole : List ℕ) → i < n → t1 ≡ t0 ++ entry_lines (i + 1) (certificate_in (verdict_of f i))
+    → t0 ++ entries_text (entries_from f i (n - i)) ≡ whole → t1 ++ entries_text (entries_from f (i + 1) (n - (i + 1))) ≡ whole
+put_next f i n t0 t1 whole lt e h =
+    let o = certificate_in (verdict_of f i) in
+    let rest = entries_from f (i + 1) (n - (i + 1)) in
+    one_more t0 t1 (entry_lines (i + 1) o) (entries_text (entries_from f i (n - i))) (entries_text rest) whole e (ap entries_text (next_entries f i n lt) ∙ first_text (i + 1) o rest) h
+
+-- ---- the entries are those of the verdicts
+
+is_certificate : (o : Option Verdict) (c : Cert) → certificate_in o ≡ Some c → IsCertificateOf o c
+is_certificate None c e = absurd (cc)
+is_certificate (Some (verdicts.True cert)) c e = cc
+is_certificate (Some (verdicts.False s)) c e = absurd (cc)
+is_certificate (Some verdicts.Open) c e = absurd (cc)
+
+filed : (f : Findings) (i k : ℕ) → AreFiled f.own.items f.places.items f.verdicts.items (entries_from f i k)
+filed f i zero = tt
+filed f i (suc k) = first (certificate_in (verdict_of f i)) refl (filed f (i + 1) k)
+  where
+    first : (o : Option Cert) → certificate_in (verdict_of f i) ≡ o → AreFiled f.own.items f.places.items f.verdicts.items (entries_from f (i + 1) k)
+        → AreFiled f.own.items f.places.items f.verdicts.items (with_first (i + 1) o (entries_from f (i + 1) k))
+    first None e rest = rest
+    first (Some c) e rest =
+        let back : i ≡ i + 1 - 1 = omega arith in
+        ((omega arith, subst (λ (j : ℕ). IsCertificateOf (verdict_of f j) c) back (is_certificate (verdict_of f i) c e)), rest)
+
+-- ---- they are those of a file
+
+rising : (f : Findings) (low i k : ℕ) → low ≤ i + 1 → rise_from low (entries_from f i k) ≡ true
+rising f low i zero h = refl
+rising f low i (suc k) h = first (certificate_in (verdict_of f i)) (rising f low (i + 1) k (omega arith)) (rising f (i + 1 + 1) (i + 1) k (omega arith))
+  where
+    first : (o : Option Cert) → rise_from low (entries_from f (i + 1) k) ≡ true → rise_from (i + 1 + 1) (entries_from f (i + 1) k) ≡ true → rise_from low (with_first (i + 1) o (entries_from f (i + 1) k)) ≡ true
+    first None rest above = rest
+    first (Some c) rest above = both_true _ _ (le_true low (i + 1) h) above
+
+one_good : (cs : List Condition) (n : ℕ) (proof : Cert) (o : Option Condition) → 0 < n → slice_get cs (n - 1) ≡ o → IsSomeAnd o (λ c. Certifies c proof) → (n ≤ length cs) × (is_well_formed proof ≡ true)
+one_good cs n proof None some at h = absurd h
+one_good cs n proof (Some c) some at h =
+    let within = slice_get_within cs (n - 1) c at in
+    (omega arith, h.0)
+
+all_good : (cs : List Condition) (es : Entries) → length cs ≤ 999999999 → AreOf cs es → list_all (λ e. is_number e.0 && is_well_formed e.1) es ≡ true
+all_good cs [] few h = refl
+all_good cs (e ∷ es) few h =
+    let good = one_good cs e.0 e.1 (slice_get cs (e.0 - 1)) h.0.0 refl h.0.1 in
+    let within = good.0 in
+    let number = both_true _ _ (le_true 1 e.0 h.0.0) (le_true e.0 999999999 (omega arith)) in
+    both_true _ _ (both_true _ _ number good.1) (all_good cs es few h.1)
+
+-- ---- each condition's certificate in them
+
+none_below : (f : Findings) (m i k : ℕ) → m ≤ i → certificate_of m (entries_from f i k) ≡ None
+none_below f m i zero h = refl
+none_below f m i (suc k) h = first (certificate_in (verdict_of f i)) (none_below f m (i + 1) k (omega arith))
+  where
+    first : (o : Option Cert) → certificate_of m (entries_from f (i + 1) k) ≡ None → certificate_of m (with_first (i + 1) o (entries_from f (i + 1) k)) ≡ None
+    first None rest = rest
+    first (Some c) rest =
+        let no : (m == i + 1) ≡ false = grind (arith, nat_tests) in
+        rw no rest
+
+-- the certificate under the number of the first entry, and under a greater one
+at_first : (n : ℕ) (o : Option Cert) (es : Entries) → certificate_of n es ≡ None → certificate_of n (with_first n o es) ≡ o
+at_first n None es none = none
+at_first n (Some c) es none =
+    let yes : (n == n) ≡ true = grind (arith, nat_tests) in
+    rw yes refl
+
+past_first : (m n : ℕ) (o : Option Cert) (es : Entries) → n < m → certificate_of m (with_first n o es) ≡ certificate_of m es
+past_first m n None es lt = refl
+past_first m n (Some c) es lt =
+    let no : (m == n) ≡ false = grind (arith, nat_tests) in
+    rw no refl
+
+-- the certificate of the condition at the index, under its number
+found_at : (f : Findings) (j i k : ℕ) → i ≤ j → j < i + k → certificate_of (j + 1) (entries_from f i k) ≡ certificate_in (verdict_of f j)
+found_at f j i zero above below = absurd (omega arith)
+found_at f j i (suc k) above below = ⊎_elim
+    (λ (here : i ≡ j). subst (λ (m : ℕ). certificate_of (m + 1) (entries_from f i (suc k)) ≡ certificate_in (verdict_of f m)) here
+    (at_first (i + 1) (certificate_in (verdict_of f i)) (entries_from f (i + 1) k) (none_below f (i + 1) (i + 1) k (omega arith))))
+    (λ (later : i < j). past_first (j + 1) (i + 1) (certificate_in (verdict_of f i)) (entries_from f (i + 1) k) (omega arith) ∙ found_at f j (i + 1) k (omega arith) (omega arith))
+    (eq-or-lt_of_le above)
+
+-- ---- the whole
+
+certified_found : (f : Findings) → AreCertified f → (m : ℕ) → 0 < m → m ≤ length f.own.items → IsSome (certificate_of m (entries_of f))
+certified_found f h m some within =
+    let back : m - 1 + 1 ≡ m = omega arith in
+    subst (λ (k : ℕ). IsSome (certificate_of k (entries_of f))) back (subst IsSome (sym (found_at f (m - 1) 0 (length f.own.items) (omega arith) (omega arith))) (h (m - 1) (omega arith)))
+
+found_certified : (f : Findings) → ((m : ℕ) → 0 < m → m ≤ length f.own.items → IsSome (certificate_of m (entries_of f))) → AreCertified f
+found_certified f h i below = subst IsSome (found_at f i 0 (length f.own.items) (omega arith) (omega arith)) (h (i + 1) (omega arith) (omega arith))
+
+is_written : (cs : List Condition) (f : Findings) (w : Written) → AreVerdicts cs f → length cs ≤ 999999999 → w.text.items ≡ file_text (entries_of f) → (IsTrue w.all ↔ AreCertified f) → IsWritten cs w
+is_written cs f w h few text all =
+    let es = entries_of f in
+    let count = length f.own.items in
+    let of = all_of cs f es h (filed f 0 count) in
+    let len = h.0 in
+    let file = both_true _ _ (rising f 0 0 count (omega arith)) (all_good cs es few of) in
+    (es, of, file, text, (λ yes m some within. certified_found f (all.0 yes) m some (omega arith), λ found. all.1 (found_certified f (λ m some within. found m some (omega arith)))))
+
+pub all_written : {E : Type 0} (cs : List Condition) (f : Findings) (r : Result Written E) → AreVerdicts cs f → length cs ≤ 999999999 → IfOk r (λ w. w.text.items ≡ file_text (entries_of f)) → IfOk r (λ w. IsTrue w.all ↔ AreCertified f) → IfOk r (IsWritten cs)
+all_written cs f (Ok w) h few text all = is_written cs f w h few text all
+all_written cs f (Err e) h few text all = tt
