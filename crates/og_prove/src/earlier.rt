@@ -70,7 +70,7 @@ pub(crate) fn effect_text(
 }
 
 /// The numbers of the conditions that told an effect first, by its text.
-pub(crate) type Firsts = BTreeMap<Vec<u8>, u128>;
+pub type Firsts = BTreeMap<Vec<u8>, u128>;
 
 /// The number that the text has; else none, and it has this one from now on.
 pub(crate) fn number_or_add(

@@ -61,11 +61,13 @@ fn put_head(
     put_found(text, word, more)
 }
 
-// What all that is told is printed with.
+/// What all that is told is printed with.
 #[derive(Clone, Copy)]
-struct Page<'a> {
-    names: &'a [Name],
-    origins: &'a Origins<'a>,
+pub struct Page<'a> {
+    /// The names of the variables.
+    pub names: &'a [Name],
+    /// How places are told.
+    pub origins: &'a Origins<'a>,
 }
 
 // The block of a false condition, or that it is as an earlier one.
@@ -116,8 +118,14 @@ fn put_one(
     }
 }
 
-// The same, or nothing of one that is told with an earlier one.
-fn put_told(
+/// Adds what is told of a condition, by its number from 1, and of how many more with it; nothing of one
+/// that is told with an earlier one. `firsts` has the numbers of the conditions before it that told
+/// an effect first.
+///
+/// # Errors
+///
+/// An allocation was refused; the text has what it had, and perhaps a part of this.
+pub fn put_told(
     text: &mut Vec<u8>,
     firsts: &mut Firsts,
     page: Page,
@@ -242,8 +250,12 @@ pub fn is_unblocked(told: &[Told]) -> bool
     }
 }
 
-// A word and a number.
-fn put_number_line(text: &mut Vec<u8>, word: &[u8], number: usize) -> Result<(), AllocError>
+/// Adds a word and a number, as a line.
+///
+/// # Errors
+///
+/// An allocation was refused; the text has what it had, and perhaps a part of this.
+pub fn put_number_line(text: &mut Vec<u8>, word: &[u8], number: usize) -> Result<(), AllocError>
     ensures { OnOk result (text.new.items ≡ text.old.items ++ number_line word.now number) }
 {
     text.extend_from_slice(word)?;
@@ -252,7 +264,12 @@ fn put_number_line(text: &mut Vec<u8>, word: &[u8], number: usize) -> Result<(),
     text.extend_from_slice(b"\n")
 }
 
-fn put_yes_line(text: &mut Vec<u8>, word: &[u8], yes: bool) -> Result<(), AllocError>
+/// Adds a word and an answer, as a line.
+///
+/// # Errors
+///
+/// An allocation was refused; the text has what it had, and perhaps a part of this.
+pub fn put_yes_line(text: &mut Vec<u8>, word: &[u8], yes: bool) -> Result<(), AllocError>
     ensures { OnOk result (text.new.items ≡ text.old.items ++ yes_line word.now yes) }
 {
     text.extend_from_slice(word)?;
@@ -264,8 +281,12 @@ fn put_yes_line(text: &mut Vec<u8>, word: &[u8], yes: bool) -> Result<(), AllocE
     }
 }
 
-// The totals.
-fn put_totals(text: &mut Vec<u8>, told: &[Told]) -> Result<(), AllocError>
+/// Adds the totals.
+///
+/// # Errors
+///
+/// An allocation was refused; the text has what it had, and perhaps a part of this.
+pub fn put_totals(text: &mut Vec<u8>, told: &[Told]) -> Result<(), AllocError>
     requires { length told.now < 2 ^ 32 }
     ensures { OnOk result (text.new.items ≡ text.old.items ++ totals_text told.now) }
 {

@@ -86,8 +86,8 @@ fn fault_numbers(alloc: Global, explanation: &Explanation) -> Result<Vec<usize>,
     }
 }
 
-// The block of a condition by what explains that it is false.
-fn block_of<'a>(
+// The block of a condition by what explains that it is false, and the numbers of the false conjuncts.
+fn block_with<'a>(
     alloc: Global,
     outline: &Outline,
     index: &Index<'a>,
@@ -118,6 +118,35 @@ fn block_of<'a>(
     })
 }
 
+/// The block of a condition that is false in a state, with these values, by what explains that.
+///
+/// # Errors
+///
+/// `Open` where a value leaves 128 bits. `Memory` where an allocation was refused.
+pub fn block_of<'a>(
+    alloc: Global,
+    outline: &Outline,
+    index: &Index<'a>,
+    condition: &Condition,
+    values: Values,
+    explanation: Explanation<'a>,
+) -> Result<Block<'a>, Unexplained>
+    ensures { IfOk result (λ b. (b.kind ≡ condition.now.kind) × (b.values ≡ values) × (b.explanation ≡ explanation.entry)
+        × (b.conjuncts.items ≡ fault_numbers explanation.entry.after explanation.entry.fault)) }
+{
+    let numbers = fault_numbers(alloc, &explanation)?;
+    let block = block_with(
+        alloc,
+        outline,
+        index,
+        condition,
+        values,
+        explanation,
+        numbers,
+    )?;
+    Ok(block)
+}
+
 // The block of a condition that is false in the state.
 fn block_at<'a>(
     alloc: Global,
@@ -132,18 +161,8 @@ fn block_at<'a>(
     ensures state { IfOk result (λ b. b.values ≡ state.now) }
 {
     let explanation = explain(alloc, outline, index, condition, state)?;
-    let numbers = fault_numbers(alloc, &explanation)?;
     let values = Values::of(alloc, state)?;
-    let block = block_of(
-        alloc,
-        outline,
-        index,
-        condition,
-        values,
-        explanation,
-        numbers,
-    )?;
-    Ok(block)
+    block_of(alloc, outline, index, condition, values, explanation)
 }
 
 // What is told of a condition that is false in the state.

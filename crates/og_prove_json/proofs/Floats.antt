@@ -102,7 +102,7 @@ no_float_place : (f : ℕ → ℕ) (at : Option ℕ) → optional_has_float (opt
 no_float_place f None = refl
 no_float_place f (Some at) = refl
 
-no_float_told : (names : List (List ℕ)) (source : List ℕ) (n : ℕ) (c : Condition) (t : Told) → has_float (told_data names source n c t) ≡ false
+pub no_float_told : (names : List (List ℕ)) (source : List ℕ) (n : ℕ) (c : Condition) (t : Told) → has_float (told_data names source n c t) ≡ false
 no_float_told names source n c t =
     let middle = middle_members names source n c t in
     let column = option_map (λ at. natural (column_at source at)) c.action_at in
@@ -112,7 +112,7 @@ no_float_told names source n c t =
     (no_float_if (codes "action_line") line after (no_float_place (line_at source) c.action_at)
     (no_float_if (codes "after") (after_member names t) middle (no_float_after names t) (no_float_middle names source n c t)))
 
-no_float_step : (d : Data) (rest : List Data) (b : Bool) → has_float d ≡ false → items_have_float (items_of rest) ≡ false → items_have_float (items_of (cond b [] (d ∷ []) ++ rest)) ≡ false
+pub no_float_step : (d : Data) (rest : List Data) (b : Bool) → has_float d ≡ false → items_have_float (items_of rest) ≡ false → items_have_float (items_of (cond b [] (d ∷ []) ++ rest)) ≡ false
 no_float_step d rest true p q = q
 no_float_step d rest false p q = neither (has_float d) (items_have_float (items_of rest)) p q
 

@@ -39,6 +39,17 @@ after_of (fault.False note found) (Some site) after = Some after
 after_of (fault.TooLarge x v) action after = None
 after_of (fault.Blocked stands) action after = None
 
+-- the totals, with the conditions that are not proved
+abbrev pub totals_data : List Told → Data → Data
+totals_data ts unproved = object
+    (member (codes "conditions") (natural (length ts))
+    (member (codes "false") (natural (count_by is_false ts))
+    (member (codes "open") (natural (count_by is_open ts))
+    (member (codes "proved") (natural (count_by is_proved ts))
+    (member (codes "safe") (boolean (is_safe ts))
+    (member (codes "unblocked") (boolean (is_unblocked ts))
+    (member (codes "unproved") unproved no_members)))))))
+
 -- ---- a false condition
 
 module _ (names : List (List ℕ)) where
@@ -116,14 +127,7 @@ module _ (names : List (List ℕ)) (source : List ℕ) where
   unproved_data n (c ∷ cs) (t ∷ ts) = (if is_proved t then [] else told_data n c t ∷ []) ++ unproved_data (n + 1) cs ts
 
   abbrev pub report_data : List Condition → List Told → Data
-  report_data cs ts = object
-      (member (codes "conditions") (natural (length ts))
-      (member (codes "false") (natural (count_by is_false ts))
-      (member (codes "open") (natural (count_by is_open ts))
-      (member (codes "proved") (natural (count_by is_proved ts))
-      (member (codes "safe") (boolean (is_safe ts))
-      (member (codes "unblocked") (boolean (is_unblocked ts))
-      (member (codes "unproved") (array (items_of (unproved_data 1 cs ts))) no_members)))))))
+  report_data cs ts = totals_data ts (array (items_of (unproved_data 1 cs ts)))
 
   abbrev pub json_text : List Condition → List Told → List ℕ
   json_text cs ts = compact_text (report_data cs ts)

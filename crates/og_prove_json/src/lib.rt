@@ -9,5 +9,6 @@ mod unproved;
 mod values;
 
 pub use faults::conjunct_values;
-pub use reporting::json;
+pub use reporting::{json, totals_value};
+pub use unproved::told_value;
 pub use values::{put_optional, put_values};

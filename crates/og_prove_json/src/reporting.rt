@@ -1,13 +1,11 @@
 //! The whole of it.
 
-ghost use Rattle.std.specs.Prelude.{◌≡◌, ◌<◌, ◌≤◌, ◌^◌, [], ◌∷◌, ◌++◌, length, count_by, map, codes, true, IfOk};
-ghost use Rattle.serde_json.specs.Data.{object, member, no_members, boolean};
+ghost use Rattle.std.specs.Prelude.{◌≡◌, ◌<◌, ◌≤◌, ◌^◌, [], ◌∷◌, ◌++◌, length, count_by, map, true, IfOk};
 ghost use Rattle.serde_json.specs.View.{view};
-ghost use Rattle.og_json.specs.Numbers.{natural};
 ghost use Rattle.og_cond.specs.Seen.{seen};
 ghost use Rattle.og_prove.specs.Report.{is_proved, is_false, is_open, is_safe, is_unblocked};
 ghost use Rattle.og_report.specs.Yes.{SaysUnblocked};
-ghost use Rattle.og_prove_json.specs.Json.{report_data, json_text};
+ghost use Rattle.og_prove_json.specs.Json.{totals_data, report_data, json_text};
 
 use crate::unproved::unproved_values;
 use og_cond::Condition;
@@ -51,16 +49,13 @@ fn count_open(told: &[Told]) -> usize
     told.iter().filter(|each| is_open(each)).count()
 }
 
-// The totals, with the conditions that are not proved.
-fn totals_value(alloc: Global, told: &[Told], unproved: Value) -> Result<Value, AllocError>
-    ensures { IfOk result (λ v. view v ≡ object
-        (member (codes "conditions") (natural (length told.now))
-        (member (codes "false") (natural (count_by is_false told.now))
-        (member (codes "open") (natural (count_by is_open told.now))
-        (member (codes "proved") (natural (count_by is_proved told.now))
-        (member (codes "safe") (boolean (is_safe told.now))
-        (member (codes "unblocked") (boolean (is_unblocked told.now))
-        (member (codes "unproved") (view unproved) no_members)))))))) }
+/// The totals, with the values of the conditions that are not proved.
+///
+/// # Errors
+///
+/// An allocation was refused.
+pub fn totals_value(alloc: Global, told: &[Told], unproved: Value) -> Result<Value, AllocError>
+    ensures { IfOk result (λ v. view v ≡ totals_data told.now (view unproved)) }
 {
     let conditions = told.len() as u64;
     let refuted = count_false(told) as u64;

@@ -90,8 +90,12 @@ fn put_first(
     put_number(members, alloc, "action_column", action.column as u64)
 }
 
-// The value of a condition.
-fn told_value(
+/// The value of a condition, by its number from 1.
+///
+/// # Errors
+///
+/// An allocation was refused.
+pub fn told_value(
     alloc: Global,
     names: &[Name],
     places: &Places,

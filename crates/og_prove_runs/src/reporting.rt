@@ -1,0 +1,151 @@
+//! What is told of all conditions of an outline, with the runs.
+
+ghost use Rattle.std.specs.Prelude.{◌≡◌, ◌++◌, ◌<◌, ◌≤◌, ◌^◌, ℕ, List, [], Some, None, length, map, IfOk, OnOk};
+ghost use Rattle.og_cond.specs.Seen.{seen};
+ghost use Rattle.og_cert_read.specs.Firsts.{found as number_of};
+ghost use Rattle.og_prove.specs.Effects.{after_told};
+ghost use Rattle.og_prove.specs.Report.{told_text};
+ghost use Rattle.og_prove_runs.specs.Report.{line_of, count_reached, explored_text, told_lines, report_text};
+
+use crate::lines::{Explored, put_run_line};
+use og_cond::Condition;
+use og_listing::Places;
+use og_origins::Origins;
+use og_prove::{Firsts, Page, Told, put_number_line, put_told, put_totals, put_yes_line};
+use og_typed::Outline;
+use og_witness::Run;
+use std::alloc::{AllocError, Global};
+
+// The line of the run of a false condition.
+fn put_line(
+    text: &mut Vec<u8>,
+    outline: &Outline,
+    explored: Explored,
+    told: &Told,
+    run: &Run,
+) -> Result<(), AllocError>
+    ensures { OnOk result (text.new.items ≡ text.old.items ++ line_of outline.now explored told.now run.now) }
+{
+    match told {
+        Told::False(_) => put_run_line(text, outline, explored, run),
+        Told::Proved | Told::Open => Ok(()),
+    }
+}
+
+// What is told of a condition, and the line of its run.
+fn put_one(
+    text: &mut Vec<u8>,
+    firsts: &mut Firsts,
+    outline: &Outline,
+    page: Page,
+    explored: Explored,
+    number: u128,
+    condition: &Condition,
+    told: &Told,
+    run: &Run,
+) -> Result<(), AllocError>
+    requires places { page.origins.now.places.now ≡ page.origins.now.source.now }
+    requires rows { page.origins.now.rows ≡ None }
+    requires names { page.names.now ≡ outline.now.names }
+    ensures text { OnOk result (text.new.items ≡ text.old.items
+        ++ (told_text outline.now.names page.entry.origins.now.source.now None (λ t. number_of t firsts.old) number (seen condition.now) (Some 0) told.now ++ line_of outline.now explored told.now run.now)) }
+    ensures firsts { OnOk result ((t : List ℕ) → number_of t firsts.new
+        ≡ after_told outline.now.names page.entry.origins.now.source.now None told.now t number (number_of t firsts.old)) }
+{
+    put_told(text, firsts, page, number, condition, Some(0), told)?;
+    put_line(text, outline, explored, told, run)
+}
+
+// What is told of each condition, numbered from 1.
+fn put_all(
+    text: &mut Vec<u8>,
+    outline: &Outline,
+    page: Page,
+    explored: Explored,
+    conditions: &[Condition],
+    told: &[Told],
+    runs: &[Run],
+) -> Result<(), AllocError>
+    requires places { page.origins.now.places.now ≡ page.origins.now.source.now }
+    requires rows { page.origins.now.rows ≡ None }
+    requires names { page.names.now ≡ outline.now.names }
+    requires each { length told.now ≡ length conditions.now }
+    requires run { length runs.now ≡ length conditions.now }
+    ensures { OnOk result (text.new.items ≡ text.old.items ++ told_lines outline.now explored page.entry.origins.now.source.now [] (map seen conditions.now) told.now runs.now) }
+{
+    let mut firsts = Firsts::new(*text.allocator());
+    for index in 0..conditions.len() {
+        let number = index as u128 + 1;
+        put_one(
+            text,
+            &mut firsts,
+            outline,
+            page,
+            explored,
+            number,
+            &conditions[index],
+            &told[index],
+            &runs[index],
+        )?;
+    }
+    Ok(())
+}
+
+/// How many runs get there. Takes no memory.
+pub fn count_reached(runs: &[Run]) -> usize
+    ensures value { result ≡ count_reached runs.now }
+    ensures few { result ≤ length runs.now }
+{
+    let mut count = 0;
+    for run in runs {
+        if let Run::Reached(_) = run {
+            count += 1;
+        }
+    }
+    count
+}
+
+// How far the exploration went.
+fn put_explored(text: &mut Vec<u8>, explored: Explored, runs: &[Run]) -> Result<(), AllocError>
+    ensures { OnOk result (text.new.items ≡ text.old.items ++ explored_text explored runs.now) }
+{
+    put_number_line(text, b"starts", explored.starts as usize)?;
+    put_number_line(text, b"moments", explored.moments as usize)?;
+    put_yes_line(text, b"complete", explored.complete)?;
+    put_number_line(text, b"reached", count_reached(runs))
+}
+
+/// What is told of all conditions of an outline, as a text: those that are not proved, in order,
+/// each false one with what is known of the runs that get there, and the totals. Places are lines
+/// and columns of the source, which has at most 1,048,576 bytes.
+///
+/// # Errors
+///
+/// An allocation was refused.
+pub fn report(
+    alloc: Global,
+    outline: &Outline,
+    source: &[u8],
+    explored: Explored,
+    conditions: &[Condition],
+    told: &[Told],
+    runs: &[Run],
+) -> Result<Vec<u8>, AllocError>
+    requires short { length source.now ≤ 2 ^ 20 }
+    requires each { length told.now ≡ length conditions.now }
+    requires run { length runs.now ≡ length conditions.now }
+    requires few { length told.now < 2 ^ 32 }
+    ensures { IfOk result (λ text. text.items ≡ report_text outline.now explored source.now (map seen conditions.now) told.now runs.now) }
+{
+    let places = Places::new(alloc, source)?;
+    let origins = Origins::own(source, &places);
+    let mut text = Vec::new(alloc);
+    let page = Page {
+        names: outline.names(),
+        origins: &origins,
+    };
+    put_all(&mut text, outline, page, explored, conditions, told, runs)?;
+    put_totals(&mut text, told)?;
+    put_explored(&mut text, explored, runs)?;
+    Ok(text)
+}

@@ -1,0 +1,4 @@
+pub mod Answered
+pub mod Lists
+pub mod Promised
+pub mod Told

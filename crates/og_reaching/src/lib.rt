@@ -1,0 +1,15 @@
+//! Proving an outline, and looking for the runs that get to the states in which its conditions are
+//! false: what is printed of it, and the status.
+//!
+//! specs/Followed.antt says what is promised of what is told, specs/Proving.antt of an answer.
+#![tactic(auto)]
+
+mod following;
+mod proving;
+mod showing;
+mod starting;
+mod telling;
+
+pub use following::{Followed, follow};
+pub use proving::proved_with_runs;
+pub use showing::Shows;

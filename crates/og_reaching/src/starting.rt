@@ -1,0 +1,225 @@
+//! The starts of the runs. Nothing is promised of which values are chosen.
+
+ghost use Rattle.std.specs.Prelude.{map, IfOk, OnOk};
+ghost use Rattle.og_explore.specs.From.{HaveLength};
+
+use og_explore::Range;
+use og_explorer::{only, ranges};
+use og_find::Verdict;
+use og_finder::Findings;
+use og_linear::State;
+use og_typed::{Basic, Outline, Seq, Stmt};
+use og_values::Values;
+use std::alloc::{AllocError, Global};
+
+// How many starts are taken where no word gives a range.
+const MOST_STARTS: usize = 64;
+
+#[cycle(assigning)]
+fn assigns(seq: &Seq, var: u32) -> bool {
+    for item in &seq.items {
+        if assigns_in(&item.stmt, var) {
+            return true;
+        }
+    }
+    false
+}
+
+// Whether a statement assigns the variable.
+#[cycle(assigning)]
+fn assigns_in(stmt: &Stmt, var: u32) -> bool {
+    match stmt {
+        Stmt::Skip => false,
+        Stmt::Assign(assigned, _) => *assigned == var,
+        Stmt::While(_, body) => assigns(body, var),
+        Stmt::If(_, branch, other) => {
+            assigns(branch, var)
+                || match other {
+                    Some(other) => assigns(other, var),
+                    None => false,
+                }
+        }
+        Stmt::Await(_, body) => is_assigned(body, var),
+    }
+}
+
+fn is_assigned(body: &[Basic], var: u32) -> bool {
+    body.iter().any(|basic| match basic {
+        Basic::Assign(assigned, _) => *assigned == var,
+        Basic::Skip => false,
+    })
+}
+
+// Whether a statement of the outline assigns the variable.
+fn is_changed(outline: &Outline, var: u32) -> bool {
+    for process in outline.processes() {
+        if assigns(process, var) {
+            return true;
+        }
+    }
+    let first = match outline.prologue() {
+        Some(seq) => assigns(seq, var),
+        None => false,
+    };
+    let last = match outline.epilogue() {
+        Some(seq) => assigns(seq, var),
+        None => false,
+    };
+    first || last
+}
+
+// Whether the precondition is true where the variables that are no auxiliaries have these values.
+fn is_start(alloc: Global, outline: &Outline, values: &[i64]) -> Result<bool, AllocError> {
+    let mut all = Vec::from_slice(alloc, values)?;
+    all.extend_from_slice(outline.aux_values())?;
+    let state = State::new(all);
+    let values = Values::of(alloc, &state)?;
+    Ok(values.truth(&outline.pre().assertion) == Some(true))
+}
+
+// Adds a start, unless it stands there or is none.
+fn add_start(
+    alloc: Global,
+    outline: &Outline,
+    starts: &mut Vec<Vec<i64>>,
+    values: Vec<i64>,
+) -> Result<(), AllocError> {
+    if starts.iter().any(|start| *start == values) {
+        return Ok(());
+    }
+    if starts.len() < MOST_STARTS && is_start(alloc, outline, &values)? {
+        starts.push(values)?;
+    }
+    Ok(())
+}
+
+// Adds two starts: the first one with the state's values of the variables that nothing assigns, and
+// with those of all.
+fn add_two(
+    alloc: Global,
+    outline: &Outline,
+    starts: &mut Vec<Vec<i64>>,
+    first: &[i64],
+    state: &State,
+) -> Result<(), AllocError> {
+    let state = state.as_slice();
+    let mut near = Vec::new(alloc);
+    let mut far = Vec::new(alloc);
+    for (var, value) in first.iter().enumerate() {
+        let other = state.get(var).copied().unwrap_or(*value);
+        let changed = is_changed(outline, u32::try_from(var).unwrap_or(u32::MAX));
+        near.push(if changed { *value } else { other })?;
+        far.push(other)?;
+    }
+    add_start(alloc, outline, starts, near)?;
+    add_start(alloc, outline, starts, far)
+}
+
+// The starts where no word gives a range: the first one, and two for each condition that is false in
+// a state, while there are few.
+fn starts_of(
+    alloc: Global,
+    outline: &Outline,
+    conditions: usize,
+    first: &[i64],
+    findings: &Findings,
+) -> Result<Vec<Vec<i64>>, AllocError> {
+    let mut starts = Vec::new(alloc);
+    starts.push(Vec::from_slice(alloc, first)?)?;
+    for i in 0..conditions {
+        if let Some(Verdict::False(state)) = findings.verdict(i) {
+            add_two(alloc, outline, &mut starts, first, state)?;
+        }
+    }
+    Ok(starts)
+}
+
+// A range of one value for each of these.
+fn points(alloc: Global, values: &[i64]) -> Result<Vec<Range>, AllocError> {
+    let mut ranges = Vec::new(alloc);
+    for value in values {
+        ranges.push(only(*value))?;
+    }
+    Ok(ranges)
+}
+
+// Adds a list of ranges, where there is one for each variable that is no auxiliary.
+#[tactic(auto, using(crate::proofs::Lists::have_pushed))]
+fn add_list(
+    lists: &mut Vec<Vec<Range>>,
+    outline: &Outline,
+    list: Vec<Range>,
+) -> Result<(), AllocError>
+    requires { HaveLength outline.now.vars (map (λ l. l.items) lists.old.items) }
+    ensures { OnOk result (HaveLength outline.now.vars (map (λ l. l.items) lists.new.items)) }
+{
+    if list.len() != outline.vars() as usize {
+        return Ok(());
+    }
+    lists.push(list)?;
+    Ok(())
+}
+
+// The lists of ranges of these starts.
+#[tactic(auto, using(crate::proofs::Lists::have_none))]
+fn lists_of(
+    alloc: Global,
+    outline: &Outline,
+    starts: &[Vec<i64>],
+) -> Result<Vec<Vec<Range>>, AllocError>
+    ensures { IfOk result (λ lists. HaveLength outline.now.vars (map (λ l. l.items) lists.items)) }
+{
+    let mut lists = Vec::new(alloc);
+    for start in starts {
+        add_list(&mut lists, outline, points(alloc, start)?)?;
+    }
+    Ok(lists)
+}
+
+// The one list of ranges.
+#[tactic(auto, using(crate::proofs::Lists::have_none))]
+fn one_list(
+    alloc: Global,
+    outline: &Outline,
+    list: Vec<Range>,
+) -> Result<Vec<Vec<Range>>, AllocError>
+    ensures { IfOk result (λ lists. HaveLength outline.now.vars (map (λ l. l.items) lists.items)) }
+{
+    let mut lists = Vec::new(alloc);
+    add_list(&mut lists, outline, list)?;
+    Ok(lists)
+}
+
+// The least value of each range.
+fn least(alloc: Global, ranges: &[Range]) -> Result<Vec<i64>, AllocError> {
+    let mut values = Vec::new(alloc);
+    for range in ranges {
+        values.push(range.low())?;
+    }
+    Ok(values)
+}
+
+/// The lists of ranges within which runs start: that of the words where some are given, as for an
+/// exploration; else one start that a search finds for the precondition, and for each of so many
+/// conditions that is false in a state two more, up to 64.
+///
+/// # Errors
+///
+/// An allocation was refused.
+pub(crate) fn starts(
+    alloc: Global,
+    outline: &Outline,
+    conditions: usize,
+    given: &[Option<Range>],
+    findings: &Findings,
+) -> Result<Vec<Vec<Range>>, AllocError>
+    ensures { IfOk result (λ lists. HaveLength outline.now.vars (map (λ l. l.items) lists.items)) }
+{
+    let ranges = ranges(alloc, outline, given)?;
+    if given.iter().any(|range| range.is_some()) {
+        return one_list(alloc, outline, ranges);
+    }
+    let first = least(alloc, &ranges)?;
+    let starts = starts_of(alloc, outline, conditions, &first, findings)?;
+    lists_of(alloc, outline, &starts)
+}
