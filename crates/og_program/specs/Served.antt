@@ -35,6 +35,7 @@ use Rattle.og_remark.specs.Remarks.{IsSourceRemark, IsConditionsRemark, IsTooMan
 use Rattle.og_remark.specs.Starting.{IsRunRemark, IsProvedRunRemark}
 use Rattle.og_remark.specs.Values.{schedule_text, reason_line, IsValueRemark}
 use Rattle.og_remark.specs.declared.values.Gives.TheVariants as gives
+use Rattle.og_reaching.specs.Proving as proving
 use Rattle.og_report.specs.Yes.{SaysUnblocked}
 use Rattle.og_running.specs.Running.{IsRan, IsRanProved}
 use Rattle.og_running.specs.Scheduled.{IsScheduled}
@@ -42,6 +43,8 @@ use Rattle.og_running.specs.Starts.{HasStart, HasProvedStart}
 use Rattle.og_running.specs.declared.reply.Ran.{Ran}
 use Rattle.og_running.specs.declared.reply.Reply.{Reply}
 use Rattle.og_running.specs.declared.reply.Reply.TheVariants as replies
+use Rattle.og_showing.specs.Running.{IsShowingRuns}
+use Rattle.og_showing.specs.Showing.{IsShowing}
 use Rattle.og_template_words.specs.Front.{is_template}
 use Rattle.og_words.specs.Jobs.{IsAsked}
 use Rattle.og_words.specs.declared.job.Job.{Job}
@@ -84,6 +87,9 @@ Checks json name certs_name source certs t =
 
 abbrev pub NotesOn : List ℕ → List ℕ → Told → Type 0
 NotesOn name source t = IsNoted source t.answer × Remarks (IsSourceRemark name source) t
+
+abbrev pub Shows : List ℕ → List ℕ → Told → Type 0
+Shows name source t = IsShowing source t.answer × Remarks (IsConditionsRemark name source) t
 
 -- how conditions are listed, by the flags that are given
 abbrev pub form_of : Bool → Bool → Form
@@ -194,6 +200,16 @@ OfRun files input name limit erased None (Some schedule) words outcome =
 OfRun files input name limit erased (Some certs) schedule words outcome =
     OfBoth files input name certs.now (λ s c. Runs (IsRanProved limit s c words) (IsProvedRunRemark name certs.now s c words) (IsWordRemark s None)) outcome
 
+-- what searches tell of the conditions and of runs, from the starts that the words give
+abbrev pub ProvesRuns : Bool → List (List ℕ) → List ℕ → List ℕ → Outcome → Type 0
+ProvesRuns json words name source outcome =
+    (reply : Exploring) × proving.IsReply json source words reply × FollowsExploring (IsConditionsRemark name source) (IsValueRemark gives.Ranges source) reply outcome
+
+-- the same as a page
+abbrev pub ShowsRuns : List (List ℕ) → List ℕ → List ℕ → Outcome → Type 0
+ShowsRuns words name source outcome =
+    (reply : Exploring) × IsShowingRuns source words reply × FollowsExploring (IsConditionsRemark name source) (IsValueRemark gives.Ranges source) reply outcome
+
 -- an exploration, without auxiliaries or with them, as JSON or as a text
 abbrev pub Explores : Bool → Bool → List (List ℕ) → List ℕ → List ℕ → Outcome → Type 0
 Explores erased json words name source outcome =
@@ -213,8 +229,11 @@ Expands as_map words name template outcome =
 abbrev pub Comes : (List ℕ → Option (List ℕ)) → Option (List ℕ) → Job → Outcome → Type 0
 Comes files input jobs.Joined = OfJoined input
 Comes files input (jobs.Prove source budget workers json values) = OfSource files input source.now (Proves json (map (λ w. w.now) values.items) source.now)
+Comes files input (jobs.ProveRuns source budget workers json limit ranges) = OfSource files input source.now (ProvesRuns json (map (λ w. w.now) ranges.items) source.now)
 Comes files input (jobs.Check source certs workers json) = OfBoth files input source.now certs.now (λ s c. OnTold (Checks json source.now certs.now s c))
 Comes files input (jobs.Notes source budget) = OfSource files input source.now (λ s. OnTold (NotesOn source.now s))
+Comes files input (jobs.Show source budget workers) = OfSource files input source.now (λ s. OnTold (Shows source.now s))
+Comes files input (jobs.ShowRuns source budget workers limit ranges) = OfSource files input source.now (ShowsRuns (map (λ w. w.now) ranges.items) source.now)
 Comes files input (jobs.Conditions source triples smt2 only) = OfSource files input source.now (Lists (form_of triples smt2) only source.now)
 Comes files input (jobs.Find source budget workers version) = OfSource files input source.now (λ s. OnTold (Finds version source.now s))
 Comes files input (jobs.Erase source readable) = OfSource files input source.now (λ s. OnTold (Erases readable source.now s))
@@ -250,8 +269,11 @@ Refuses files input job text = (outcome : Outcome) × Comes files input job outc
 abbrev pub Opens : Job → List ℕ → Type 0
 Opens jobs.Joined = λ name. name ≡ codes "-"
 Opens (jobs.Prove source budget workers json values) = λ name. name ≡ source.now
+Opens (jobs.ProveRuns source budget workers json limit ranges) = λ name. name ≡ source.now
 Opens (jobs.Check source certs workers json) = λ name. (name ≡ source.now) ⊎ (name ≡ certs.now)
 Opens (jobs.Notes source budget) = λ name. name ≡ source.now
+Opens (jobs.Show source budget workers) = λ name. name ≡ source.now
+Opens (jobs.ShowRuns source budget workers limit ranges) = λ name. name ≡ source.now
 Opens (jobs.Conditions source triples smt2 only) = λ name. name ≡ source.now
 Opens (jobs.Find source budget workers version) = λ name. name ≡ source.now
 Opens (jobs.Erase source readable) = λ name. name ≡ source.now
@@ -269,8 +291,11 @@ lacks_given missing source (Some certs) = lacks_certs missing source certs.now
 abbrev pub lacks : (List ℕ → Bool) → Job → Bool
 lacks missing jobs.Joined = false
 lacks missing (jobs.Prove source budget workers json values) = lacks_bytes missing source.now
+lacks missing (jobs.ProveRuns source budget workers json limit ranges) = lacks_bytes missing source.now
 lacks missing (jobs.Check source certs workers json) = lacks_bytes missing source.now || lacks_certs missing source.now certs.now
 lacks missing (jobs.Notes source budget) = lacks_bytes missing source.now
+lacks missing (jobs.Show source budget workers) = lacks_bytes missing source.now
+lacks missing (jobs.ShowRuns source budget workers limit ranges) = lacks_bytes missing source.now
 lacks missing (jobs.Conditions source triples smt2 only) = lacks_bytes missing source.now
 lacks missing (jobs.Find source budget workers version) = lacks_bytes missing source.now
 lacks missing (jobs.Erase source readable) = lacks_bytes missing source.now
@@ -288,8 +313,11 @@ reads_given (Some certs) = not (is_file certs.now)
 abbrev pub reads_input : Job → Bool
 reads_input jobs.Joined = true
 reads_input (jobs.Prove source budget workers json values) = not (is_file source.now)
+reads_input (jobs.ProveRuns source budget workers json limit ranges) = not (is_file source.now)
 reads_input (jobs.Check source certs workers json) = not (is_file source.now) || not (is_file certs.now)
 reads_input (jobs.Notes source budget) = not (is_file source.now)
+reads_input (jobs.Show source budget workers) = not (is_file source.now)
+reads_input (jobs.ShowRuns source budget workers limit ranges) = not (is_file source.now)
 reads_input (jobs.Conditions source triples smt2 only) = not (is_file source.now)
 reads_input (jobs.Find source budget workers version) = not (is_file source.now)
 reads_input (jobs.Erase source readable) = not (is_file source.now)
@@ -312,8 +340,11 @@ StartsAs files input source erased (Some certs) schedule words = StartsProved fi
 abbrev pub StartsThreads : (List ℕ → Option (List ℕ)) → Option (List ℕ) → Job → Type 0
 StartsThreads files input jobs.Joined = ⊥
 StartsThreads files input (jobs.Prove source budget workers json values) = 1 < workers
+StartsThreads files input (jobs.ProveRuns source budget workers json limit ranges) = 1 < workers
 StartsThreads files input (jobs.Check source certs workers json) = 1 < workers
 StartsThreads files input (jobs.Notes source budget) = ⊥
+StartsThreads files input (jobs.Show source budget workers) = 1 < workers
+StartsThreads files input (jobs.ShowRuns source budget workers limit ranges) = 1 < workers
 StartsThreads files input (jobs.Conditions source triples smt2 only) = ⊥
 StartsThreads files input (jobs.Find source budget workers version) = 1 < workers
 StartsThreads files input (jobs.Erase source readable) = ⊥
@@ -359,8 +390,11 @@ IsProvenRun source (Some certs) = Reads source_of source IsProvenSource
 abbrev pub IsProvenIn : (List ℕ → Option (List ℕ)) → Option (List ℕ) → Job → Type 0
 IsProvenIn files input jobs.Joined = Reads joined_of input HasProvenSource
 IsProvenIn files input (jobs.Prove source budget workers json values) = Reads source_of (bytes_in files input source.now) proof.IsProvenText
+IsProvenIn files input (jobs.ProveRuns source budget workers json limit ranges) = Reads source_of (bytes_in files input source.now) IsProvenSource
 IsProvenIn files input (jobs.Check source certs workers json) = Reads source_of (bytes_in files input source.now) IsProvenSource
 IsProvenIn files input (jobs.Notes source budget) = ⊤
+IsProvenIn files input (jobs.Show source budget workers) = Reads source_of (bytes_in files input source.now) IsProvenSource
+IsProvenIn files input (jobs.ShowRuns source budget workers limit ranges) = Reads source_of (bytes_in files input source.now) IsProvenSource
 IsProvenIn files input (jobs.Conditions source triples smt2 only) = ⊤
 IsProvenIn files input (jobs.Find source budget workers version) = ⊤
 IsProvenIn files input (jobs.Erase source readable) = ⊤
@@ -374,9 +408,12 @@ abbrev pub IsNeverStuckIn : (List ℕ → Option (List ℕ)) → Option (List �
 IsNeverStuckIn files input before after jobs.Joined = Wrote (SaysUnblocked false) before after → Reads joined_of input HasNeverStuckSource
 IsNeverStuckIn files input before after (jobs.Prove source budget workers json values) =
     Wrote (SaysUnblocked json) before after → Reads source_of (bytes_in files input source.now) proof.IsNeverStuckText
+IsNeverStuckIn files input before after (jobs.ProveRuns source budget workers json limit ranges) = ⊤
 IsNeverStuckIn files input before after (jobs.Check source certs workers json) =
     Wrote (SaysUnblocked json) before after → Reads source_of (bytes_in files input source.now) IsNeverStuckSource
 IsNeverStuckIn files input before after (jobs.Notes source budget) = ⊤
+IsNeverStuckIn files input before after (jobs.Show source budget workers) = ⊤
+IsNeverStuckIn files input before after (jobs.ShowRuns source budget workers limit ranges) = ⊤
 IsNeverStuckIn files input before after (jobs.Conditions source triples smt2 only) = ⊤
 IsNeverStuckIn files input before after (jobs.Find source budget workers version) = ⊤
 IsNeverStuckIn files input before after (jobs.Erase source readable) = ⊤

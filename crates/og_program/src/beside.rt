@@ -251,6 +251,28 @@ pub(crate) fn beside_proved_run<'a, H: Threads + Wait + Sync>(
     }
 }
 
+// A word that gives no variable a range.
+fn bad_range<'a>(alloc: Global, source: &[u8], word: &'a str) -> Outcome<'a>
+    ensures { OnBad (IsValueRemark gives.Ranges source.now) word.entry result }
+{
+    Outcome::BadValue(bad_value(alloc, Gives::Ranges, source, word))
+}
+
+/// What is told of the reply to a proof of a source with runs.
+pub(crate) fn beside_runs<'a>(
+    alloc: Global,
+    name: &str,
+    source: &[u8],
+    reply: Explored<'a>,
+) -> Outcome<'a>
+    ensures { FollowsExploring (IsConditionsRemark name.now source.now) (IsValueRemark gives.Ranges source.now) reply.entry result }
+{
+    match reply {
+        Explored::Answer(answer) => Outcome::Told(beside_conditions(alloc, name, source, answer)),
+        Explored::BadValue(word) => bad_range(alloc, source, word),
+    }
+}
+
 /// What is told of the reply to an exploration of a source.
 pub(crate) fn beside_exploration<'a>(
     alloc: Global,
@@ -262,9 +284,7 @@ pub(crate) fn beside_exploration<'a>(
 {
     match reply {
         Explored::Answer(answer) => Outcome::Told(beside_source(alloc, name, source, answer)),
-        Explored::BadValue(word) => {
-            Outcome::BadValue(bad_value(alloc, Gives::Ranges, source, word))
-        }
+        Explored::BadValue(word) => bad_range(alloc, source, word),
     }
 }
 

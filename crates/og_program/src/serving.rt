@@ -51,6 +51,22 @@ impl<'r, F: Files, G: Gate, H: Threads + Wait + Sync> Program<'r, F, G, H> {
                 };
                 self.prove(source, values, search, input)
             }
+            Job::ProveRuns {
+                source,
+                budget,
+                workers,
+                json,
+                limit,
+                ranges,
+            } => {
+                let (budget, workers, json) = (*budget, *workers, *json);
+                let search = Search {
+                    budget,
+                    workers,
+                    json,
+                };
+                self.prove_runs(source, ranges, search, *limit, input)
+            }
             Job::Check {
                 source,
                 certs,
@@ -64,6 +80,25 @@ impl<'r, F: Files, G: Gate, H: Threads + Wait + Sync> Program<'r, F, G, H> {
                 self.check(Names { source, certs }, options, input)
             }
             Job::Notes { source, budget } => notes(alloc, files, source, *budget, input),
+            Job::Show {
+                source,
+                budget,
+                workers,
+            } => self.show(source, *budget, *workers, input),
+            Job::ShowRuns {
+                source,
+                budget,
+                workers,
+                limit,
+                ranges,
+            } => {
+                let search = Search {
+                    budget: *budget,
+                    workers: *workers,
+                    json: false,
+                };
+                self.show_runs(source, ranges, search, *limit, input)
+            }
             Job::Conditions {
                 source,
                 triples,
@@ -163,7 +198,7 @@ fn explain<O: Write, E: Write>(alloc: Global, usage: Usage, out: &mut O, err: &m
 /// Does a job, or tells why there is none. What a command prints goes to `out`, with its status, from
 /// 0 to 2. Beside it goes to `err` why something is refused, how many certificates are missing for a
 /// check or were not found, or the line of a run along which an assertion is false; and else nothing.
-/// Status 0 of `prove`, of a check and of a run with certificates says that the source is proven; and
+/// Status 0 of `prove`, of `show`, of a check and of a run with certificates says that the source is proven; and
 /// where what was printed says that it is unblocked, that it never gets stuck. `input` is read where a
 /// source or certificates are named `-`, and for a job that has no files.
 ///

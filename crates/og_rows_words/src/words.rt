@@ -29,6 +29,14 @@ const JOBS: &[(&str, &str)] = &[
         "Prove { source: \"a\", budget: Budget { facts: 7 }, workers: Workers { count: 1 }, json: false, values: [\"N=3\", \"M=-2\"] }",
     ),
     (
+        "prove a --runs",
+        "ProveRuns { source: \"a\", budget: Budget { facts: 100000 }, workers: Workers { count: 1 }, json: false, limit: MomentLimit { moments: 100000 }, ranges: [] }",
+    ),
+    (
+        "prove a x=1 --runs --limit 5 --json y=2..3 --workers 2",
+        "ProveRuns { source: \"a\", budget: Budget { facts: 100000 }, workers: Workers { count: 2 }, json: true, limit: MomentLimit { moments: 5 }, ranges: [\"x=1\", \"y=2..3\"] }",
+    ),
+    (
         "check a b",
         "Check { source: \"a\", certs: \"b\", workers: Workers { count: 1 }, json: false }",
     ),
@@ -59,6 +67,14 @@ const JOBS: &[(&str, &str)] = &[
     (
         "conditions --smt2 --only=x a",
         "Conditions { source: \"a\", triples: false, smt2: true, only: Some(\"x\") }",
+    ),
+    (
+        "show a",
+        "Show { source: \"a\", budget: Budget { facts: 100000 }, workers: Workers { count: 1 } }",
+    ),
+    (
+        "show --workers 2 --budget 7 -",
+        "Show { source: \"-\", budget: Budget { facts: 7 }, workers: Workers { count: 2 } }",
     ),
     (
         "find a",
@@ -144,11 +160,17 @@ const NO_JOBS: &[(&str, &str)] = &[
     ("prove a --budget 1000000001", "wrong"),
     ("prove a --workers 0", "wrong"),
     ("prove a --workers 65", "wrong"),
+    ("prove a --limit 5", "wrong"),
+    ("prove a --runs --limit 0", "wrong"),
+    ("prove a --runs --limit 1000001", "wrong"),
     ("check", "wrong"),
     ("check a", "wrong"),
     ("check a b c", "wrong"),
     ("check a b --workers 0", "wrong"),
     ("check a b --workers 65", "wrong"),
+    ("show", "wrong"),
+    ("show a b", "wrong"),
+    ("show a --json", "wrong"),
     ("find a --budget 0", "wrong"),
     ("find a --budget 1000000001", "wrong"),
     ("find a --workers 0", "wrong"),
@@ -170,6 +192,7 @@ const NO_JOBS: &[(&str, &str)] = &[
     ("prove --help", "asked"),
     ("check --help", "asked"),
     ("find --help", "asked"),
+    ("show --help", "asked"),
 ];
 
 // The words of a line, cut at single blanks.

@@ -1,6 +1,11 @@
 -- Arguments and commands that are added to a command.
-use Rattle.std.proofs.Common.{◌≡◌, ◌∙◌, ◌||◌, ◌++◌, ◌∷◌, [], ap, ap₂, false, Result, Ok, Err, IfOk, IsOkAnd}
-use Rattle.clap.specs.Words.{AddsArg, App, Rule, Shape, app_of, shape_of, with_rule, with_subcommand}
+use Rattle.std.proofs.Common.{◌≡◌, ◌<◌, ◌∙◌, ◌||◌, ◌&&◌, ◌++◌, ◌∷◌, [], ℕ, List, length, length-append, arith, refl, sym, ap, ap₂, subst, Bool, true, false, Result, Ok, Err, IfOk, IsOkAnd}
+use Rattle.std.specs.Prelude.{◌==◌}
+use Rattle.std.proofs.lemmas.Bool.Decides.{nat_tests}
+use Rattle.std.specs.Borrow.{Bor}
+use Rattle.clap.specs.Words.{AddsArg, App, Rule, Shape, app_of, rule_of, shape_of, with_rule, with_subcommand}
+use Rattle.clap.specs.Walk.{is_empty, is_free_arg}
+use Rattle.clap.specs.declared.builder.arg.ArgPredicate.{ArgPredicate}
 use Rattle.clap.specs.declared.builder.arg.Arg.{Arg}
 use Rattle.clap.specs.declared.builder.command.Command.{Command}
 use Rattle.clap.specs.declared.builder.command.Command.TheViews.{out-Command}
@@ -15,3 +20,23 @@ pub with_word : {E : Type 0} (old made : Command) (word : Result Command E) (now
     → IfOk word (IsCommand s) → app_of old ≡ now → app_of made ≡ with_subcommand now s
 with_word old made (Ok w) now s h is same = h is.1 ∙ (ap (λ (a : App). with_subcommand (app_of old) a.top) is.0 ∙ ap (λ (a : App). with_subcommand a s) same)
 with_word old made (Err e) now s h is same = absurd h
+
+-- ---- an argument that goes with another one alone
+
+above_0 : (n : ℕ) → 0 < n → (n == 0) ≡ false
+above_0 n h = grind (arith, nat_tests)
+
+not_empty : {X : Type 0} (xs : List X) (x : X) → is_empty (xs ++ x ∷ []) ≡ false
+not_empty xs x = let more = length-append xs (x ∷ []) in above_0 (length (xs ++ x ∷ [])) (omega (arith, more))
+
+third_false : (p q n r : Bool) → n ≡ false → (p && (q && (n && r))) ≡ false
+third_false false q n r e = refl
+third_false true false n r e = refl
+third_false true true n r e = ap (λ (b : Bool). b && r) e
+
+pub needing : (old new : Arg) (rule : Rule) (x : ArgPredicate × Bor (List ℕ)) → new ≡ record old { needs = new.needs } → new.needs.items ≡ old.needs.items ++ x ∷ [] → IsArg rule old → IsArg (record rule { is_free = false }) new
+needing old new rule x same more is =
+    let some : is_empty new.needs.items ≡ false = ap is_empty more ∙ not_empty old.needs.items x in
+    let bound : is_free_arg new ≡ false = third_false _ _ (is_empty new.needs.items) _ some in
+    let kept : rule_of new ≡ record (rule_of old) { is_free = is_free_arg new } = subst (λ (a : Arg). rule_of a ≡ record (rule_of old) { is_free = is_free_arg a }) (sym same) refl in
+    (kept ∙ ap (λ (b : Bool). record (rule_of old) { is_free = b }) bound ∙ ap (λ (r : Rule). record r { is_free = false }) is.0, ap (λ (a : Arg). a.global) same ∙ is.1)

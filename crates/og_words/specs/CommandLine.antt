@@ -71,18 +71,29 @@ limit = number (codes "limit") (codes "1000") (Signed (pos 0) (pos 1000000))
 abbrev pub moments : Rule
 moments = number (codes "limit") (codes "100000") (Signed (pos 1) (pos 1000000))
 
+-- the same, which goes with `--runs` alone
+abbrev pub run_moments : Rule
+run_moments = record moments { is_free = false }
+
+-- words that go with `--runs` alone
+abbrev pub run_ranges : Rule
+run_ranges = record ranges { is_free = false }
+
 -- a command with these arguments
 abbrev pub command : Text → List Rule → Shape
 command name rules = record (new_shape name) { rules = rules }
 
 abbrev pub prover : Shape
-prover = command (codes "prove") (source ∷ budget ∷ workers ∷ flag (codes "json") ∷ values ∷ [])
+prover = command (codes "prove") (source ∷ budget ∷ workers ∷ flag (codes "json") ∷ flag (codes "runs") ∷ run_moments ∷ ranges ∷ [])
 
 abbrev pub check : Shape
 check = command (codes "check") (source ∷ certs ∷ workers ∷ flag (codes "json") ∷ [])
 
 abbrev pub notes : Shape
 notes = command (codes "notes") (source ∷ budget ∷ [])
+
+abbrev pub show : Shape
+show = command (codes "show") (source ∷ budget ∷ workers ∷ flag (codes "runs") ∷ run_moments ∷ run_ranges ∷ [])
 
 abbrev pub conditions : Shape
 conditions = command (codes "conditions") (source ∷ flag (codes "triples") ∷ smt2_flag ∷ only_option ∷ [])
@@ -113,5 +124,5 @@ without_commands = record { top = record (new_shape (codes "og")) { has_version 
 abbrev pub og : App
 og = record {
   top = record (new_shape (codes "og")) { is_leaf = false; no_binary_name = true; disable_help_subcommand = true; subcommand_required = true; has_version = true };
-  subs = prover ∷ check ∷ notes ∷ conditions ∷ finder ∷ erase ∷ run ∷ explorer ∷ expander ∷ migrate ∷ [];
+  subs = prover ∷ check ∷ notes ∷ show ∷ conditions ∷ finder ∷ erase ∷ run ∷ explorer ∷ expander ∷ migrate ∷ [];
 }

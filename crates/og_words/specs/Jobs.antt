@@ -1,5 +1,5 @@
 -- Which job words ask for.
-use Rattle.std.specs.Prelude.{◌≡◌, ℕ, List, length, map, Option, None, Some, option_map, Result, Ok, IfOk, slice_get, codes, string_bytes, ⊤}
+use Rattle.std.specs.Prelude.{◌≡◌, ℕ, List, length, map, Option, None, Some, option_map, Result, Ok, IfOk, slice_get, codes, string_bytes, true, false, ⊤}
 use Rattle.clap.specs.Words.{Row}
 use Rattle.og_words.specs.Given.{given, text_of, number_of, is_given, texts_of}
 use Rattle.og_words.specs.declared.job.Verb.{Verb}
@@ -13,6 +13,7 @@ abbrev pub verb_name : Verb → List ℕ
 verb_name verbs.Prove = codes "prove"
 verb_name verbs.Check = codes "check"
 verb_name verbs.Notes = codes "notes"
+verb_name verbs.Show = codes "show"
 verb_name verbs.Conditions = codes "conditions"
 verb_name verbs.Find = codes "find"
 verb_name verbs.Erase = codes "erase"
@@ -25,8 +26,11 @@ verb_name verbs.Migrate = codes "migrate"
 abbrev pub command_of : Job → Option (List ℕ)
 command_of jobs.Joined = None
 command_of (jobs.Prove source budget workers json values) = Some (codes "prove")
+command_of (jobs.ProveRuns source budget workers json limit ranges) = Some (codes "prove")
 command_of (jobs.Check source certs workers json) = Some (codes "check")
 command_of (jobs.Notes source budget) = Some (codes "notes")
+command_of (jobs.Show source budget workers) = Some (codes "show")
+command_of (jobs.ShowRuns source budget workers limit ranges) = Some (codes "show")
 command_of (jobs.Conditions source triples smt2 only) = Some (codes "conditions")
 command_of (jobs.Find source budget workers version) = Some (codes "find")
 command_of (jobs.Erase source readable) = Some (codes "erase")
@@ -40,13 +44,24 @@ abbrev pub Holds : List Row → Job → Type 0
 Holds rows jobs.Joined = ⊤
 Holds rows (jobs.Prove source budget workers json values) =
     (text_of (codes "SOURCE") rows ≡ Some source.now) × (number_of (codes "budget") rows ≡ Some budget)
-    × (number_of (codes "workers") rows ≡ Some workers) × (json ≡ is_given (codes "json") rows)
-    × (map (λ w. w.now) values.items ≡ texts_of (codes "NAME=INT") rows)
+    × (number_of (codes "workers") rows ≡ Some workers) × (json ≡ is_given (codes "json") rows) × (is_given (codes "runs") rows ≡ false)
+    × (map (λ w. w.now) values.items ≡ texts_of (codes "NAME=INT|LO..HI") rows)
+Holds rows (jobs.ProveRuns source budget workers json limit ranges) =
+    (text_of (codes "SOURCE") rows ≡ Some source.now) × (number_of (codes "budget") rows ≡ Some budget)
+    × (number_of (codes "workers") rows ≡ Some workers) × (json ≡ is_given (codes "json") rows) × (is_given (codes "runs") rows ≡ true)
+    × (number_of (codes "limit") rows ≡ Some limit) × (map (λ w. w.now) ranges.items ≡ texts_of (codes "NAME=INT|LO..HI") rows)
 Holds rows (jobs.Check source certs workers json) =
     (text_of (codes "SOURCE") rows ≡ Some source.now) × (text_of (codes "CERTS") rows ≡ Some certs.now)
     × (number_of (codes "workers") rows ≡ Some workers) × (json ≡ is_given (codes "json") rows)
 Holds rows (jobs.Notes source budget) =
     (text_of (codes "SOURCE") rows ≡ Some source.now) × (number_of (codes "budget") rows ≡ Some budget)
+Holds rows (jobs.Show source budget workers) =
+    (text_of (codes "SOURCE") rows ≡ Some source.now) × (number_of (codes "budget") rows ≡ Some budget)
+    × (number_of (codes "workers") rows ≡ Some workers) × (is_given (codes "runs") rows ≡ false)
+Holds rows (jobs.ShowRuns source budget workers limit ranges) =
+    (text_of (codes "SOURCE") rows ≡ Some source.now) × (number_of (codes "budget") rows ≡ Some budget)
+    × (number_of (codes "workers") rows ≡ Some workers) × (is_given (codes "runs") rows ≡ true)
+    × (number_of (codes "limit") rows ≡ Some limit) × (map (λ w. w.now) ranges.items ≡ texts_of (codes "NAME=INT|LO..HI") rows)
 Holds rows (jobs.Conditions source triples smt2 only) =
     (text_of (codes "SOURCE") rows ≡ Some source.now) × (triples ≡ is_given (codes "triples") rows) × (smt2 ≡ is_given (codes "smt2") rows)
     × (option_map (λ n. n.now) only ≡ text_of (codes "only") rows)

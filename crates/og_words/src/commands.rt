@@ -71,16 +71,36 @@ fn version_arg<'a>(alloc: Global) -> Arg<'a>
         .help("In which version the certificates are written, 1 or 2")
 }
 
+fn runs_arg<'a>(alloc: Global) -> Arg<'a>
+    ensures { IsArg (line.flag (codes "runs")) result }
+{
+    Arg::new(alloc, "runs")
+        .long("runs")
+        .action(ArgAction::SetTrue)
+        .help("Look for runs to the states in which conditions are false")
+}
+
+fn run_moments_arg<'a>(alloc: Global) -> Result<Arg<'a>, AllocError>
+    ensures { IfOk result (IsArg line.run_moments) }
+{
+    moments_arg(alloc)
+        .help("With --runs: how many moments may be looked at, 1 to 1000000")
+        .requires_arg("runs")
+}
+
 fn prove_command<'a>(alloc: Global) -> Result<Command<'a>, AllocError>
     ensures { IfOk result (IsCommand line.prover) }
 {
+    let moments = run_moments_arg(alloc)?;
     Command::new(alloc, "prove")
         .about("Prove an outline, or say what is wrong with it")
         .arg(source_arg(alloc))?
         .arg(budget_arg(alloc))?
         .arg(workers_arg(alloc, "How many threads work, 1 to 64"))?
         .arg(json_arg(alloc))?
-        .arg(template_constants_arg(alloc))
+        .arg(runs_arg(alloc))?
+        .arg(moments)?
+        .arg(prove_words_arg(alloc))
 }
 
 fn check_command<'a>(alloc: Global) -> Result<Command<'a>, AllocError>
@@ -104,6 +124,22 @@ fn notes_command<'a>(alloc: Global) -> Result<Command<'a>, AllocError>
         .about("Tell what a yes of an outline claims and what it does not")
         .arg(source_arg(alloc))?
         .arg(budget)
+}
+
+fn show_command<'a>(alloc: Global) -> Result<Command<'a>, AllocError>
+    ensures { IfOk result (IsCommand line.show) }
+{
+    let workers = workers_arg(alloc, "How many threads work, 1 to 64");
+    let moments = run_moments_arg(alloc)?;
+    let ranges = run_ranges_arg(alloc)?;
+    Command::new(alloc, "show")
+        .about("Print a page of HTML that shows what is proved and what is wrong")
+        .arg(source_arg(alloc))?
+        .arg(budget_arg(alloc))?
+        .arg(workers)?
+        .arg(runs_arg(alloc))?
+        .arg(moments)?
+        .arg(ranges)
 }
 
 fn triples_arg<'a>(alloc: Global) -> Arg<'a>
@@ -254,16 +290,26 @@ fn constants_arg<'a>(alloc: Global) -> Arg<'a>
     words_arg(alloc, "NAME=INT").help("A constant's value")
 }
 
-fn template_constants_arg<'a>(alloc: Global) -> Arg<'a>
-    ensures { IsArg line.values result }
-{
-    words_arg(alloc, "NAME=INT").help("A constant's value, where SOURCE is a template")
-}
-
 fn ranges_arg<'a>(alloc: Global) -> Arg<'a>
     ensures { IsArg line.ranges result }
 {
     words_arg(alloc, "NAME=INT|LO..HI").help("A variable's value at the start, or its values")
+}
+
+fn run_ranges_arg<'a>(alloc: Global) -> Result<Arg<'a>, AllocError>
+    ensures { IfOk result (IsArg line.run_ranges) }
+{
+    words_arg(alloc, "NAME=INT|LO..HI")
+        .help("With --runs: a variable's value at the start, or its values")
+        .requires_arg("runs")
+}
+
+fn prove_words_arg<'a>(alloc: Global) -> Arg<'a>
+    ensures { IsArg line.ranges result }
+{
+    words_arg(alloc, "NAME=INT|LO..HI").help(
+        "A constant's value, where SOURCE is a template; with --runs a variable's value at the start, or its values",
+    )
 }
 
 fn moments_arg<'a>(alloc: Global) -> Arg<'a>
@@ -331,13 +377,14 @@ fn with_word<'a>(
     program.subcommand(word?)
 }
 
-// Adds the words that judge outlines, and the one that tells of their judgements.
+// Adds the words that judge outlines, and those that tell of their judgements.
 fn with_verdicts<'a>(alloc: Global, program: Command<'a>) -> Result<Command<'a>, AllocError>
-    ensures { IfOk result (λ r. app_of r ≡ with_subcommand (with_subcommand (with_subcommand (app_of program.entry) line.prover) line.check) line.notes) }
+    ensures { IfOk result (λ r. app_of r ≡ with_subcommand (with_subcommand (with_subcommand (with_subcommand (app_of program.entry) line.prover) line.check) line.notes) line.show) }
 {
     let program = with_word(program, prove_command(alloc))?;
     let program = with_word(program, check_command(alloc))?;
-    with_word(program, notes_command(alloc))
+    let program = with_word(program, notes_command(alloc))?;
+    with_word(program, show_command(alloc))
 }
 
 // Adds the words that print the conditions of outlines, and their certificates.

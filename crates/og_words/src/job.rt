@@ -13,6 +13,7 @@ pub(crate) enum Verb {
     Prove,
     Check,
     Notes,
+    Show,
     Conditions,
     Find,
     Erase,
@@ -39,6 +40,20 @@ pub enum Job<'a> {
         /// Words that give constants their values, where the source is a template.
         values: Vec<&'a str>,
     },
+    /// The same, and look for runs that get to states in which conditions are false.
+    ProveRuns {
+        source: &'a str,
+        /// How many steps each search may make.
+        budget: Budget,
+        /// How many threads work.
+        workers: Workers,
+        /// Whether the report is to be JSON.
+        json: bool,
+        /// How many moments may be looked at.
+        limit: MomentLimit,
+        /// Words that give variables their values, or ranges of them, at the start.
+        ranges: Vec<&'a str>,
+    },
     /// Check an outline by its certificates.
     Check {
         source: &'a str,
@@ -53,6 +68,26 @@ pub enum Job<'a> {
         source: &'a str,
         /// How many steps each search may make.
         budget: Budget,
+    },
+    /// Search as to prove an outline, and print a page that shows it.
+    Show {
+        source: &'a str,
+        /// How many steps each search may make.
+        budget: Budget,
+        /// How many threads work.
+        workers: Workers,
+    },
+    /// The same, and look for runs that get to states in which conditions are false.
+    ShowRuns {
+        source: &'a str,
+        /// How many steps each search may make.
+        budget: Budget,
+        /// How many threads work.
+        workers: Workers,
+        /// How many moments may be looked at.
+        limit: MomentLimit,
+        /// Words that give variables their values, or ranges of them, at the start.
+        ranges: Vec<&'a str>,
     },
     /// Print conditions, with their facts where nothing else is asked for.
     Conditions {

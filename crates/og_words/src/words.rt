@@ -1,6 +1,6 @@
 //! From words to a job.
 
-ghost use Rattle.std.specs.Prelude.{◌≡◌, IfOk, IfSome, Some, option_map, map, codes, string_bytes};
+ghost use Rattle.std.specs.Prelude.{◌≡◌, IfOk, IfSome, Some, true, false, option_map, map, codes, string_bytes};
 ghost use Rattle.clap.specs.Words.{found_of, rows_of, subcommand_of, subcommand_rows_of};
 ghost use Rattle.og_words.specs.CommandLine.{og};
 ghost use Rattle.og_words.specs.Given.{rows_below, text_of, number_of, is_given, texts_of};
@@ -20,6 +20,7 @@ fn verb_of(word: &str) -> Option<Verb>
         "prove" => Some(Verb::Prove),
         "check" => Some(Verb::Check),
         "notes" => Some(Verb::Notes),
+        "show" => Some(Verb::Show),
         "conditions" => Some(Verb::Conditions),
         "find" => Some(Verb::Find),
         "erase" => Some(Verb::Erase),
@@ -154,9 +155,10 @@ fn texts_of<'a>(alloc: Global, m: &ArgMatches<'a>, name: &str) -> Result<Vec<&'a
     Ok(texts)
 }
 
-// The job of a proof, with the words that give constants their values.
-fn prove_with<'a>(m: &ArgMatches<'a>, values: Vec<&'a str>) -> Option<Job<'a>>
-    requires { map (λ w. w.now) values.items ≡ texts_of (codes "NAME=INT") (rows_of (found_of m.now)) }
+// The job of a proof without runs, with the words that give constants their values.
+fn prove_alone<'a>(m: &ArgMatches<'a>, values: Vec<&'a str>) -> Option<Job<'a>>
+    requires alone { is_given (codes "runs") (rows_of (found_of m.now)) ≡ false }
+    requires values { map (λ w. w.now) values.items ≡ texts_of (codes "NAME=INT|LO..HI") (rows_of (found_of m.now)) }
     ensures command { IfSome result (λ job. command_of job ≡ Some (verb_name Verb.Prove)) }
     ensures holds { IfSome result (Holds (rows_of (found_of m.now))) }
 {
@@ -172,11 +174,73 @@ fn prove_with<'a>(m: &ArgMatches<'a>, values: Vec<&'a str>) -> Option<Job<'a>>
     })
 }
 
+// The job of a proof with runs, with the words that give variables their ranges.
+fn prove_runs<'a>(m: &ArgMatches<'a>, ranges: Vec<&'a str>) -> Option<Job<'a>>
+    requires runs { is_given (codes "runs") (rows_of (found_of m.now)) ≡ true }
+    requires ranges { map (λ w. w.now) ranges.items ≡ texts_of (codes "NAME=INT|LO..HI") (rows_of (found_of m.now)) }
+    ensures command { IfSome result (λ job. command_of job ≡ Some (verb_name Verb.Prove)) }
+    ensures holds { IfSome result (Holds (rows_of (found_of m.now))) }
+{
+    let (source, json) = (text_of(m, "SOURCE")?, has_flag(m, "json"));
+    let (budget, workers, limit) = (budget_of(m)?, workers_of(m)?, moments_of(m)?);
+    Some(Job::ProveRuns {
+        source,
+        budget,
+        workers,
+        json,
+        limit,
+        ranges,
+    })
+}
+
 fn prove_job<'a>(alloc: Global, m: &ArgMatches<'a>) -> Result<Option<Job<'a>>, AllocError>
     ensures command { IfOk result (λ r. IfSome r (λ job. command_of job ≡ Some (verb_name Verb.Prove))) }
     ensures holds { IfOk result (λ r. IfSome r (Holds (rows_of (found_of m.now)))) }
 {
-    Ok(prove_with(m, texts_of(alloc, m, "NAME=INT")?))
+    let words = texts_of(alloc, m, "NAME=INT|LO..HI")?;
+    if has_flag(m, "runs") {
+        return Ok(prove_runs(m, words));
+    }
+    Ok(prove_alone(m, words))
+}
+
+// The job of a page without runs.
+fn show_alone<'a>(m: &ArgMatches<'a>) -> Option<Job<'a>>
+    requires { is_given (codes "runs") (rows_of (found_of m.now)) ≡ false }
+    ensures command { IfSome result (λ job. command_of job ≡ Some (verb_name Verb.Show)) }
+    ensures holds { IfSome result (Holds (rows_of (found_of m.now))) }
+{
+    Some(Job::Show {
+        source: text_of(m, "SOURCE")?,
+        budget: budget_of(m)?,
+        workers: workers_of(m)?,
+    })
+}
+
+// The job of a page with runs, with the words that give variables their ranges.
+fn show_runs<'a>(m: &ArgMatches<'a>, ranges: Vec<&'a str>) -> Option<Job<'a>>
+    requires runs { is_given (codes "runs") (rows_of (found_of m.now)) ≡ true }
+    requires ranges { map (λ w. w.now) ranges.items ≡ texts_of (codes "NAME=INT|LO..HI") (rows_of (found_of m.now)) }
+    ensures command { IfSome result (λ job. command_of job ≡ Some (verb_name Verb.Show)) }
+    ensures holds { IfSome result (Holds (rows_of (found_of m.now))) }
+{
+    Some(Job::ShowRuns {
+        source: text_of(m, "SOURCE")?,
+        budget: budget_of(m)?,
+        workers: workers_of(m)?,
+        limit: moments_of(m)?,
+        ranges,
+    })
+}
+
+fn show_job<'a>(alloc: Global, m: &ArgMatches<'a>) -> Result<Option<Job<'a>>, AllocError>
+    ensures command { IfOk result (λ r. IfSome r (λ job. command_of job ≡ Some (verb_name Verb.Show))) }
+    ensures holds { IfOk result (λ r. IfSome r (Holds (rows_of (found_of m.now)))) }
+{
+    if !has_flag(m, "runs") {
+        return Ok(show_alone(m));
+    }
+    Ok(show_runs(m, texts_of(alloc, m, "NAME=INT|LO..HI")?))
 }
 
 // The job of a run, with the words that give variables their values.
@@ -257,6 +321,7 @@ fn job_of<'a>(alloc: Global, verb: Verb, m: &ArgMatches<'a>) -> Result<Option<Jo
         Verb::Prove => prove_job(alloc, m),
         Verb::Check => Ok(check_job(m)),
         Verb::Notes => Ok(notes_job(m)),
+        Verb::Show => show_job(alloc, m),
         Verb::Conditions => Ok(conditions_job(m)),
         Verb::Find => Ok(find_job(m)),
         Verb::Erase => Ok(erase_job(m)),

@@ -12,4 +12,6 @@ returns c =
     let two = with_arg c.in_ok-arg.field-0 c.in_ok-arg-2.field-0 c.budget_arg.result line.budget _ one c.budget_arg.ensures c.in_ok-arg-2.ensures in
     let three = with_arg c.in_ok-arg-2.field-0 c.in_ok-arg-3.field-0 c.workers_arg.result line.workers _ two c.workers_arg.ensures c.in_ok-arg-3.ensures in
     let four = with_arg c.in_ok-arg-3.field-0 c.in_ok-arg-4.field-0 c.json_arg.result (line.flag (codes "json")) _ three c.json_arg.ensures c.in_ok-arg-4.ensures in
-    IfOk-weaker c.arg-5.result _ _ (λ r h. with_arg c.in_ok-arg-4.field-0 r c.template_constants_arg.result line.values _ four c.template_constants_arg.ensures h) c.arg-5.ensures
+    let five = with_arg c.in_ok-arg-4.field-0 c.in_ok-arg-5.field-0 c.runs_arg.result (line.flag (codes "runs")) _ four c.runs_arg.ensures c.in_ok-arg-5.ensures in
+    let six = with_arg c.in_ok-arg-5.field-0 c.in_ok-arg-6.field-0 c.in_ok-moments.moments line.run_moments _ five c.in_ok-moments.ensures c.in_ok-arg-6.ensures in
+    IfOk-weaker c.arg-7.result _ _ (λ r h. with_arg c.in_ok-arg-6.field-0 r c.prove_words_arg.result line.ranges _ six c.prove_words_arg.ensures h) c.arg-7.ensures
