@@ -76,7 +76,7 @@ def by_workers(program, command, path, rounds):
 
 
 # The large outlines that several workers search, by their families.
-LARGE = (("fork and join", 48), ("lock", 64), ("counter", 64), ("barrier", 64), ("readers and writers", 24))
+LARGE = (("fork and join", 48), ("fork and join", 64), ("lock", 64), ("counter", 64), ("barrier", 64), ("readers and writers", 24))
 
 
 def main():

@@ -1,6 +1,6 @@
 -- From what is told of all conditions to the answer.
 use Rattle.std.proofs.Common.{◌≡◌, ◌≤◌, ◌∙◌, ◌+◌, inl, ℕ, List, [], ◌∷◌, Bool, Bor, ap, ap₂, drop, drop-cons, add-one, true, false, refl, sym, subst, length, map, codes, Option, Some, None, option_map, Result, Ok, Err, IfOk, IfSome}
-use Rattle.std.specs.Prelude.{IsSomeAnd, slice_get}
+use Rattle.std.specs.Prelude.{IsSomeAnd, count_by, slice_get}
 use Rattle.std.proofs.lemmas.Option.{slice_get_within, get_or_from_slice_get}
 use Rattle.og_typed.specs.Syntax.{Program}
 use Rattle.og_cond.specs.Condition.{Condition}
@@ -17,7 +17,7 @@ use Rattle.og_finder.specs.declared.findings.Findings.{Findings}
 use Rattle.og_report.specs.Report.{answer_text}
 use Rattle.og_report.specs.Yes.{EndsWith}
 use Rattle.og_report.proofs.Yes.{ends_with, ends_after, text_answers}
-use Rattle.og_prove.specs.Report.{is_proved, is_false, is_open, count, is_safe, is_unblocked, number_line, yes_line, told_lines, report_text}
+use Rattle.og_prove.specs.Report.{is_proved, is_false, is_open, is_safe, is_unblocked, number_line, yes_line, told_lines, report_text}
 use Rattle.og_prove.specs.Together.{keys_of, mores}
 use Rattle.og_prove.specs.Told.{AreTold}
 use Rattle.og_origins.specs.Origins.{Rows}
@@ -40,9 +40,9 @@ text_ends names source rows cs ts =
     let last = yes_line (codes "unblocked") (is_unblocked ts) in
     ends_after (told_lines names source rows [] cs (mores (keys_of rows cs ts)) ts) last _
     (ends_after (number_line (codes "conditions") (length ts)) last _
-    (ends_after (number_line (codes "proved") (count is_proved ts)) last _
-    (ends_after (number_line (codes "false") (count is_false ts)) last _
-    (ends_after (number_line (codes "open") (count is_open ts)) last _
+    (ends_after (number_line (codes "proved") (count_by is_proved ts)) last _
+    (ends_after (number_line (codes "false") (count_by is_false ts)) last _
+    (ends_after (number_line (codes "open") (count_by is_open ts)) last _
     (ends_after (yes_line (codes "safe") (is_safe ts)) last _ (ends_with [] last))))))
 
 pub text_says : (names : List (List ℕ)) (source : List ℕ) (rows : Rows) (cs : List Condition) (ts : List Told) → EndsWith (codes "unblocked: yes\n") (report_text names source rows cs ts) → is_unblocked ts ≡ true

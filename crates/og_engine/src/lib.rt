@@ -15,7 +15,7 @@ pub use commands::erased;
 pub use engines::{Options, engine, engine_joined};
 pub use fault::{EngineFault, WriteFault};
 pub use inputs::{read_certificates, read_joined, read_source};
-pub use making::{found, migrated};
+pub use making::{FindReply, found, migrated};
 pub use og_answer::Answer;
 pub use proving::{Search, Texts, proved, proved_outline, tell_all, told_by};
 pub use writing::{write_answer, write_text};

@@ -4,14 +4,14 @@
 //! checked, by replay or by evaluation.
 #![tactic(auto)]
 
-mod all;
+mod counting;
 mod finding;
 mod marking;
 mod reading;
 mod truth;
 mod verdict;
 
-pub use all::has_all;
+pub use counting::Missing;
 pub use finding::{examine, find, is_verdict};
 pub use marking::{Marks, mark};
 pub use og_cert::Cert;

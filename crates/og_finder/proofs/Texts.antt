@@ -1,6 +1,6 @@
 -- The text of the certificates that are found.
 use Rattle.std.proofs.Common.{◌≡◌, ⊎_elim, ◌≤◌, ◌<◌, ℕ, ◌+◌, ◌-◌, zero, suc, List, [], ◌∷◌, ◌++◌, length, true, false, Option, Some, None, refl, sym, ap, ◌∙◌, subst, arith}
-use Rattle.std.specs.Prelude.{◌==◌, ◌&&◌, ◌↔◌, slice_get, Result, Ok, Err, IfOk, IsSome, IsSomeAnd, IsTrue}
+use Rattle.std.specs.Prelude.{◌==◌, ◌&&◌, slice_get, is_none, Result, Ok, Err, IfOk, IsSomeAnd}
 use Rattle.std.specs.Global.{Vec}
 use Rattle.std.specs.List.{list_all}
 use Rattle.std.proofs.Math.Nat.{eq-or-lt_of_le}
@@ -17,11 +17,12 @@ use Rattle.og_cert_text.proofs.Writing.{entries_text, entry_text, one_more}
 use Rattle.og_cond.specs.Condition.{Condition}
 use Rattle.og_draws.specs.Answers.{AreAnswers}
 use Rattle.og_find.specs.Found.{AreOf, Certifies}
+use Rattle.og_find.specs.Missing.{lacks, missing_up_to}
 use Rattle.og_find.specs.declared.verdict.Verdict.{Verdict}
 use Rattle.og_find.specs.declared.verdict.Verdict.TheVariants as verdicts
 use Rattle.og_finder.specs.Findings.{verdict_of, AreVerdicts}
 use Rattle.og_finder.specs.Filing.{IsCertificateOf, AreFiled}
-use Rattle.og_finder.specs.Written.{certificate_in, lines_of, entry_lines, AreLines, with_first, entries_from, entries_of, AreCertified, IsWritten}
+use Rattle.og_finder.specs.Written.{certificate_in, lines_of, entry_lines, AreLines, with_first, entries_from, entries_of, IsWritten}
 use Rattle.og_finder.specs.declared.findings.Findings.{Findings}
 use Rattle.og_finder.specs.declared.writing.Written.{Written}
 use Rattle.og_finder.proofs.Filed.{all_of}
@@ -130,23 +131,20 @@ found_at f j i (suc k) above below = ⊎_elim
 
 -- ---- the whole
 
-certified_found : (f : Findings) → AreCertified f → (m : ℕ) → 0 < m → m ≤ length f.own.items → IsSome (certificate_of m (entries_of f))
-certified_found f h m some within =
-    let back : m - 1 + 1 ≡ m = omega arith in
-    subst (λ (k : ℕ). IsSome (certificate_of k (entries_of f))) back (subst IsSome (sym (found_at f (m - 1) 0 (length f.own.items) (omega arith) (omega arith))) (h (m - 1) (omega arith)))
+-- a condition lacks a certificate in the entries where its verdict has none
+pub lacks_at : (f : Findings) (i : ℕ) → i < length f.own.items → lacks (entries_of f) (i + 1) ≡ is_none (certificate_in (verdict_of f i))
+lacks_at f i below = ap is_none (found_at f i 0 (length f.own.items) (omega arith) (omega arith))
 
-found_certified : (f : Findings) → ((m : ℕ) → 0 < m → m ≤ length f.own.items → IsSome (certificate_of m (entries_of f))) → AreCertified f
-found_certified f h i below = subst IsSome (found_at f i 0 (length f.own.items) (omega arith) (omega arith)) (h (i + 1) (omega arith) (omega arith))
-
-is_written : (cs : List Condition) (f : Findings) (w : Written) → AreVerdicts cs f → length cs ≤ 999999999 → w.text.items ≡ file_text (entries_of f) → (IsTrue w.all ↔ AreCertified f) → IsWritten cs w
-is_written cs f w h few text all =
+is_written : (cs : List Condition) (f : Findings) (w : Written) → AreVerdicts cs f → length cs ≤ 999999999 → w.text.items ≡ file_text (entries_of f)
+    → w.missing.count ≡ missing_up_to (entries_of f) (length f.own.items) → w.missing.conditions ≡ length f.own.items → IsWritten cs w
+is_written cs f w h few text missing conditions =
     let es = entries_of f in
     let count = length f.own.items in
     let of = all_of cs f es h (filed f 0 count) in
-    let len = h.0 in
     let file = both_true _ _ (rising f 0 0 count (omega arith)) (all_good cs es few of) in
-    (es, of, file, text, (λ yes m some within. certified_found f (all.0 yes) m some (omega arith), λ found. all.1 (found_certified f (λ m some within. found m some (omega arith)))))
+    (es, of, file, text, missing ∙ ap (missing_up_to es) h.0, conditions ∙ h.0)
 
-pub all_written : {E : Type 0} (cs : List Condition) (f : Findings) (r : Result Written E) → AreVerdicts cs f → length cs ≤ 999999999 → IfOk r (λ w. w.text.items ≡ file_text (entries_of f)) → IfOk r (λ w. IsTrue w.all ↔ AreCertified f) → IfOk r (IsWritten cs)
-all_written cs f (Ok w) h few text all = is_written cs f w h few text all
-all_written cs f (Err e) h few text all = tt
+pub all_written : {E : Type 0} (cs : List Condition) (f : Findings) (r : Result Written E) → AreVerdicts cs f → length cs ≤ 999999999 → IfOk r (λ w. w.text.items ≡ file_text (entries_of f))
+    → IfOk r (λ w. w.missing.count ≡ missing_up_to (entries_of f) (length f.own.items)) → IfOk r (λ w. w.missing.conditions ≡ length f.own.items) → IfOk r (IsWritten cs)
+all_written cs f (Ok w) h few text missing conditions = is_written cs f w h few text missing conditions
+all_written cs f (Err e) h few text missing conditions = tt

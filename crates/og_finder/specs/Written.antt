@@ -1,15 +1,16 @@
 -- The text of the certificates that are found.
-use Rattle.std.specs.Prelude.{◌≡◌, ◌↔◌, ℕ, zero, suc, ◌+◌, ◌<◌, ◌≤◌, List, [], ◌∷◌, length, true, Option, Some, None, IsSome, IsTrue, slice_get}
+use Rattle.std.specs.Prelude.{◌≡◌, ℕ, zero, suc, ◌+◌, List, [], ◌∷◌, length, true, Option, Some, None, slice_get}
 use Rattle.std.specs.Global.{Vec}
 use Rattle.og_cert_text.specs.Tree.{Cert}
 use Rattle.og_cert_text.specs.Plain.{plain_cert}
-use Rattle.og_cert_text.specs.Files.{Entries, certificate_of}
+use Rattle.og_cert_text.specs.Files.{Entries}
 use Rattle.og_cert_text.specs.Lines.{ForCondition}
 use Rattle.og_cert_text.specs.Shallow.{cert_lines}
 use Rattle.og_cert_text.specs.Listing.{lines_text, file_text}
 use Rattle.og_cert_text.specs.Rising.{is_file}
 use Rattle.og_cond.specs.Condition.{Condition}
 use Rattle.og_find.specs.Found.{AreOf}
+use Rattle.og_find.specs.Missing.{missing_up_to}
 use Rattle.og_find.specs.declared.verdict.Verdict.{Verdict}
 use Rattle.og_find.specs.declared.verdict.Verdict.TheVariants as verdicts
 use Rattle.og_finder.specs.Findings.{verdict_of}
@@ -51,12 +52,8 @@ entries_from f i (suc k) = with_first (i + 1) (certificate_in (verdict_of f i)) 
 abbrev pub entries_of : Findings → Entries
 entries_of f = entries_from f 0 (length f.own.items)
 
--- each condition has a certificate
-abbrev pub AreCertified : Findings → Type 0
-AreCertified f = (i : ℕ) → i < length f.own.items → IsSome (certificate_in (verdict_of f i))
-
--- the text of a file of certificates of the conditions, and whether each condition has one in it
+-- the text of a file of certificates of the conditions, and how many of the conditions have none in it
 abbrev pub IsWritten : List Condition → Written → Type 0
 IsWritten cs w =
     (es : Entries) × AreOf cs es × (is_file es ≡ true) × (w.text.items ≡ file_text es)
-    × (IsTrue w.all ↔ ((n : ℕ) → 0 < n → n ≤ length cs → IsSome (certificate_of n es)))
+    × (w.missing.count ≡ missing_up_to es (length cs)) × (w.missing.conditions ≡ length cs)

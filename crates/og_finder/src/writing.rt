@@ -1,11 +1,12 @@
 //! The text of the certificates that are found.
 
-ghost use Rattle.std.specs.Prelude.{◌≡◌, ◌+◌, ◌<◌, ◌≤◌, ◌↔◌, ℕ, [], ◌∷◌, ◌++◌, length, map, vec_len, IfOk, IfErr, IfSome, IsSome, IsTrue, OnOk};
+ghost use Rattle.std.specs.Prelude.{◌≡◌, ◌+◌, ◌<◌, ◌≤◌, [], ◌∷◌, ◌++◌, length, map, vec_len, is_none, IfOk, IfErr, IfSome, OnOk};
 ghost use Rattle.og_cert_text.specs.Lines.{ForCondition, line_text};
 ghost use Rattle.og_cert_text.specs.Listing.{file_text};
 ghost use Rattle.og_cond.specs.Seen.{seen};
+ghost use Rattle.og_find.specs.Missing.{missing_up_to};
 ghost use Rattle.og_finder.specs.Findings.{verdict_of};
-ghost use Rattle.og_finder.specs.Written.{certificate_in, lines_of, entry_lines, entries_of, AreCertified, AreLines, IsWritten};
+ghost use Rattle.og_finder.specs.Written.{certificate_in, lines_of, entry_lines, entries_of, AreLines, IsWritten};
 ghost use Rattle.og_pool.specs.declared.fault.PoolFault.TheVariants.{Spawn};
 
 use crate::finder::examine_all;
@@ -15,7 +16,7 @@ use itoa::Buffer;
 use og_cert_text::put_cert;
 use og_cond::Condition;
 use og_draws::answers;
-use og_find::Verdict;
+use og_find::{Missing, Verdict};
 use og_pool::{Gate, PoolFault};
 use std::alloc::{AllocError, Global};
 use std::sync::Wait;
@@ -27,13 +28,13 @@ const HEAD: usize = 10;
 // How long the first line of an entry can be, with its LF.
 const LONGEST_START: usize = 15;
 
-/// The certificates of conditions, and whether each condition has one.
+/// The certificates of conditions, and how many conditions have none.
 #[derive(Debug, Drop)]
 pub struct Written {
     /// The text of the certificates in version 1.
     pub text: Vec<u8>,
-    /// Whether each condition has a certificate.
-    pub all: bool,
+    /// How many conditions have no certificate.
+    pub missing: Missing,
 }
 
 // Adds the first line of the entry of condition n.
@@ -119,16 +120,28 @@ impl Writing<'_> {
 }
 
 impl Findings {
-    // Whether each condition has a certificate.
-    fn are_certified(&self) -> bool
-        ensures { IsTrue result ↔ AreCertified self.now }
+    // Whether the condition at the index has no certificate.
+    fn lacks(&self, index: usize) -> bool
+        ensures { result ≡ is_none (certificate_in (verdict_of self.now index)) }
     {
+        !matches!(self.verdict(index), Some(Verdict::True(_)))
+    }
+
+    // How many conditions have no certificate.
+    #[tactic(auto, using(crate::proofs::Texts::lacks_at))]
+    fn missing(&self) -> Missing
+        requires { vec_len self.now.own ≤ 999999999 }
+        ensures count { result.count ≡ missing_up_to (entries_of self.now) (length self.now.own.items) }
+        ensures conditions { result.conditions ≡ length self.now.own.items }
+    {
+        let mut count = 0;
         for index in 0..self.own.len() {
-            let Some(Verdict::True(_)) = self.verdict(index) else {
-                return false;
-            };
+            if self.lacks(index) {
+                count += 1;
+            }
         }
-        true
+        let conditions = self.own.len() as u32;
+        Missing { count, conditions }
     }
 
     // The text of all certificates, whose lines so many workers make.
@@ -141,7 +154,8 @@ impl Findings {
         requires workers { (0 < workers) × (workers ≤ 64) }
         requires few { vec_len self.now.own ≤ 999999999 }
         ensures text { IfOk result (λ w. w.text.items ≡ file_text (entries_of self.now)) }
-        ensures all { IfOk result (λ w. IsTrue w.all ↔ AreCertified self.now) }
+        ensures missing { IfOk result (λ w. w.missing.count ≡ missing_up_to (entries_of self.now) (length self.now.own.items)) }
+        ensures conditions { IfOk result (λ w. w.missing.conditions ≡ length self.now.own.items) }
         ensures spawn { IfErr result (λ e. e ≡ Spawn → 1 < workers) }
     {
         let verdicts = &self.verdicts;
@@ -153,13 +167,13 @@ impl Findings {
             lines: &lines,
         };
         let text = writing.text(alloc)?;
-        let all = self.are_certified();
-        Ok(Written { text, all })
+        let missing = self.missing();
+        Ok(Written { text, missing })
     }
 }
 
 /// The text in version 1 of the certificates that searches find for the conditions, each under the
-/// number of its condition, counted from 1, and whether each condition has one. So many workers
+/// number of its condition, counted from 1, and how many conditions have none. So many workers
 /// search and write. The text is that of the file of `find_all`, and the same for every number of
 /// workers.
 ///

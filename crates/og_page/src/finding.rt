@@ -1,7 +1,6 @@
 //! What is found of a condition that is not proved.
 
 ghost use Rattle.std.specs.Prelude.{◌≡◌, ◌++◌, OnOk};
-ghost use Rattle.og_prove.specs.Report.{is_false, is_open};
 ghost use Rattle.og_page.specs.Findings.{finding_of, is_found, word, sign};
 
 use og_prove::Told;
@@ -14,18 +13,6 @@ pub(crate) enum Finding {
     False,
     /// Nothing is known.
     Open,
-}
-
-fn is_false(told: &Told) -> bool
-    ensures { result ≡ is_false told.now }
-{
-    matches!(told, Told::False(_))
-}
-
-fn is_open(told: &Told) -> bool
-    ensures { result ≡ is_open told.now }
-{
-    matches!(told, Told::Open)
 }
 
 impl Finding {
@@ -45,8 +32,8 @@ impl Finding {
         ensures { result ≡ is_found self told.now }
     {
         match self {
-            Finding::False => is_false(told),
-            Finding::Open => is_open(told),
+            Finding::False => told.is_false(),
+            Finding::Open => told.is_open(),
         }
     }
 

@@ -1,42 +1,11 @@
 //! The totals.
 
-ghost use Rattle.std.specs.Prelude.{◌≡◌, ◌++◌, count_by, OnOk};
-ghost use Rattle.og_prove.specs.Report.{is_proved, is_false, is_open};
+ghost use Rattle.std.specs.Prelude.{◌≡◌, ◌++◌, OnOk};
 ghost use Rattle.og_page.specs.Totals.{number_item, yes_item, answer_item, totals_items};
 
 use og_listing::put_number;
-use og_prove::{Told, is_safe, is_unblocked};
+use og_prove::{Told, Totals, is_safe, is_unblocked};
 use std::alloc::AllocError;
-
-fn is_false(told: &Told) -> bool
-    ensures { result ≡ is_false told.now }
-{
-    matches!(told, Told::False(_))
-}
-
-fn is_open(told: &Told) -> bool
-    ensures { result ≡ is_open told.now }
-{
-    matches!(told, Told::Open)
-}
-
-fn count_proved(told: &[Told]) -> usize
-    ensures { result ≡ count_by is_proved told.now }
-{
-    told.iter().filter(|each| each.is_proved()).count()
-}
-
-fn count_false(told: &[Told]) -> usize
-    ensures { result ≡ count_by is_false told.now }
-{
-    told.iter().filter(|each| is_false(each)).count()
-}
-
-fn count_open(told: &[Told]) -> usize
-    ensures { result ≡ count_by is_open told.now }
-{
-    told.iter().filter(|each| is_open(each)).count()
-}
 
 fn put_number_item(text: &mut Vec<u8>, word: &[u8], number: usize) -> Result<(), AllocError>
     ensures { OnOk result (text.new.items ≡ text.old.items ++ number_item word.now number) }
@@ -70,10 +39,11 @@ fn put_answer_item(text: &mut Vec<u8>, word: &[u8], yes: bool) -> Result<(), All
 pub(crate) fn put_totals(text: &mut Vec<u8>, told: &[Told]) -> Result<(), AllocError>
     ensures { OnOk result (text.new.items ≡ text.old.items ++ totals_items told.now) }
 {
+    let totals = Totals::of(told);
     put_number_item(text, b"conditions", told.len())?;
-    put_number_item(text, b"proved", count_proved(told))?;
-    put_number_item(text, b"false", count_false(told))?;
-    put_number_item(text, b"open", count_open(told))?;
+    put_number_item(text, b"proved", totals.proved)?;
+    put_number_item(text, b"false", totals.refuted)?;
+    put_number_item(text, b"open", totals.open)?;
     put_answer_item(text, b"safe", is_safe(told))?;
     put_answer_item(text, b"unblocked", is_unblocked(told))
 }

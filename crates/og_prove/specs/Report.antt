@@ -1,5 +1,5 @@
 -- What is told of all conditions of an outline.
-use Rattle.std.specs.Prelude.{ℕ, ◌+◌, ◌-◌, List, [], ◌∷◌, ◌++◌, length, take, slice_get, Bool, true, false, if◌then◌else◌, Option, Some, None, codes}
+use Rattle.std.specs.Prelude.{ℕ, ◌+◌, ◌-◌, List, [], ◌∷◌, ◌++◌, length, count_by, take, slice_get, Bool, true, false, if◌then◌else◌, Option, Some, None, codes}
 use Rattle.std.specs.Fmt.{decimal}
 use Rattle.std.specs.List.{list_all}
 use Rattle.og_typed.specs.Syntax.{Formula}
@@ -37,11 +37,6 @@ is_open told.Proved = false
 is_open (told.False block) = false
 is_open told.Open = true
 
--- how many of them are so
-abbrev pub count : (Told → Bool) → List Told → ℕ
-count is [] = 0
-count is (t ∷ ts) = (if is t then 1 else 0) + count is ts
-
 -- every condition but the last is proved
 abbrev pub is_safe : List Told → Bool
 is_safe ts = list_all is_proved (take (length ts - 1) ts)
@@ -67,8 +62,8 @@ number_line word n = word & codes ": " & decimal n & codes "\n"
 
 abbrev pub totals_text : List Told → List ℕ
 totals_text ts =
-    number_line (codes "conditions") (length ts) & number_line (codes "proved") (count is_proved ts)
-    & number_line (codes "false") (count is_false ts) & number_line (codes "open") (count is_open ts)
+    number_line (codes "conditions") (length ts) & number_line (codes "proved") (count_by is_proved ts)
+    & number_line (codes "false") (count_by is_false ts) & number_line (codes "open") (count_by is_open ts)
     & yes_line (codes "safe") (is_safe ts) & yes_line (codes "unblocked") (is_unblocked ts)
 
 -- ---- all of it

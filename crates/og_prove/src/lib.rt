@@ -17,7 +17,9 @@ pub use block::{Block, put_block};
 pub use earlier::Firsts;
 pub use lines::{put_false, put_quoted, put_too_large};
 pub use reporting::{
-    Page, is_safe, is_unblocked, put_number_line, put_told, put_totals, put_yes_line, report,
+    Page, Totals, is_safe, is_unblocked, put_number_line, put_told, put_totals, put_yes_line,
+    report,
 };
 pub use sentences::put_part;
 pub use telling::{Told, block_of, tell};
+pub use together::mores;

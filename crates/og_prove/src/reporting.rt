@@ -1,11 +1,11 @@
 //! What is told of all conditions of an outline.
 
-ghost use Rattle.std.specs.Prelude.{◌≡◌, ◌+◌, ◌++◌, ◌<◌, ◌≤◌, ◌^◌, if◌then◌else◌, ℕ, List, [], length, map, codes, IfOk, OnOk};
+ghost use Rattle.std.specs.Prelude.{◌≡◌, ◌++◌, ◌<◌, ◌≤◌, ◌^◌, count_by, ℕ, List, [], length, map, codes, IfOk, OnOk};
 ghost use Rattle.og_cond.specs.Seen.{seen};
 ghost use Rattle.og_cert_read.specs.Firsts.{found as number_of};
 ghost use Rattle.og_prove.specs.Effects.{effect_of, after_effect, after_told};
 ghost use Rattle.og_prove.specs.Together.{shown, more_text};
-ghost use Rattle.og_prove.specs.Report.{body_text, one_text, head_text, is_proved, is_false, is_open, count, is_safe, is_unblocked, yes_line, number_line, totals_text, told_text, told_lines, report_text};
+ghost use Rattle.og_prove.specs.Report.{body_text, one_text, head_text, is_proved, is_false, is_open, is_safe, is_unblocked, yes_line, number_line, totals_text, told_text, told_lines, report_text};
 
 use crate::block::{Block, put_block};
 use crate::earlier::{Firsts, effect_of, effect_text, number_or_add, put_alike};
@@ -185,48 +185,45 @@ impl<'a> Told<'a> {
             Told::Open => false,
         }
     }
+
+    /// Whether the condition is false. Takes no memory.
+    pub fn is_false(&self) -> bool
+        ensures { result ≡ is_false self.now }
+    {
+        matches!(self, Told::False(_))
+    }
+
+    /// Whether it was neither proved nor found false. Takes no memory.
+    pub fn is_open(&self) -> bool
+        ensures { result ≡ is_open self.now }
+    {
+        matches!(self, Told::Open)
+    }
 }
 
-// How many conditions of each kind there are.
-#[derive(Clone, Copy)]
-struct Totals {
-    proved: usize,
-    refuted: usize,
-    unknown: usize,
+/// How many conditions are told as proved, as false and as open.
+#[derive(Clone, Copy, Debug, PartialEq, Eq)]
+pub struct Totals {
+    /// How many are proved.
+    pub proved: usize,
+    /// How many are false.
+    pub refuted: usize,
+    /// How many are neither.
+    pub open: usize,
 }
 
 impl Totals {
-    // With one condition more.
-    fn add(&mut self, told: &Told)
-        requires { self.old.proved + self.old.refuted + self.old.unknown < 2 ^ 63 }
-        ensures proved { self.new.proved ≡ self.old.proved + (if is_proved told.now then 1 else 0) }
-        ensures refuted { self.new.refuted ≡ self.old.refuted + (if is_false told.now then 1 else 0) }
-        ensures unknown { self.new.unknown ≡ self.old.unknown + (if is_open told.now then 1 else 0) }
-        ensures all { self.new.proved + self.new.refuted + self.new.unknown ≡ self.old.proved + self.old.refuted + self.old.unknown + 1 }
+    /// Of all conditions. Takes no memory.
+    pub fn of(told: &[Told]) -> Totals
+        ensures proved { result.proved ≡ count_by is_proved told.now }
+        ensures refuted { result.refuted ≡ count_by is_false told.now }
+        ensures open { result.open ≡ count_by is_open told.now }
     {
-        match told {
-            Told::Proved => self.proved += 1,
-            Told::False(_) => self.refuted += 1,
-            Told::Open => self.unknown += 1,
+        Totals {
+            proved: told.iter().filter(|each| each.is_proved()).count(),
+            refuted: told.iter().filter(|each| each.is_false()).count(),
+            open: told.iter().filter(|each| each.is_open()).count(),
         }
-    }
-
-    // Of all conditions.
-    fn of(told: &[Told]) -> Totals
-        requires { length told.now < 2 ^ 32 }
-        ensures proved { result.proved ≡ count is_proved told.now }
-        ensures refuted { result.refuted ≡ count is_false told.now }
-        ensures unknown { result.unknown ≡ count is_open told.now }
-    {
-        let mut totals = Totals {
-            proved: 0,
-            refuted: 0,
-            unknown: 0,
-        };
-        for each in told {
-            totals.add(each);
-        }
-        totals
     }
 }
 
@@ -287,14 +284,13 @@ pub fn put_yes_line(text: &mut Vec<u8>, word: &[u8], yes: bool) -> Result<(), Al
 ///
 /// An allocation was refused; the text has what it had, and perhaps a part of this.
 pub fn put_totals(text: &mut Vec<u8>, told: &[Told]) -> Result<(), AllocError>
-    requires { length told.now < 2 ^ 32 }
     ensures { OnOk result (text.new.items ≡ text.old.items ++ totals_text told.now) }
 {
     let totals = Totals::of(told);
     put_number_line(text, b"conditions", told.len())?;
     put_number_line(text, b"proved", totals.proved)?;
     put_number_line(text, b"false", totals.refuted)?;
-    put_number_line(text, b"open", totals.unknown)?;
+    put_number_line(text, b"open", totals.open)?;
     put_yes_line(text, b"safe", is_safe(told))?;
     put_yes_line(text, b"unblocked", is_unblocked(told))
 }

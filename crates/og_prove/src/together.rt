@@ -206,8 +206,14 @@ fn mores_of(alloc: Global, keys: &[Option<Vec<u8>>]) -> Result<Vec<Option<usize>
     Ok(mores)
 }
 
-/// How many more are told with each condition; none where it is told with an earlier one.
-pub(crate) fn mores(
+/// How many more are told with each condition: with the first of those false conditions of a template's
+/// outline that differ in their instances alone, and none with the others, which are told with it. With
+/// any other condition, and without rows, 0.
+///
+/// # Errors
+///
+/// An allocation was refused.
+pub fn mores(
     alloc: Global,
     rows: Option<&Rows>,
     conditions: &[Condition],

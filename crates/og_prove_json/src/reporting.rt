@@ -1,6 +1,6 @@
 //! The whole of it.
 
-ghost use Rattle.std.specs.Prelude.{◌≡◌, ◌<◌, ◌≤◌, ◌^◌, [], ◌∷◌, ◌++◌, length, count_by, map, true, IfOk};
+ghost use Rattle.std.specs.Prelude.{◌≡◌, ◌<◌, ◌≤◌, ◌^◌, [], ◌∷◌, ◌++◌, length, map, true, IfOk};
 ghost use Rattle.serde_json.specs.View.{view};
 ghost use Rattle.og_cond.specs.Seen.{seen};
 ghost use Rattle.og_prove.specs.Report.{is_proved, is_false, is_open, is_safe, is_unblocked};
@@ -11,43 +11,11 @@ use crate::unproved::unproved_values;
 use og_cond::Condition;
 use og_json::{bytes_of, list_value};
 use og_listing::Places;
-use og_prove::{Told, is_safe, is_unblocked};
+use og_prove::{Told, Totals, is_safe, is_unblocked};
 use og_text::Name;
 use og_typed::Outline;
 use serde_json::{Value, json};
 use std::alloc::{AllocError, Global};
-
-// Whether a condition is false, or open.
-fn is_false(told: &Told) -> bool
-    ensures { result ≡ is_false told.now }
-{
-    matches!(told, Told::False(_))
-}
-
-fn is_open(told: &Told) -> bool
-    ensures { result ≡ is_open told.now }
-{
-    matches!(told, Told::Open)
-}
-
-// How many conditions are proved, false and open.
-fn count_proved(told: &[Told]) -> usize
-    ensures { result ≡ count_by is_proved told.now }
-{
-    told.iter().filter(|each| each.is_proved()).count()
-}
-
-fn count_false(told: &[Told]) -> usize
-    ensures { result ≡ count_by is_false told.now }
-{
-    told.iter().filter(|each| is_false(each)).count()
-}
-
-fn count_open(told: &[Told]) -> usize
-    ensures { result ≡ count_by is_open told.now }
-{
-    told.iter().filter(|each| is_open(each)).count()
-}
 
 /// The totals, with the values of the conditions that are not proved.
 ///
@@ -58,9 +26,10 @@ pub fn totals_value(alloc: Global, told: &[Told], unproved: Value) -> Result<Val
     ensures { IfOk result (λ v. view v ≡ totals_data told.now (view unproved)) }
 {
     let conditions = told.len() as u64;
-    let refuted = count_false(told) as u64;
-    let unknown = count_open(told) as u64;
-    let proved = count_proved(told) as u64;
+    let totals = Totals::of(told);
+    let refuted = totals.refuted as u64;
+    let unknown = totals.open as u64;
+    let proved = totals.proved as u64;
     let safe = is_safe(told);
     let unblocked = is_unblocked(told);
     json!(in alloc; {

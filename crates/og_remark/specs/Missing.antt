@@ -1,5 +1,5 @@
 -- How many conditions have no certificate, as it is told on standard error.
-use Rattle.std.specs.Prelude.{◌≡◌, ◌<◌, ◌≤◌, ◌⊎◌, ℕ, zero, suc, Bool, is_none, List, length, Option, None, Some, Ok, if◌then◌else◌, codes}
+use Rattle.std.specs.Prelude.{◌≡◌, ◌<◌, ◌⊎◌, ℕ, List, length, Option, None, Some, Ok, codes}
 use Rattle.std.specs.Fmt.{decimal}
 use Rattle.og_typed.specs.Syntax.{Program}
 use Rattle.og_cond.specs.Conditions.{conditions}
@@ -7,18 +7,12 @@ use Rattle.og_cond.specs.Limits.{condition_limit}
 use Rattle.og_source.specs.Source.{IsSource}
 use Rattle.og_source.specs.Refused.{IsSourceFault}
 use Rattle.og_source.specs.declared.fault.SourceFault.{SourceFault}
-use Rattle.og_cert_text.specs.Files.{Entries, certificate_of}
+use Rattle.og_cert_text.specs.Files.{Entries}
 use Rattle.og_cert_text.specs.declared.fault.CertTextFault.{CertTextFault}
 use Rattle.og_cert_read.specs.Read.{Gives, IsWrong}
+use Rattle.og_find.specs.Missing.{missing_up_to}
+use Rattle.og_find.specs.declared.counting.Missing.{Missing}
 use Rattle.og_listing.specs.Places.{◌&◌}
-
-abbrev pub lacks : Entries → ℕ → Bool
-lacks file n = is_none (certificate_of n file)
-
--- how many of the conditions from 1 up to this number have no certificate
-abbrev pub missing_up_to : Entries → ℕ → ℕ
-missing_up_to file zero = 0
-missing_up_to file (suc n) = if lacks file (suc n) then suc (missing_up_to file n) else missing_up_to file n
 
 -- MISSING of COUNT
 abbrev pub counts_text : ℕ → ℕ → List ℕ
@@ -41,9 +35,9 @@ abbrev pub IsCountOf : List ℕ → Option ℕ → Type 0
 IsCountOf source (Some n) = (o : Program) × IsSource source o × (n ≡ length (conditions o))
 IsCountOf source None = IsRefusedSource source
 
--- how many conditions up to this one have no certificate in the text, or nothing where it is refused
-abbrev pub IsMissingOf : List ℕ → ℕ → Option ℕ → Type 0
-IsMissingOf certs count (Some n) = (file : Entries) × Gives certs (Ok file) × (n ≡ missing_up_to file count)
+-- how many of so many conditions have no certificate in the text, or nothing where it is refused
+abbrev pub IsMissingOf : List ℕ → ℕ → Option Missing → Type 0
+IsMissingOf certs count (Some m) = (file : Entries) × Gives certs (Ok file) × (m.count ≡ missing_up_to file count) × (m.conditions ≡ count)
 IsMissingOf certs count None = (fault : CertTextFault) × IsWrong certs fault
 
 -- the outline of the source, and the file of the certificates

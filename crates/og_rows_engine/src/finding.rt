@@ -1,6 +1,7 @@
 //! Certificates that are found, checked again.
 
 use og_engine::{Options, checked, found};
+use og_find::Missing;
 use og_limits::{Budget, CertVersion, Workers};
 use og_pool::OpenGate;
 use og_samples::{EQUAL_ADD, TWO_ADD, alike};
@@ -33,18 +34,19 @@ fn expect_report<R: Threads + Wait + Sync + Abort>(
     Ok(())
 }
 
-// What is found is in this version, checked again, and has this status.
+// What is found is in this version and checked again, and so many of 12 conditions have none.
 fn expect_found<R: Threads + Wait + Sync + Abort>(
     rt: &R,
     alloc: Global,
     source: &str,
     version: CertVersion,
     report: &str,
-    status: u8,
+    missing: u32,
 ) -> Result<(), Fail> {
+    let status = if missing == 0 { 0 } else { 1 };
     let budget = Budget::new(100_000).expect(rt, "within its limit");
     let workers = Workers::new(2).expect(rt, "from 1 to 64");
-    let certs = found(
+    let reply = found(
         rt,
         alloc,
         source.as_bytes(),
@@ -58,8 +60,16 @@ fn expect_found<R: Threads + Wait + Sync + Abort>(
     } else {
         b"og-cert 1\n"
     };
+    let certs = reply.answer;
     assert!(rt; certs.text.starts_with(opening));
     assert_eq!(rt; certs.status, status);
+    assert_eq!(rt;
+        reply.missing,
+        Some(Missing {
+            count: missing,
+            conditions: 12
+        })
+    );
     let options = Options {
         workers,
         json: false,
@@ -83,7 +93,7 @@ fn certificates_that_are_found(rt: HostRuntime) -> Result<(), Fail> {
         let report = "conditions: 12\nproved: 12\nsafe: yes\nunblocked: yes\n";
         expect_found(&rt, rt.alloc(), TWO_ADD, version, report, 0)?;
         let report = "conditions: 12\nproved: 9\nsafe: no\nunblocked: yes\n";
-        expect_found(&rt, rt.alloc(), EQUAL_ADD, version, report, 1)?;
+        expect_found(&rt, rt.alloc(), EQUAL_ADD, version, report, 3)?;
     }
     Ok(())
 }
@@ -97,7 +107,7 @@ fn expect_proved<R: Threads + Wait + Sync + Abort>(
     let budget = Budget::new(100_000).expect(rt, "within its limit");
     let workers = Workers::new(3).expect(rt, "from 1 to 64");
     let version = CertVersion::ONE;
-    let certs = found(
+    let reply = found(
         rt,
         alloc,
         source.as_bytes(),
@@ -106,6 +116,7 @@ fn expect_proved<R: Threads + Wait + Sync + Abort>(
         version,
         &OpenGate,
     )?;
+    let certs = reply.answer;
     assert_eq!(rt; certs.status, 0);
     for workers in [1, 2, 64] {
         expect_report(rt, alloc, source, &certs.text, workers, report)?;

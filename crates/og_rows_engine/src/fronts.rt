@@ -86,7 +86,7 @@ fn expect_certs<R: Threads + Wait + Sync + Abort>(
 fn fronts(rt: HostRuntime) -> Result<(), Fail> {
     let alloc = rt.alloc();
     let budget = Budget::new(100_000).expect(&rt, "within its limit");
-    let answer = found(
+    let reply = found(
         &rt,
         alloc,
         TWO_ADD.as_bytes(),
@@ -95,7 +95,7 @@ fn fronts(rt: HostRuntime) -> Result<(), Fail> {
         CertVersion::ONE,
         &OpenGate,
     )?;
-    let certs = str::from_utf8(&answer.text).expect(&rt, "ASCII");
+    let certs = str::from_utf8(&reply.answer.text).expect(&rt, "ASCII");
     expect_sources(&rt, alloc, certs)?;
     expect_certs(&rt, alloc, certs)
 }

@@ -5,7 +5,7 @@ ghost use Rattle.std.specs.Prelude.{◌<◌, ◌≤◌, ◌^◌, length};
 use crate::sources::{LARGE, NO_FACTS, NOT_EVEN, deep, many, multiplied};
 use og_cert_text::{CertFile, write_certs};
 use og_cond::{Condition, conditions};
-use og_find::{Verdict, examine, find, has_all};
+use og_find::{Missing, Verdict, examine, find};
 use og_finder::find_all;
 use og_pool::OpenGate;
 use og_samples::{EQUAL_ADD, NESTED, TOLD_ADD, TWO_ADD, alike, outline_of};
@@ -181,9 +181,9 @@ fn certified_list<R: Threads + Wait + Sync>(
     requires few { length list.now < 2 ^ 32 }
 {
     let file = find_all(rt, alloc, list, BUDGET, WORKERS, &OpenGate)?;
-    let all = has_all(&file, 4938);
+    let missing = Missing::of(&file, 4938);
     drop(file);
-    Ok((list.len(), all))
+    Ok((list.len(), missing.count == 0))
 }
 
 fn certified<R: Threads + Wait + Sync>(

@@ -154,7 +154,7 @@ pub(crate) fn is_found<R: Threads + Wait + Sync>(rt: &R, alloc: Global) -> Resul
         return Ok(false);
     };
     let version = CertVersion::ONE;
-    let answer = found(
+    let reply = found(
         rt,
         alloc,
         ONE_SKIP.as_bytes(),
@@ -163,7 +163,7 @@ pub(crate) fn is_found<R: Threads + Wait + Sync>(rt: &R, alloc: Global) -> Resul
         version,
         &OpenGate,
     )?;
-    Ok(is(&answer, ONE_SKIP_CERTS, 0))
+    Ok(is(&reply.answer, ONE_SKIP_CERTS, 0))
 }
 
 const ERASED: &str =

@@ -3,7 +3,7 @@
 ghost use Rattle.std.specs.Prelude.{◌<◌, ◌^◌, IfOk, IfSome, vec_len};
 
 use og_cond::{Condition, ConditionsError, conditions};
-use og_find::{Verdict, examine, has_all};
+use og_find::{Missing, Verdict, examine};
 use og_finder::find_all;
 use og_pool::{OpenGate, PoolFault};
 use og_samples::{TWO_ADD, outline_of};
@@ -65,7 +65,12 @@ fn found<R: Threads + Wait + Sync>(
     outline: &Outline,
 ) -> Result<bool, PoolFault> {
     match listed(alloc, outline)? {
-        Some(list) => Ok(has_all(&find_all(rt, alloc, &list, BUDGET, 2, &OpenGate)?, 12)),
+        Some(list) => {
+            let file = find_all(rt, alloc, &list, BUDGET, 2, &OpenGate)?;
+            let missing = Missing::of(&file, 12);
+            drop(file);
+            Ok(missing.count == 0)
+        }
         None => Ok(false),
     }
 }

@@ -15,4 +15,4 @@ returns-clause-written g c =
     let cs = map seen c.args.conditions.now in
     let len = length-map c.args.conditions.now seen in
     let few : length cs ≤ 999999999 = omega (arith, len, c.requires.few) in
-    all_written cs c.in_ok-findings.findings c.written-written.result c.in_ok-findings.ensures.verdicts few c.written-written.ensures.text c.written-written.ensures.all
+    all_written cs c.in_ok-findings.findings c.written-written.result c.in_ok-findings.ensures.verdicts few c.written-written.ensures.text c.written-written.ensures.missing c.written-written.ensures.conditions

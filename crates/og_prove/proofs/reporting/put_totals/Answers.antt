@@ -1,6 +1,6 @@
 use Rattle.std.proofs.Common.{◌≡◌, ◌++◌, length, codes, rules}
-use Rattle.std.specs.Prelude.{OnOk}
-use Rattle.og_prove.specs.Report.{count, is_proved, is_false, is_open, is_safe, is_unblocked, number_line, yes_line}
+use Rattle.std.specs.Prelude.{OnOk, count_by}
+use Rattle.og_prove.specs.Report.{is_proved, is_false, is_open, is_safe, is_unblocked, number_line, yes_line}
 use Rattle.og_prove.proofs.Joins.{joined}
 use Rattle.og_prove.proofs.reporting.put_totals.Goals as goal
 
@@ -15,9 +15,9 @@ returns c =
     let t4 = c.put_number_line-4.new.text.items in
     let t5 = c.put_yes_line.new.text.items in
     let a1 = number_line (codes "conditions") (length told) in
-    let a2 = number_line (codes "proved") (count is_proved told) in
-    let a3 = number_line (codes "false") (count is_false told) in
-    let a4 = number_line (codes "open") (count is_open told) in
+    let a2 = number_line (codes "proved") (count_by is_proved told) in
+    let a3 = number_line (codes "false") (count_by is_false told) in
+    let a4 = number_line (codes "open") (count_by is_open told) in
     let a5 = yes_line (codes "safe") (is_safe told) in
     let a6 = yes_line (codes "unblocked") (is_unblocked told) in
     let e1 : t1 ≡ t0 ++ a1 = search rules in

@@ -1,4 +1,4 @@
-use Rattle.std.proofs.Common.{rules, ◌<◌, length, None, subst, inr}
+use Rattle.std.proofs.Common.{rules, ◌<◌, length, subst, inr}
 use Rattle.og_cond.specs.Conditions.{conditions}
 use Rattle.og_cond.specs.Limits.{condition_limit}
 use Rattle.og_source.specs.Source.{IsSource}
