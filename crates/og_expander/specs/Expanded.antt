@@ -90,3 +90,13 @@ IsReplyBy false = IsOfOutline
 -- by the first word of the text
 abbrev pub IsReply : Bool → List ℕ → List (List ℕ) → Reply → Type 0
 IsReply is_map text words reply = IsReplyBy (is_template text) is_map text words reply
+
+-- ---- what is said of a text
+
+-- of a template P holds of the text of an outline that it means, of any other text of itself
+abbrev pub HoldsBy : Bool → (List ℕ → Type 0) → List ℕ → Type 0
+HoldsBy true P text = (own : List ℕ) × IsOutlineText own × P own
+HoldsBy false P text = P text
+
+abbrev pub HoldsOf : (List ℕ → Type 0) → List ℕ → Type 0
+HoldsOf P text = HoldsBy (is_template text) P text

@@ -1,6 +1,6 @@
 //! Expanding a template: what is printed of it, and the status.
 //!
-//! specs/Expanded.antt says what is promised of an answer.
+//! specs/Expanded.antt says what is promised of an answer, specs/Words.antt of the words behind a template.
 #![tactic(auto)]
 
 mod again;
@@ -15,3 +15,5 @@ mod words;
 
 pub use expanding::{Expansion, Reply, expand_template, expanded};
 pub use fault::ExpandFault;
+pub use template::split_words;
+pub use words::SplitWords;

@@ -3,15 +3,15 @@
 ghost use Rattle.std.specs.Prelude.{map, IfOk, IfErr};
 ghost use Rattle.og_source.specs.Source.{IsSource};
 ghost use Rattle.og_expander.specs.Expanded.{IsOutlineText};
-ghost use Rattle.og_expander.specs.Words.{IsOneOrOther};
+ghost use Rattle.og_expander.specs.Words.{IsOneOrOther, IsSplit};
 
 use crate::fault::{ExpandError, Refusal};
 use crate::printing::{Printed, print};
-use crate::words::given;
+use crate::words::{SplitWords, given, split_by};
 use og_expand::{Binding, expand};
 use og_template::{Template, read};
 use og_template_names::check_names;
-use std::alloc::Global;
+use std::alloc::{AllocError, Global};
 
 // The outline of a template whose names are as they must be.
 fn of_values(
@@ -65,4 +65,28 @@ pub(crate) fn of_text<'a>(
     let printed = of_template(alloc, &template, words);
     drop(template);
     printed
+}
+
+/// The words behind a template: those NAME=.. whose NAME is one of its constants, and the others,
+/// which may be starts of its outline. Of a text that is not read as a template all are others.
+///
+/// # Errors
+///
+/// An allocation was refused.
+pub fn split_words<'a>(
+    alloc: Global,
+    text: &[u8],
+    words: &[&'a str],
+) -> Result<SplitWords<'a>, AllocError>
+    ensures { IfOk result (λ s. IsSplit (map (λ w. w.now) words.now) (map (λ w. w.now) s.constants.items) (map (λ w. w.now) s.starts.items)) }
+{
+    match template_of(alloc, text) {
+        Ok(template) => {
+            let split = split_by(alloc, &template.constants, words);
+            drop(template);
+            split
+        }
+        Err(ExpandError::Fault(_)) => split_by(alloc, &[], words),
+        Err(ExpandError::Memory) => Err(AllocError),
+    }
 }

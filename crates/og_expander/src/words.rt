@@ -1,12 +1,12 @@
 //! The values that words give to constants.
 
-ghost use Rattle.std.specs.Prelude.{map, IfErr};
-ghost use Rattle.og_expander.specs.Words.{IsOneOrOther};
+ghost use Rattle.std.specs.Prelude.{◌≡◌, map, IfErr, IfOk};
+ghost use Rattle.og_expander.specs.Words.{IsOneOrOther, is_one, names_one, IsSplitBy};
 
 use crate::fault::Refusal;
 use og_expand::Binding;
 use og_template::{Constant, Template};
-use std::alloc::Global;
+use std::alloc::{AllocError, Global};
 
 // The number that a text writes: one digit or more, with or without one `-` before them.
 fn integer(text: &str) -> Option<i64> {
@@ -16,7 +16,9 @@ fn integer(text: &str) -> Option<i64> {
     text.parse::<i64>().ok()
 }
 
-fn is_constant(constants: &[Constant], name: &[u8]) -> bool {
+fn is_constant(constants: &[Constant], name: &[u8]) -> bool
+    ensures { result ≡ is_one constants.now name.now }
+{
     constants
         .iter()
         .any(|constant| constant.name.name.as_slice() == name)
@@ -54,4 +56,46 @@ pub(crate) fn given<'a>(
         given.push(binding)?;
     }
     Ok(given)
+}
+
+// Whether a word NAME=.. names a constant.
+fn names_constant(constants: &[Constant], word: &str) -> bool
+    ensures { result ≡ names_one constants.now word.now }
+{
+    match word.split_once('=') {
+        Some((name, _)) => is_constant(constants, name.as_bytes()),
+        None => false,
+    }
+}
+
+/// The words behind a template, in their order.
+#[derive(Debug, Drop)]
+pub struct SplitWords<'a> {
+    /// Those NAME=.. whose NAME is a constant of the template.
+    pub constants: Vec<&'a str>,
+    /// The others.
+    pub starts: Vec<&'a str>,
+}
+
+/// The words by whether they name one of these constants.
+pub(crate) fn split_by<'a>(
+    alloc: Global,
+    constants: &[Constant],
+    words: &[&'a str],
+) -> Result<SplitWords<'a>, AllocError>
+    ensures { IfOk result (λ s. IsSplitBy constants.now (map (λ w. w.now) words.now) (map (λ w. w.now) s.constants.items) (map (λ w. w.now) s.starts.items)) }
+{
+    let mut naming = Vec::new(alloc);
+    let mut starts = Vec::new(alloc);
+    for word in words {
+        if names_constant(constants, word) {
+            naming.push(*word)?;
+        } else {
+            starts.push(*word)?;
+        }
+    }
+    Ok(SplitWords {
+        constants: naming,
+        starts,
+    })
 }

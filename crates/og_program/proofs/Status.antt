@@ -4,7 +4,7 @@ use Rattle.og_answer.specs.declared.answer.Answer.{Answer}
 use Rattle.og_engine.proofs.Promised.{written_text, wrote_unblocked}
 use Rattle.og_expander.specs.declared.expanding.Reply.{Reply as Proving}
 use Rattle.og_expander.specs.declared.expanding.Reply.TheVariants as provings
-use Rattle.og_prover.specs.Proof.{WarrantsReply, WarrantsText}
+use Rattle.og_prover.specs.Proof.{IsProvenText, WarrantsReply, WarrantsText}
 use Rattle.og_report.specs.Yes.{SaysUnblocked}
 use Rattle.og_template_words.specs.Front.{is_template}
 use Rattle.og_running.proofs.Answering.{run_proven}
@@ -16,6 +16,8 @@ use Rattle.og_remark.specs.Starting.{IsProvedRunRemark}
 use Rattle.og_explorer.specs.declared.exploring.Reply.{Reply as Exploring}
 use Rattle.og_explorer.specs.declared.exploring.Reply.TheVariants as explorings
 use Rattle.og_reaching.specs.Proving as proving
+use Rattle.og_reaching.specs.declared.reply.Reply.{Reply as Reaching}
+use Rattle.og_reaching.specs.declared.reply.Reply.TheVariants as reachings
 use Rattle.og_reaching.proofs.Promised.{reply_proven}
 use Rattle.og_showing.proofs.Promised.{shown_proven, shown_runs_proven}
 use Rattle.og_showing.specs.Running.{IsShowingRuns}
@@ -24,7 +26,7 @@ use Rattle.og_remark.specs.Values.{IsValueRemark}
 use Rattle.og_remark.specs.declared.values.Gives.TheVariants as gives
 use Rattle.og_words.specs.declared.job.Job.{Job}
 use Rattle.og_words.specs.declared.job.Job.TheVariants as jobs
-use Rattle.og_program.specs.Served.{Comes, Does, EndsJob, IsWordRemark, Follows, FollowsExploring, FollowsProving, TellsProvedBy, IsProvenIn, IsNeverStuckIn}
+use Rattle.og_program.specs.Served.{Comes, Does, EndsJob, IsWordRemark, Follows, FollowsExploring, FollowsProving, FollowsRuns, TellsProvedBy, IsProvenIn, IsNeverStuckIn}
 use Rattle.og_program.specs.Told.{Says}
 use Rattle.og_program.specs.declared.ended.Ended.{Ended}
 use Rattle.og_program.specs.declared.outcome.Outcome.TheVariants as outcomes
@@ -65,10 +67,21 @@ proved_warrants json name source (provings.Refused a fault) t w follows = subst 
 proved_warrants json name source (provings.BadValue word) t w follows = absurd follows
 
 -- a proof with runs that ended with status 0
-runs_proven : (json : Bool) (source : List ℕ) (words : List (List ℕ)) (R : Option (List ℕ) → Type 0) (V : List ℕ → List ℕ → Type 0) (reply : Exploring) (t : Told) → proving.IsReply json source words reply
-    → FollowsExploring R V reply (outcomes.Told t) → t.answer.status ≡ 0 → IsProvenSource source
-runs_proven json source words R V (explorings.Answer a) t is follows zero = reply_proven json source a is (ap (λ a. a.status) (sym follows.0) ∙ zero)
-runs_proven json source words R V (explorings.BadValue word) t is follows zero = absurd follows
+runs_proven : (json : Bool) (name source : List ℕ) (words : List (List ℕ)) (reply : Reaching) (t : Told) → proving.IsReply json source words reply → FollowsRuns name source reply (outcomes.Told t)
+    → t.answer.status ≡ 0 → IsProvenText source
+runs_proven json name source words (reachings.Answer a) t is follows zero =
+    reply_proven json source words (reachings.Answer a) is (ap (λ x. x.status) (sym (told_answer (is_template source) name source a t follows)) ∙ zero)
+runs_proven json name source words (reachings.Refused a fault) t is follows zero =
+    reply_proven json source words (reachings.Refused a fault) is (ap (λ x. x.status) (sym follows.0) ∙ zero)
+runs_proven json name source words (reachings.BadConstant word) t is follows zero = absurd follows
+runs_proven json name source words (reachings.BadStart word own) t is follows zero = absurd follows
+
+-- it comes to no listing
+no_listing_of_runs : (name source : List ℕ) (reply : Reaching) (text : List ℕ) → FollowsRuns name source reply (outcomes.Listing text) → ⊥
+no_listing_of_runs name source (reachings.Answer a) text follows = follows
+no_listing_of_runs name source (reachings.Refused a fault) text follows = follows
+no_listing_of_runs name source (reachings.BadConstant word) text follows = follows
+no_listing_of_runs name source (reachings.BadStart word own) text follows = follows
 
 -- a page with runs that ended with status 0
 show_proven : (source : List ℕ) (words : List (List ℕ)) (R : Option (List ℕ) → Type 0) (V : List ℕ → List ℕ → Type 0) (reply : Exploring) (t : Told) → IsShowingRuns source words reply
@@ -76,10 +89,10 @@ show_proven : (source : List ℕ) (words : List (List ℕ)) (R : Option (List �
 show_proven source words R V (explorings.Answer a) t is follows zero = shown_runs_proven source a is (ap (λ a. a.status) (sym follows.0) ∙ zero)
 show_proven source words R V (explorings.BadValue word) t is follows zero = absurd follows
 
--- such a proof comes to no listing
-no_listing_of_runs : (R : Option (List ℕ) → Type 0) (V : List ℕ → List ℕ → Type 0) (reply : Exploring) (text : List ℕ) → FollowsExploring R V reply (outcomes.Listing text) → ⊥
-no_listing_of_runs R V (explorings.Answer a) text follows = follows
-no_listing_of_runs R V (explorings.BadValue word) text follows = follows
+-- nor does such a page
+no_listing_of_page : (R : Option (List ℕ) → Type 0) (V : List ℕ → List ℕ → Type 0) (reply : Exploring) (text : List ℕ) → FollowsExploring R V reply (outcomes.Listing text) → ⊥
+no_listing_of_page R V (explorings.Answer a) text follows = follows
+no_listing_of_page R V (explorings.BadValue word) text follows = follows
 
 sound_answer : (files : List ℕ → Option (List ℕ)) (input : Option (List ℕ)) (job : Job) (before after err err_after : Option (List ℕ)) (ended : Ended) → Does files input job before after err err_after ended
     → ended.status ≡ 0 → IsProvenIn files input job
@@ -88,7 +101,7 @@ sound_answer files input jobs.Joined before after err err_after ended h zero =
 sound_answer files input (jobs.Prove source budget workers json values) before after err err_after ended h zero =
     let r = h.1.2 in (h.1.0, h.1.1, (proved_warrants json source.now h.1.0 r.0 h.0 r.2 r.3).0 (sym h.2.1 ∙ zero))
 sound_answer files input (jobs.ProveRuns source budget workers json limit ranges) before after err err_after ended h zero =
-    let r = h.1.2 in (h.1.0, h.1.1, runs_proven json h.1.0 (map (λ w. w.now) ranges.items) (IsConditionsRemark source.now h.1.0) (IsValueRemark gives.Ranges h.1.0) r.0 h.0 r.1 r.2 (sym h.2.1 ∙ zero))
+    let r = h.1.2 in (h.1.0, h.1.1, runs_proven json source.now h.1.0 (map (λ w. w.now) ranges.items) r.0 h.0 r.1 r.2 (sym h.2.1 ∙ zero))
 sound_answer files input (jobs.Check source certs workers json) before after err err_after ended h zero = (h.1.0, h.1.1, h.1.2.2.1.0 (sym h.2.1 ∙ zero))
 sound_answer files input (jobs.Notes source budget) before after err err_after ended h zero = tt
 sound_answer files input (jobs.Show source budget workers) before after err err_after ended h zero = (h.1.0, h.1.1, shown_proven h.1.0 h.0.answer h.1.2.0 (sym h.2.1 ∙ zero))
@@ -132,12 +145,12 @@ sound_listing files input jobs.Joined text came = absurd came.2.3
 sound_listing files input (jobs.Prove source budget workers json values) text came =
     absurd (no_listing_proved source.now came.0 came.2.0 text came.2.3)
 sound_listing files input (jobs.ProveRuns source budget workers json limit ranges) text came =
-    let r = came.2 in absurd (no_listing_of_runs (IsConditionsRemark source.now came.0) (IsValueRemark gives.Ranges came.0) r.0 text r.2)
+    absurd (no_listing_of_runs source.now came.0 came.2.0 text came.2.2)
 sound_listing files input (jobs.Check source certs workers json) text came = absurd came.2.2
 sound_listing files input (jobs.Notes source budget) text came = tt
 sound_listing files input (jobs.Show source budget workers) text came = absurd came.2
 sound_listing files input (jobs.ShowRuns source budget workers limit ranges) text came =
-    let r = came.2 in absurd (no_listing_of_runs (IsConditionsRemark source.now came.0) (IsValueRemark gives.Ranges came.0) r.0 text r.2)
+    let r = came.2 in absurd (no_listing_of_page (IsConditionsRemark source.now came.0) (IsValueRemark gives.Ranges came.0) r.0 text r.2)
 sound_listing files input (jobs.Conditions source triples smt2 only) text came = tt
 sound_listing files input (jobs.Find source budget workers version) text came = tt
 sound_listing files input (jobs.Erase source readable) text came = tt

@@ -9,6 +9,7 @@ use Rattle.og_engine.specs.Proven.{HasProvenSource}
 use Rattle.og_engine.specs.Commands.{IsErased}
 use Rattle.og_engine.specs.Inputs.{source_of, certs_of, joined_of, Reads}
 use Rattle.og_engine.specs.Making.{IsFound, IsMigrated}
+use Rattle.og_engine.specs.declared.making.FindReply.{FindReply}
 use Rattle.og_engine.specs.Unfinished.{AppendsFront}
 use Rattle.og_engine.specs.Warrants.{Warrants}
 use Rattle.og_engine.specs.Wrote.{Wrote}
@@ -19,6 +20,7 @@ use Rattle.og_expander.specs.declared.expanding.Reply.TheVariants as expandings
 use Rattle.og_explorer.specs.Explored.{IsReply}
 use Rattle.og_explorer.specs.declared.exploring.Reply.{Reply as Exploring}
 use Rattle.og_explorer.specs.declared.exploring.Reply.TheVariants as explorings
+use Rattle.og_find.specs.declared.counting.Missing.{Missing}
 use Rattle.og_input.specs.Joined.{IsSplit}
 use Rattle.og_judge.specs.Proven.{IsProvenSource}
 use Rattle.og_judge.specs.NeverStuck.{IsNeverStuckSource}
@@ -30,12 +32,14 @@ use Rattle.og_listings.specs.declared.form.Form.TheVariants as forms
 use Rattle.og_notes.specs.Noted.{IsNoted}
 use Rattle.og_prover.specs.Proof as proof
 use Rattle.og_remark.specs.Expansion.{IsExpansionRemark}
-use Rattle.og_remark.specs.Missing.{IsMissingRemark}
+use Rattle.og_remark.specs.Missing.{missing_text, IsMissingRemark}
 use Rattle.og_remark.specs.Remarks.{IsSourceRemark, IsConditionsRemark, IsTooManyRemark, IsCheckRemark, IsCertificatesRemark}
 use Rattle.og_remark.specs.Starting.{IsRunRemark, IsProvedRunRemark}
 use Rattle.og_remark.specs.Values.{schedule_text, reason_line, IsValueRemark}
 use Rattle.og_remark.specs.declared.values.Gives.TheVariants as gives
 use Rattle.og_reaching.specs.Proving as proving
+use Rattle.og_reaching.specs.declared.reply.Reply.{Reply as Proving}
+use Rattle.og_reaching.specs.declared.reply.Reply.TheVariants as provings
 use Rattle.og_report.specs.Yes.{SaysUnblocked}
 use Rattle.og_running.specs.Running.{IsRan, IsRanProved}
 use Rattle.og_running.specs.Scheduled.{IsScheduled}
@@ -97,8 +101,19 @@ form_of triples true = forms.Script
 form_of true false = forms.Triples
 form_of false false = forms.Facts
 
+-- so many conditions have no certificate
+abbrev pub IsMissingNote : List ℕ → Missing → Option (List ℕ) → Type 0
+IsMissingNote name missing None = ⊥
+IsMissingNote name missing (Some text) = text ≡ missing_text name missing.count missing.conditions
+
+-- beside certificates how many conditions have none, if some have none; and else why the conditions are refused
+abbrev pub TellsFound : List ℕ → List ℕ → Option Missing → Told → Type 0
+TellsFound name source None t = Noted (IsConditionsRemark name source) t
+TellsFound name source (Some missing) t = (missing.count ≡ 0 → t.note ≡ Ok None) × (missing.count ≢ 0 → Noted (IsMissingNote name missing) t)
+
 abbrev pub Finds : ℕ → List ℕ → List ℕ → Told → Type 0
-Finds version name source t = IsFound version source t.answer × RemarksBoth (IsConditionsRemark name source) (IsMissingRemark name source t.answer.text.items) t
+Finds version name source t =
+    (reply : FindReply) × IsFound version source reply × (t.answer ≡ reply.answer) × TellsFound name source reply.missing t
 
 abbrev pub Erases : Bool → List ℕ → List ℕ → Told → Type 0
 Erases readable name source t = IsErased readable source t.answer × Remarks (IsSourceRemark name source) t
@@ -166,6 +181,14 @@ FollowsProving name source (expandings.Refused answer fault) outcome =
     OnTold (λ t. (t.answer ≡ answer) × Noted (IsExpansionNote name source fault) t) outcome
 FollowsProving name source (expandings.BadValue word) outcome = OnBad (λ _ _. ⊥) word outcome
 
+-- the same of the reply to a proof with runs; of a word that gives no start a line says why by the outline in its text
+abbrev pub FollowsRuns : List ℕ → List ℕ → Proving → Outcome → Type 0
+FollowsRuns name source (provings.Answer answer) outcome = OnTold (TellsProved name source answer) outcome
+FollowsRuns name source (provings.Refused answer fault) outcome =
+    OnTold (λ t. (t.answer ≡ answer) × Noted (IsExpansionNote name source fault) t) outcome
+FollowsRuns name source (provings.BadConstant word) outcome = OnBad (λ _ _. ⊥) word outcome
+FollowsRuns name source (provings.BadStart word outline) outcome = OnBad (IsValueRemark gives.Ranges outline.items) word outcome
+
 -- what is told of the reply to whoever asks for conditions
 abbrev pub FollowsListing : List ℕ → List ℕ → Listing → Outcome → Type 0
 FollowsListing name source (listings.Listing text) outcome = outcome ≡ outcomes.Listing text
@@ -200,12 +223,12 @@ OfRun files input name limit erased None (Some schedule) words outcome =
 OfRun files input name limit erased (Some certs) schedule words outcome =
     OfBoth files input name certs.now (λ s c. Runs (IsRanProved limit s c words) (IsProvedRunRemark name certs.now s c words) (IsWordRemark s None)) outcome
 
--- what searches tell of the conditions and of runs, from the starts that the words give
+-- what searches tell of the conditions of a source or of a template and of runs, from the starts that the words give
 abbrev pub ProvesRuns : Bool → List (List ℕ) → List ℕ → List ℕ → Outcome → Type 0
 ProvesRuns json words name source outcome =
-    (reply : Exploring) × proving.IsReply json source words reply × FollowsExploring (IsConditionsRemark name source) (IsValueRemark gives.Ranges source) reply outcome
+    (reply : Proving) × proving.IsReply json source words reply × FollowsRuns name source reply outcome
 
--- the same as a page
+-- the same of a source as a page
 abbrev pub ShowsRuns : List (List ℕ) → List ℕ → List ℕ → Outcome → Type 0
 ShowsRuns words name source outcome =
     (reply : Exploring) × IsShowingRuns source words reply × FollowsExploring (IsConditionsRemark name source) (IsValueRemark gives.Ranges source) reply outcome
@@ -390,7 +413,7 @@ IsProvenRun source (Some certs) = Reads source_of source IsProvenSource
 abbrev pub IsProvenIn : (List ℕ → Option (List ℕ)) → Option (List ℕ) → Job → Type 0
 IsProvenIn files input jobs.Joined = Reads joined_of input HasProvenSource
 IsProvenIn files input (jobs.Prove source budget workers json values) = Reads source_of (bytes_in files input source.now) proof.IsProvenText
-IsProvenIn files input (jobs.ProveRuns source budget workers json limit ranges) = Reads source_of (bytes_in files input source.now) IsProvenSource
+IsProvenIn files input (jobs.ProveRuns source budget workers json limit ranges) = Reads source_of (bytes_in files input source.now) proof.IsProvenText
 IsProvenIn files input (jobs.Check source certs workers json) = Reads source_of (bytes_in files input source.now) IsProvenSource
 IsProvenIn files input (jobs.Notes source budget) = ⊤
 IsProvenIn files input (jobs.Show source budget workers) = Reads source_of (bytes_in files input source.now) IsProvenSource

@@ -1,27 +1,31 @@
 //! What goes to standard error beside an answer.
 
-ghost use Rattle.std.specs.Prelude.{◌≡◌, map, None, IfSome};
+ghost use Rattle.std.specs.Prelude.{◌≡◌, ◌≢◌, map, option_map, Ok, None, IfOk, IfSome};
 ghost use Rattle.og_remark.specs.Missing.{IsMissingRemark};
 ghost use Rattle.og_remark.specs.Remarks.{IsSourceRemark, IsConditionsRemark, IsTooManyRemark, IsCheckRemark, IsCertificatesRemark};
 ghost use Rattle.og_remark.specs.Starting.{IsRunRemark, IsProvedRunRemark};
 ghost use Rattle.og_remark.specs.Values.{schedule_text, reason_line, IsValueRemark};
 ghost use Rattle.og_remark.specs.declared.values.Gives.TheVariants as gives;
 ghost use Rattle.og_program.specs.Told.{Noted};
-ghost use Rattle.og_program.specs.Served.{Remarks, RemarksBoth, TellsRan, IsWordRemark, IsExpansionNote, Follows, FollowsExploring, FollowsExpanding, FollowsListing, FollowsProving, TellsProved, OnBad};
+ghost use Rattle.og_program.specs.Served.{Remarks, RemarksBoth, IsMissingNote, TellsFound, TellsRan, IsWordRemark, IsExpansionNote, Follows, FollowsExploring, FollowsExpanding, FollowsListing, FollowsProving, FollowsRuns, TellsProved, OnBad};
 
 use crate::outcome::{BadValue, Outcome, Told};
 use og_advice::Names;
 use og_answer::Answer;
+use og_engine::FindReply;
 use og_expander::{ExpandFault, Reply as Expanded};
 use og_explorer::Reply as Explored;
+use og_find::Missing;
 use og_listings::Reply as Listed;
+use og_reaching::Reply as Proved;
 use og_remark::{
-    Gives, certificates_remark, check_remark, conditions_remark, expansion_remark, missing_remark,
-    proved_run_remark, run_remark, schedule_remark, source_remark, too_many_remark, value_remark,
+    Gives, certificates_remark, check_remark, conditions_remark, expansion_remark, missing_line,
+    missing_remark, proved_run_remark, run_remark, schedule_remark, source_remark, too_many_remark,
+    value_remark,
 };
 use og_running::{Ran, Reply};
 use og_template_words::is_template;
-use std::alloc::Global;
+use std::alloc::{AllocError, Global};
 use std::sync::Wait;
 use std::thread::Threads;
 
@@ -70,16 +74,27 @@ pub(crate) fn beside_certificates(alloc: Global, name: &str, certs: &[u8], answe
     Told { answer, note }
 }
 
+// How many conditions have no certificate, if some have none.
+fn missing_note(alloc: Global, name: &str, missing: Missing) -> Result<Option<Vec<u8>>, AllocError>
+    ensures none { missing.count ≡ 0 → result ≡ Ok None }
+    ensures some { missing.count ≢ 0 → IfOk result (λ note. IsMissingNote name.now missing (option_map (λ n. n.items) note)) }
+{
+    if missing.count == 0 {
+        return Ok(None);
+    }
+    missing_line(alloc, name, missing).map(Some)
+}
+
 /// The certificates that are found for a source, and how many conditions have none, or why the
 /// source is refused.
-pub(crate) fn beside_found(alloc: Global, name: &str, source: &[u8], answer: Answer) -> Told
-    ensures answer { result.answer ≡ answer }
-    ensures remark { RemarksBoth (IsConditionsRemark name.now source.now) (IsMissingRemark name.now source.now result.answer.text.items) result }
+pub(crate) fn beside_found(alloc: Global, name: &str, source: &[u8], reply: FindReply) -> Told
+    ensures answer { result.answer ≡ reply.answer }
+    ensures remark { TellsFound name.now source.now reply.missing result }
 {
-    let note = match answer.status {
-        REFUSED => conditions_remark(alloc, name, source),
-        LACKING => missing_remark(alloc, name, source, &answer.text),
-        _ => Ok(None),
+    let FindReply { answer, missing } = reply;
+    let note = match missing {
+        Some(missing) => missing_note(alloc, name, missing),
+        None => conditions_remark(alloc, name, source),
     };
     Told { answer, note }
 }
@@ -258,8 +273,8 @@ fn bad_range<'a>(alloc: Global, source: &[u8], word: &'a str) -> Outcome<'a>
     Outcome::BadValue(bad_value(alloc, Gives::Ranges, source, word))
 }
 
-/// What is told of the reply to a proof of a source with runs.
-pub(crate) fn beside_runs<'a>(
+/// What is told of the reply to whoever asks for a page with runs.
+pub(crate) fn beside_page<'a>(
     alloc: Global,
     name: &str,
     source: &[u8],
@@ -356,6 +371,25 @@ pub(crate) fn beside_proof<'a>(
             Outcome::Told(beside_fault(alloc, name, source, answer, &fault))
         }
         Expanded::BadValue(word) => bad_constant(word),
+    }
+}
+
+/// What is told of the reply to a proof of a source or of a template with runs.
+pub(crate) fn beside_runs<'a>(
+    alloc: Global,
+    name: &str,
+    source: &[u8],
+    reply: Proved<'a>,
+) -> Outcome<'a>
+    ensures { FollowsRuns name.now source.now reply.entry result }
+{
+    match reply {
+        Proved::Answer(answer) => Outcome::Told(beside_proved(alloc, name, source, answer)),
+        Proved::Refused(answer, fault) => {
+            Outcome::Told(beside_fault(alloc, name, source, answer, &fault))
+        }
+        Proved::BadConstant(word) => bad_constant(word),
+        Proved::BadStart(word, outline) => bad_range(alloc, &outline, word),
     }
 }
 

@@ -5,7 +5,7 @@ ghost use Rattle.og_program.specs.Failing.{IsFault, IsUnread};
 ghost use Rattle.og_program.specs.Named.{is_file, lacks_bytes};
 ghost use Rattle.og_program.specs.Served.{OfSource, OnTold, Proves, ProvesRuns, Shows, ShowsRuns, Finds};
 
-use crate::beside::{beside_conditions, beside_found, beside_proof, beside_runs};
+use crate::beside::{beside_conditions, beside_found, beside_page, beside_proof, beside_runs};
 use crate::fault::Fault;
 use crate::files::Files;
 use crate::outcome::Outcome;
@@ -41,8 +41,8 @@ impl<'r, F: Files, G: Gate, H: Threads + Wait + Sync> Program<'r, F, G, H> {
         Ok(beside_proof(self.alloc, source, &bytes, reply))
     }
 
-    /// What searches tell of the conditions of a source, and of the runs that get to states in which
-    /// they are false, from the starts that the words give.
+    /// What searches tell of the conditions of a source, or of a template, and of the runs that get to
+    /// states in which they are false, under the values and from the starts that the words give.
     pub(crate) fn prove_runs<'a, I: Read>(
         &self,
         source: &'a str,
@@ -99,7 +99,7 @@ impl<'r, F: Files, G: Gate, H: Threads + Wait + Sync> Program<'r, F, G, H> {
         let bytes = source_bytes(self.alloc, self.files, source, input)?;
         let limit = limit.moments();
         let reply = shown_with_runs(self.rt, self.alloc, &bytes, words, search, limit, self.gate)?;
-        Ok(beside_runs(self.alloc, source, &bytes, reply))
+        Ok(beside_page(self.alloc, source, &bytes, reply))
     }
 
     /// The certificates that are found for a source.
@@ -117,10 +117,10 @@ impl<'r, F: Files, G: Gate, H: Threads + Wait + Sync> Program<'r, F, G, H> {
         ensures kept { is_file source.now ≡ true → I.remaining input.new ≡ I.remaining input.old }
     {
         let bytes = source_bytes(self.alloc, self.files, source, input)?;
-        let answer = found(
+        let reply = found(
             self.rt, self.alloc, &bytes, budget, workers, version, self.gate,
         )?;
-        let told = beside_found(self.alloc, source, &bytes, answer);
+        let told = beside_found(self.alloc, source, &bytes, reply);
         Ok(Outcome::Told(told))
     }
 }

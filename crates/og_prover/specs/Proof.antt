@@ -11,7 +11,7 @@ use Rattle.og_judge.specs.NeverStuck.{IsNeverStuckSource}
 use Rattle.og_report.specs.Yes.{SaysUnblocked}
 use Rattle.og_engine.specs.Proving.{IsToldOf, IsProving}
 use Rattle.og_template_words.specs.Front.{is_template}
-use Rattle.og_expander.specs.Expanded.{IsOutlineText, IsTold}
+use Rattle.og_expander.specs.Expanded.{IsOutlineText, IsTold, HoldsBy, HoldsOf}
 use Rattle.og_expander.specs.declared.expanding.Reply.{Reply}
 use Rattle.og_expander.specs.declared.expanding.Reply.TheVariants as replies
 use denote.Ref.{Bor}
@@ -48,14 +48,6 @@ abbrev pub IsReply : Bool → List ℕ → List (List ℕ) → Reply → Type 0
 IsReply json text words reply = IsReplyBy (is_template text) json text words reply
 
 -- ---- what that says of the runs
-
--- of a template P holds of the text of an outline that it means, of any other text of itself
-abbrev pub HoldsBy : Bool → (List ℕ → Type 0) → List ℕ → Type 0
-HoldsBy true P text = (own : List ℕ) × IsOutlineText own × P own
-HoldsBy false P text = P text
-
-abbrev pub HoldsOf : (List ℕ → Type 0) → List ℕ → Type 0
-HoldsOf P text = HoldsBy (is_template text) P text
 
 -- every run is as promised; and none gets stuck
 abbrev pub IsProvenText : List ℕ → Type 0

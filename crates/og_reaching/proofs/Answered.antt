@@ -7,6 +7,7 @@ use Rattle.og_cond.specs.Conditions.{conditions}
 use Rattle.og_cond.specs.Limits.{condition_limit}
 use Rattle.og_theorem.specs.Sound.{IsSound, IsSoundErased}
 use Rattle.og_theorem.specs.NeverStuck.{IsNeverStuck}
+use Rattle.og_origins.specs.Origins.{Rows}
 use Rattle.og_answer.specs.Told.{Says}
 use Rattle.og_answer.specs.declared.answer.Answer.{Answer}
 use Rattle.og_prove.specs.Report.{is_unblocked}
@@ -51,17 +52,17 @@ all_end o lists cs rest ts rs none h =
     (subst (λ l. AreShown o lists cs (ts ++ []) l) (append_none rs) (h [] [] (subst (λ l. AreShown o lists l [] []) (sym none) tt)))
 
 -- the answer
-pub shown_text : (json : Bool) (o : Program) (source : List ℕ) (cs : List Condition) (ts : List Told) (rs : List Run) (e : Explored) (a : Answer) → cs ≡ conditions o → length cs ≤ condition_limit
-    → IsFollowed o cs ts rs e → Says (printed json o source e cs ts rs) (told_status ts) a → (a.status ≡ 0 → IsSound o × IsSoundErased o)
-    → (a.status ≡ 0 → is_unblocked ts ≡ true → IsNeverStuck o × IsNeverStuck (erased o)) → IsShownText json o source a
-shown_text json o source cs ts rs e a is few followed says sound unblocked =
+pub shown_text : (json : Bool) (o : Program) (text source : List ℕ) (rows : Rows) (cs : List Condition) (ts : List Told) (rs : List Run) (e : Explored) (a : Answer) → cs ≡ conditions o → length cs ≤ condition_limit
+    → IsFollowed o cs ts rs e → Says (printed json o text source rows e cs ts rs) (told_status ts) a → (a.status ≡ 0 → IsSound o × IsSoundErased o)
+    → (a.status ≡ 0 → is_unblocked ts ≡ true → IsNeverStuck o × IsNeverStuck (erased o)) → IsShownText json o text source rows a
+shown_text json o text source rows cs ts rs e a is few followed says sound unblocked =
     record {
       few = subst (λ l. length l ≤ condition_limit) is few;
       told = ts;
       runs = rs;
       explored = e;
       followed = subst (λ l. IsFollowed o l ts rs e) is followed;
-      says = subst (λ l. Says (printed json o source e l ts rs) (told_status ts) a) is says;
+      says = subst (λ l. Says (printed json o text source rows e l ts rs) (told_status ts) a) is says;
       sound = sound;
       unblocked = unblocked;
     }

@@ -1,4 +1,4 @@
-//! Proving an outline, and looking for the runs that get to the states in which its conditions are
+//! Proving an outline, or that of a template, and looking for the runs that get to the states in which its conditions are
 //! false: what is printed of it, and the status.
 //!
 //! specs/Followed.antt says what is promised of what is told, specs/Proving.antt of an answer.
@@ -6,10 +6,13 @@
 
 mod following;
 mod proving;
+mod reply;
+mod replying;
 mod showing;
 mod starting;
 mod telling;
 
 pub use following::{Followed, follow};
-pub use proving::proved_with_runs;
+pub use reply::Reply;
+pub use replying::proved_with_runs;
 pub use showing::Shows;

@@ -21,8 +21,7 @@ use Rattle.og_page.specs.declared.target.Target.{Target}
 use Rattle.og_showing.specs.Showing.{IsPage, IsPageOf, IsShowing}
 use Rattle.og_explorer.specs.declared.exploring.Reply.{Reply}
 use Rattle.og_explorer.specs.declared.exploring.Reply.TheVariants as replies
-use Rattle.og_reaching.specs.Proving.{OnAnswer}
-use Rattle.og_showing.specs.Running.{IsPageWithRunsOf, IsShowingRuns}
+use Rattle.og_showing.specs.Running.{IsPageWithRunsOf, IsShowingRuns, OnAnswer}
 
 pub page_of : (o : Program) (source : List ℕ) (cs : List Condition) (ts : List Told) (before : List ℕ) (beneath : List (List ℕ)) (gs : List Target) (a : Answer) → cs ≡ conditions o → length cs ≤ condition_limit
     → AreTold o cs ts → AreTargets o cs gs → Says (page_text o source before beneath cs ts gs) (told_status ts) a → (a.status ≡ 0 → IsSound o × IsSoundErased o)

@@ -1,5 +1,5 @@
 -- What is shown of a source with runs, and the status.
-use Rattle.std.specs.Prelude.{◌⊎◌, ℕ, List, Contains}
+use Rattle.std.specs.Prelude.{◌⊎◌, ℕ, List, Contains, ⊤}
 use Rattle.og_typed.specs.Syntax.{Program}
 use Rattle.og_cond.specs.Conditions.{conditions}
 use Rattle.og_source.specs.Source.{IsSource}
@@ -34,3 +34,8 @@ IsPageWithRunsOf o source answer = IsPageWithRuns o source answer ⊎ HasTooMany
 abbrev pub IsShowingRuns : List ℕ → List (List ℕ) → Reply → Type 0
 IsShowingRuns source words (replies.Answer a) = IsUnread source a ⊎ ((o : Program) × IsSource source o × IsPageWithRunsOf o source a)
 IsShowingRuns source words (replies.BadValue word) = Contains words word.now
+
+-- what P says of an answer
+abbrev pub OnAnswer : (Answer → Type 0) → Reply → Type 0
+OnAnswer P (replies.Answer a) = P a
+OnAnswer P (replies.BadValue word) = ⊤

@@ -7,8 +7,7 @@ ghost use Rattle.og_cond.specs.Seen.{seen};
 ghost use Rattle.og_judge.specs.Proven.{IsProvenSource};
 ghost use Rattle.og_pool.specs.declared.fault.PoolFault.TheVariants.{Spawn};
 ghost use Rattle.og_reaching.specs.Followed.{IsFollowed};
-ghost use Rattle.og_reaching.specs.Proving.{OnAnswer};
-ghost use Rattle.og_showing.specs.Running.{IsPageWithRuns, IsPageWithRunsOf, IsShowingRuns};
+ghost use Rattle.og_showing.specs.Running.{IsPageWithRuns, IsPageWithRunsOf, IsShowingRuns, OnAnswer};
 
 use crate::showing::paged;
 use og_answer::{Answer, InputFault};

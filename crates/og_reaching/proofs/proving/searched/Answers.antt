@@ -15,5 +15,5 @@ returns-clause-told g c =
     let f = c.in_ok-followed.followed in
     let same : length (map seen c.args.conditions.now) ≡ length c.args.conditions.now = simp length-map in
     let few = subst (λ (n : ℕ). n ≤ condition_limit) (sym same) c.requires.few in
-    shown_text c.args.search.json c.args.outline.now c.args.source.now (map seen c.args.conditions.now) f.shows.told.items f.shows.runs.items f.explored c.in_ok-answer.answer
+    shown_text c.args.search.json c.args.outline.now c.args.texts.own.now c.args.texts.told.now c.args.texts.rows (map seen c.args.conditions.now) f.shows.told.items f.shows.runs.items f.explored c.in_ok-answer.answer
     c.requires.listed few c.in_ok-followed.ensures.followed c.in_ok-answer.ensures.says c.in_ok-answer.ensures.sound c.in_ok-answer.ensures.unblocked

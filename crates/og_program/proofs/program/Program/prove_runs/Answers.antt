@@ -1,9 +1,6 @@
 use Rattle.std.proofs.Common.{ℕ, List, map, subst}
 use Rattle.og_reaching.specs.Proving.{IsReply}
-use Rattle.og_remark.specs.Remarks.{IsConditionsRemark}
-use Rattle.og_remark.specs.Values.{IsValueRemark}
-use Rattle.og_remark.specs.declared.values.Gives.TheVariants as gives
-use Rattle.og_program.specs.Served.{FollowsExploring}
+use Rattle.og_program.specs.Served.{FollowsRuns}
 use Rattle.og_program.proofs.program.Program.prove_runs.Goals as goal
 
 pub returns-clause-came : goal.returns-clause-came
@@ -15,6 +12,6 @@ returns-clause-came g c =
       (
         reply,
         subst (λ (s : List ℕ). IsReply c.args.search.json s words reply) c.deref.ensures.value c.in_ok-reply.ensures.reply,
-        subst (λ (s : List ℕ). FollowsExploring (IsConditionsRemark c.args.source.now s) (IsValueRemark gives.Ranges s) reply c.beside_runs.result) c.deref-2.ensures.value c.beside_runs.ensures,
+        subst (λ (s : List ℕ). FollowsRuns c.args.source.now s reply c.beside_runs.result) c.deref-2.ensures.value c.beside_runs.ensures,
       ),
     )

@@ -15,6 +15,6 @@ returns-clause-came g c =
       (
         reply,
         subst (λ (s : List ℕ). IsShowingRuns s words reply) c.deref.ensures.value c.in_ok-reply.ensures.reply,
-        subst (λ (s : List ℕ). FollowsExploring (IsConditionsRemark c.args.source.now s) (IsValueRemark gives.Ranges s) reply c.beside_runs.result) c.deref-2.ensures.value c.beside_runs.ensures,
+        subst (λ (s : List ℕ). FollowsExploring (IsConditionsRemark c.args.source.now s) (IsValueRemark gives.Ranges s) reply c.beside_page.result) c.deref-2.ensures.value c.beside_page.ensures,
       ),
     )
