@@ -43,7 +43,7 @@ pub(crate) fn put_totals(text: &mut Vec<u8>, told: &[Told]) -> Result<(), AllocE
     put_number_item(text, b"conditions", told.len())?;
     put_number_item(text, b"proved", totals.proved)?;
     put_number_item(text, b"false", totals.refuted)?;
-    put_number_item(text, b"open", totals.open)?;
+    put_number_item(text, b"open", totals.still_open)?;
     put_answer_item(text, b"safe", is_safe(told))?;
     put_answer_item(text, b"unblocked", is_unblocked(told))
 }

@@ -209,7 +209,7 @@ pub struct Totals {
     /// How many are false.
     pub refuted: usize,
     /// How many are neither.
-    pub open: usize,
+    pub still_open: usize,
 }
 
 impl Totals {
@@ -217,12 +217,12 @@ impl Totals {
     pub fn of(told: &[Told]) -> Totals
         ensures proved { result.proved ≡ count_by is_proved told.now }
         ensures refuted { result.refuted ≡ count_by is_false told.now }
-        ensures open { result.open ≡ count_by is_open told.now }
+        ensures still_open { result.still_open ≡ count_by is_open told.now }
     {
         Totals {
             proved: told.iter().filter(|each| each.is_proved()).count(),
             refuted: told.iter().filter(|each| each.is_false()).count(),
-            open: told.iter().filter(|each| each.is_open()).count(),
+            still_open: told.iter().filter(|each| each.is_open()).count(),
         }
     }
 }
@@ -290,7 +290,7 @@ pub fn put_totals(text: &mut Vec<u8>, told: &[Told]) -> Result<(), AllocError>
     put_number_line(text, b"conditions", told.len())?;
     put_number_line(text, b"proved", totals.proved)?;
     put_number_line(text, b"false", totals.refuted)?;
-    put_number_line(text, b"open", totals.open)?;
+    put_number_line(text, b"open", totals.still_open)?;
     put_yes_line(text, b"safe", is_safe(told))?;
     put_yes_line(text, b"unblocked", is_unblocked(told))
 }

@@ -28,7 +28,7 @@ pub fn totals_value(alloc: Global, told: &[Told], unproved: Value) -> Result<Val
     let conditions = told.len() as u64;
     let totals = Totals::of(told);
     let refuted = totals.refuted as u64;
-    let unknown = totals.open as u64;
+    let unknown = totals.still_open as u64;
     let proved = totals.proved as u64;
     let safe = is_safe(told);
     let unblocked = is_unblocked(told);
