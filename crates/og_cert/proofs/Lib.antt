@@ -7,3 +7,4 @@ pub mod Terms
 pub mod Lines
 pub mod Answering
 pub mod Written
+pub mod Sights

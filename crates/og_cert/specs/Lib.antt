@@ -4,5 +4,6 @@ pub mod Closes
 pub mod Faults
 pub mod Steps
 pub mod Held
+pub mod Sight
 pub mod Answer
 pub mod Law

@@ -1,9 +1,12 @@
 //! Combinations of facts, and the other forms that a line of a certificate makes.
 
-ghost use Rattle.std.specs.Prelude.{◌≡◌, ◌<◌, [], nat_lt, true, IsOk, IsErrOf};
+ghost use Rattle.std.specs.Prelude.{◌≡◌, ◌<◌, [], nat_lt, true, Ok, IsOk, IsErrOf, IsTrue};
 ghost use Rattle.std.specs.List.{list_all};
 ghost use Rattle.og_cert_text.specs.Tree.{Low, High};
 ghost use Rattle.og_cert_text.specs.Plain.{ref_of, combination_of};
+ghost use Rattle.og_linear.specs.Bounded.{add_scaled};
+ghost use Rattle.og_linear.specs.Answer.{IsAnswer};
+ghost use Rattle.og_linear.specs.declared.fault.FormFault.TheVariants as faults;
 ghost use Rattle.og_cert.specs.Checks as check;
 ghost use Rattle.og_cert.specs.Held.{facts_held};
 ghost use Rattle.og_cert.specs.Answer.{IsChecked, or_kind};
@@ -11,7 +14,9 @@ ghost use Rattle.og_cert.specs.declared.fault.CheckError.TheVariants.{Memory};
 
 use crate::fault::{CheckError, FaultKind};
 use crate::held::{Held, atom_at};
+use crate::sight::is_closed;
 use og_cert_text::{Source, Term};
+use og_facts::Atom;
 use og_linear::{Form, FormError};
 use std::alloc::Global;
 
@@ -55,6 +60,16 @@ fn high_form(alloc: Global, variables: u32, var: u32) -> Result<Form, CheckError
     Ok(form)
 }
 
+// Adds so many times the form of a fact.
+fn add_atom(alloc: Global, sum: &mut Form, times: i128, atom: &Atom) -> Result<(), FormError>
+    ensures { IsAnswer (λ _. sum.new) faults.TooLarge result (add_scaled sum.old times atom.now) }
+{
+    match atom.as_form() {
+        Some(form) => sum.add_scaled(times, form),
+        None => sum.add_scaled(times, &atom.form(alloc)?),
+    }
+}
+
 // Adds a multiple of a fact or of a bound. Takes memory only where there is the fact or the bound.
 fn add_term(
     alloc: Global,
@@ -69,7 +84,7 @@ fn add_term(
 {
     let times = i128::from(term.times);
     let added = match term.source {
-        Source::Known(number) => sum.add_scaled(times, atom_at(held, number)?),
+        Source::Known(number) => add_atom(alloc, sum, times, atom_at(held, number)?),
         Source::Low(var) => sum.add_scaled(times, &low_form(alloc, variables, var)?),
         Source::High(var) => sum.add_scaled(times, &high_form(alloc, variables, var)?),
     };
@@ -103,6 +118,16 @@ fn is_positive(form: &Form) -> bool
     }
 }
 
+// Whether the sum of these multiples is seen to be a constant above 0.
+fn is_seen_closed(variables: u32, held: &[Held], terms: &[Term]) -> bool
+    ensures { IsTrue result → check.closing variables (facts_held held.now) (combination_of terms.now) ≡ Ok tt }
+{
+    match terms {
+        [a, b] => is_closed(variables, held, *a, *b),
+        _ => false,
+    }
+}
+
 // Whether the sum of these multiples is a constant above 0.
 pub(crate) fn check_closing(
     alloc: Global,
@@ -113,6 +138,9 @@ pub(crate) fn check_closing(
     ensures { IsChecked (λ done. done) result
         (check.closing variables (facts_held held.now) (combination_of terms.now)) }
 {
+    if is_seen_closed(variables, held, terms) {
+        return Ok(());
+    }
     let sum = combination(alloc, variables, held, terms)?;
     if is_positive(&sum) {
         Ok(())
@@ -122,11 +150,16 @@ pub(crate) fn check_closing(
 }
 
 // The fact of this number, cut by the divisor. Takes memory only where there is the fact.
-pub(crate) fn cut_at(held: &[Held], number: u32, divisor: u64) -> Result<Form, CheckError>
+pub(crate) fn cut_at(
+    alloc: Global,
+    held: &[Held],
+    number: u32,
+    divisor: u64,
+) -> Result<Form, CheckError>
     ensures cut { IsChecked (λ form. form) result (check.cut_at (facts_held held.now) number divisor) }
     ensures memory { IsErrOf result Memory → IsOk (check.atom_at (facts_held held.now) number) }
 {
-    let form = atom_at(held, number)?;
+    let form = atom_at(held, number)?.form(alloc)?;
     or_kind(form.cut(i128::from(divisor)), FaultKind::NotDivisible)
 }
 

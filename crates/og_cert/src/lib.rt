@@ -7,6 +7,7 @@ mod fault;
 mod held;
 mod laws;
 mod replaying;
+mod sight;
 
 pub use fault::{FaultKind, ReplayError, ReplayFault};
 pub use laws::replay_laws;

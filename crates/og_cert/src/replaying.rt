@@ -15,7 +15,7 @@ ghost use Rattle.og_cert.specs.Answer.{IsChecked, located, TakesSteps, Replays, 
 
 use crate::checks::{check_closing, check_count, combination, cut_at, otherwise};
 use crate::fault::{CheckError, FaultKind, ReplayError, ReplayFault};
-use crate::held::{Held, check_room, hold_all, parts_at};
+use crate::held::{Held, check_room, hold_all, hold_made, parts_at};
 use og_cert_text::{Cert, CertStep, Finish};
 use og_facts::{Fact, FactList};
 use og_linear::Form;
@@ -50,10 +50,10 @@ fn take_step(held: &mut Vec<Held>, variables: u32, step: &CertStep) -> Result<()
     let alloc = *held.allocator();
     let form = match step {
         CertStep::Sum(terms) => combination(alloc, variables, held, terms)?,
-        CertStep::Cut(number, divisor) => cut_at(held, *number, *divisor)?,
+        CertStep::Cut(number, divisor) => cut_at(alloc, held, *number, *divisor)?,
     };
     check_room(held, 1)?;
-    held.push(Held::Made(form))?;
+    hold_made(held, form)?;
     Ok(())
 }
 
@@ -91,11 +91,11 @@ fn open_branch(
 }
 
 // The parts of a split, if there is a certificate for each.
-fn open_split<'a>(
-    held: &[Held<'a>],
+fn open_split<'a, 'c>(
+    held: &[Held<'a, 'c>],
     number: u32,
     certs: usize,
-) -> Result<&'a [Vec<Fact>], CheckError>
+) -> Result<&'a [Vec<Fact<'c>>], CheckError>
     ensures opened { IsChecked (λ parts. map (λ p. map plain_fact p.items) parts.now) result
         (split_for (facts_held held.now) number certs) }
     ensures memory { IsErrOf result Memory → ⊥ }
@@ -108,8 +108,8 @@ fn open_split<'a>(
 
 // Replays the lines of a certificate from this one on, and tells the line after them.
 #[cycle(replay)]
-fn replay_cert<'a>(
-    held: &mut Vec<Held<'a>>,
+fn replay_cert<'a, 'c>(
+    held: &mut Vec<Held<'a, 'c>>,
     variables: u32,
     line: u64,
     cert: &Cert,
@@ -125,8 +125,8 @@ fn replay_cert<'a>(
 }
 
 #[cycle(replay)]
-fn replay_finish<'a>(
-    held: &mut Vec<Held<'a>>,
+fn replay_finish<'a, 'c>(
+    held: &mut Vec<Held<'a, 'c>>,
     variables: u32,
     line: u64,
     finish: &Finish,
@@ -155,8 +155,8 @@ fn replay_finish<'a>(
 
 // Replays a certificate with one fact more.
 #[cycle(replay)]
-fn replay_with<'a>(
-    held: &mut Vec<Held<'a>>,
+fn replay_with<'a, 'c>(
+    held: &mut Vec<Held<'a, 'c>>,
     variables: u32,
     line: u64,
     form: Form,
@@ -166,7 +166,7 @@ fn replay_with<'a>(
     ensures kept { OnOk result (held.new.items ≡ held.old.items) }
 {
     let count = held.len();
-    held.push(Held::Made(form))?;
+    hold_made(held, form)?;
     let next = replay_cert(held, variables, line, cert)?;
     held.truncate(count);
     Ok(next)
@@ -174,12 +174,12 @@ fn replay_with<'a>(
 
 // Replays a certificate with the facts of a part.
 #[cycle(replay)]
-fn replay_part<'a>(
-    held: &mut Vec<Held<'a>>,
+fn replay_part<'a, 'c>(
+    held: &mut Vec<Held<'a, 'c>>,
     variables: u32,
     line: u64,
     cert: &Cert,
-    part: &'a [Fact],
+    part: &'a [Fact<'c>],
 ) -> Result<u64, ReplayError>
     ensures replays { Replays line variables (facts_held held.old.items ++ map plain_fact part.now) (plain_cert cert.now) result }
     ensures kept { OnOk result (held.new.items ≡ held.old.items) }
@@ -193,12 +193,12 @@ fn replay_part<'a>(
 
 // Replays the certificates of a split at this line, each with the facts of its part.
 #[cycle(replay)]
-fn replay_parts<'a>(
-    held: &mut Vec<Held<'a>>,
+fn replay_parts<'a, 'c>(
+    held: &mut Vec<Held<'a, 'c>>,
     variables: u32,
     line: u64,
     certs: &[Cert],
-    parts: &'a [Vec<Fact>],
+    parts: &'a [Vec<Fact<'c>>],
 ) -> Result<u64, ReplayError>
     requires { length parts.now ≡ length certs.now }
     ensures replays { ReplaysParts line variables (facts_held held.old.items)

@@ -8,3 +8,5 @@ pub mod Counted
 pub mod Multiples
 pub mod Items
 pub mod Prepared
+pub mod Atoms
+pub mod Moving

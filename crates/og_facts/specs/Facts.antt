@@ -1,5 +1,5 @@
 -- The facts of a condition: linear inequalities, and splits into parts, that are all true exactly where the hypotheses are true and the goal is false.
-use Rattle.std.specs.Prelude.{ℕ, ℤ, pos, negsuc, neg_ℤ, ◌+ℤ◌, List, [], ◌∷◌, ◌++◌, map, Bool, true, ◌&&◌, if◌then◌else◌, nat_lt, Option, Some, None, Result, Ok, Err, option_and_then, option_map}
+use Rattle.std.specs.Prelude.{ℕ, pos, negsuc, neg_ℤ, ◌+ℤ◌, List, [], ◌∷◌, ◌++◌, map, Bool, true, ◌&&◌, if◌then◌else◌, nat_lt, Option, Some, None, Result, Ok, Err, option_and_then, option_map}
 use Rattle.og_linear.specs.Linear.{FormValue, form_value}
 use Rattle.og_linear.specs.Arith.{scaled}
 use Rattle.og_linear.specs.Bounded.{fits_form}

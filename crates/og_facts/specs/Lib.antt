@@ -1,6 +1,9 @@
 pub mod Names
 pub mod Counts
 pub mod Facts
+pub mod Atoms
+pub mod Moving
+pub mod Subjects
 pub mod Truth
 pub mod Plain
 pub mod Listed

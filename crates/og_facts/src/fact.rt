@@ -1,12 +1,12 @@
 //! Facts: linear inequalities, and choices between lists of facts.
 
-use og_linear::Form;
+use crate::atom::Atom;
 
 /// What is known of a state.
 #[derive(Debug, Drop)]
-pub enum Fact {
+pub enum Fact<'a> {
     /// The form is at most 0.
-    Atom(Form),
+    Atom(Atom<'a>),
     /// All facts of one of the parts.
-    Split(Vec<Vec<Fact>>),
+    Split(Vec<Vec<Fact<'a>>>),
 }

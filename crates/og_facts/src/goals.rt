@@ -10,10 +10,11 @@ ghost use Rattle.og_facts.specs.Facts.{split};
 ghost use Rattle.og_facts.specs.Walk.{beyond, walk_values, walk_goal};
 
 use crate::fact::Fact;
-use crate::relations::{Relation, add_relation};
+use crate::moves::Moves;
+use crate::relations::{Relation, Subject, add_relation};
 use crate::walking::{add_assertion, add_impossible};
 use og_cond::Goal;
-use og_linear::{Form, FormError, Map};
+use og_linear::{Form, FormError};
 use std::alloc::Global;
 
 // -v - 2^63, above 0 where the value v is below the least i64.
@@ -35,16 +36,16 @@ fn high(alloc: Global, value: &Form) -> Result<Form, FormError>
 }
 
 // The part that says that the bound is above 0.
-fn part_above(alloc: Global, bound: &Form) -> Result<Vec<Fact>, FormError>
+fn part_above<'a>(alloc: Global, bound: &Form) -> Result<Vec<Fact<'a>>, FormError>
     ensures { IsAnswer shown faults.TooLarge result (beyond (Some bound.now)) }
 {
     let mut part = Vec::with_capacity(alloc, 1)?;
-    add_relation(&mut part, Relation::Above, bound)?;
+    add_relation(&mut part, Relation::Above, Subject::Made(bound))?;
     Ok(part)
 }
 
 // For each value that it is too low, and that it is too high.
-fn parts_of_values(alloc: Global, values: &[Form]) -> Result<Vec<Vec<Fact>>, FormError>
+fn parts_of_values<'a>(alloc: Global, values: &[Form]) -> Result<Vec<Vec<Fact<'a>>>, FormError>
     ensures { IsAnswer (λ parts. map shown parts.items) faults.TooLarge result (walk_values values.now) }
 {
     let mut parts = Vec::new(alloc);
@@ -73,17 +74,17 @@ fn add_values(facts: &mut Vec<Fact>, values: &[Form]) -> Result<(), FormError>
 /// Adds the facts that say that the goal is false after the action with this map and these values.
 ///
 /// `TooLarge` where a form under the map, or a number of these facts, leaves `i128`.
-pub(crate) fn add_goal(
-    facts: &mut Vec<Fact>,
-    map: &Map,
+pub(crate) fn add_goal<'a>(
+    facts: &mut Vec<Fact<'a>>,
+    moves: &Moves,
     values: &[Form],
-    goal: &Goal,
+    goal: &Goal<'a>,
 ) -> Result<(), FormError>
     ensures { IsAnswer (λ _. shown facts.new) faults.TooLarge result
-        (added_to (shown facts.old) (walk_goal map.now values.now (goal_of goal.now))) }
+        (added_to (shown facts.old) (walk_goal moves.now values.now (goal_of goal.now))) }
 {
     match goal {
-        Goal::Holds(a) => add_assertion(a, false, Some(map), facts),
+        Goal::Holds(a) => add_assertion(a, false, Some(moves), facts),
         Goal::Fits => add_values(facts, values),
         Goal::Never => Ok(()),
     }

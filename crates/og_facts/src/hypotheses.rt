@@ -10,13 +10,13 @@ ghost use Rattle.og_facts.specs.Facts.{split};
 ghost use Rattle.og_facts.specs.Walk.{walk_part, walk_parts, walk_lists, walk_hypothesis, walk_hypotheses};
 
 use crate::fact::Fact;
-use crate::relations::{Relation, add_relation};
+use crate::relations::{Relation, Subject, add_relation};
 use crate::walking::{add_assertion, add_impossible};
 use og_cond::{Hypothesis, Part};
 use og_linear::{Form, FormError};
 use std::alloc::Global;
 
-fn add_part(facts: &mut Vec<Fact>, part: &Part) -> Result<(), FormError>
+fn add_part<'a>(facts: &mut Vec<Fact<'a>>, part: &Part<'a>) -> Result<(), FormError>
     ensures { IsAnswer (λ _. shown facts.new) faults.TooLarge result
         (added_to (shown facts.old) (walk_part (part_of part.now))) }
 {
@@ -26,7 +26,7 @@ fn add_part(facts: &mut Vec<Fact>, part: &Part) -> Result<(), FormError>
     }
 }
 
-fn add_parts(facts: &mut Vec<Fact>, parts: &[Part]) -> Result<(), FormError>
+fn add_parts<'a>(facts: &mut Vec<Fact<'a>>, parts: &[Part<'a>]) -> Result<(), FormError>
     ensures { IsAnswer (λ _. shown facts.new) faults.TooLarge result
         (added_to (shown facts.old) (walk_parts (map part_of parts.now))) }
 {
@@ -37,7 +37,7 @@ fn add_parts(facts: &mut Vec<Fact>, parts: &[Part]) -> Result<(), FormError>
 }
 
 // The facts of one of the lists.
-fn add_lists(facts: &mut Vec<Fact>, lists: &[Vec<Part>]) -> Result<(), FormError>
+fn add_lists<'a>(facts: &mut Vec<Fact<'a>>, lists: &[Vec<Part<'a>>]) -> Result<(), FormError>
     ensures { IsAnswer (λ _. shown facts.new) faults.TooLarge result
         (added_to (shown facts.old) (option_map split (walk_lists (map parts_of lists.now)))) }
 {
@@ -67,7 +67,10 @@ fn difference(alloc: Global, var: u32, value: i64) -> Result<Form, FormError>
     Ok(form)
 }
 
-fn add_hypothesis(facts: &mut Vec<Fact>, hypothesis: &Hypothesis) -> Result<(), FormError>
+fn add_hypothesis<'a>(
+    facts: &mut Vec<Fact<'a>>,
+    hypothesis: &Hypothesis<'a>,
+) -> Result<(), FormError>
     ensures { IsAnswer (λ _. shown facts.new) faults.TooLarge result
         (added_to (shown facts.old) (walk_hypothesis (hypothesis_of hypothesis.now))) }
 {
@@ -75,16 +78,16 @@ fn add_hypothesis(facts: &mut Vec<Fact>, hypothesis: &Hypothesis) -> Result<(), 
         Hypothesis::Is(part) => add_part(facts, part),
         Hypothesis::Starts(var, value) => {
             let form = difference(*facts.allocator(), *var, *value)?;
-            add_relation(facts, Relation::Equal, &form)
+            add_relation(facts, Relation::Equal, Subject::Made(&form))
         }
         Hypothesis::OneOf(lists) => add_lists(facts, lists),
     }
 }
 
 /// Adds the facts of the hypotheses, in order.
-pub(crate) fn add_hypotheses(
-    facts: &mut Vec<Fact>,
-    hypotheses: &[Hypothesis],
+pub(crate) fn add_hypotheses<'a>(
+    facts: &mut Vec<Fact<'a>>,
+    hypotheses: &[Hypothesis<'a>],
 ) -> Result<(), FormError>
     ensures { IsAnswer (λ _. shown facts.new) faults.TooLarge result
         (added_to (shown facts.old) (walk_hypotheses (map hypothesis_of hypotheses.now))) }

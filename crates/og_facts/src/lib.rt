@@ -5,6 +5,7 @@
 //! shows the condition.
 #![tactic(auto)]
 
+mod atom;
 mod counting;
 mod fact;
 mod fault;
@@ -14,9 +15,11 @@ mod laws;
 mod limits;
 mod list;
 mod listing;
+mod moves;
 mod relations;
 mod walking;
 
+pub use atom::Atom;
 pub use fact::Fact;
 pub use fault::{FactsError, FactsFault};
 pub use laws::facts_law;

@@ -11,12 +11,12 @@ use std::marker::Model;
 ///
 /// Contracts see the list of the facts as plain trees, and the number of variables.
 #[derive(Debug, Drop)]
-pub struct FactList {
-    facts: Vec<Fact>,
+pub struct FactList<'a> {
+    facts: Vec<Fact<'a>>,
     variables: u32,
 }
 
-impl Model for FactList {
+impl<'a> Model for FactList<'a> {
     ghost use Rattle.std.specs.Prelude.{map};
     ghost use Rattle.og_facts.specs.Plain.{plain_fact};
     ghost use Rattle.og_facts.specs.Listed.{Listed, listed};
@@ -29,10 +29,10 @@ impl Model for FactList {
     ghost view = { λ l. listed (map plain_fact l.facts.items) l.variables };
 }
 
-impl FactList {
+impl<'a> FactList<'a> {
     // These facts, over so many variables.
-    pub(crate) fn new(facts: Vec<Fact>, variables: u32) -> FactList
-        ensures facts { result.facts ≡ map plain_fact facts.items }
+    pub(crate) fn new(facts: Vec<Fact<'a>>, variables: u32) -> FactList<'a>
+        ensures facts { result.facts ≡ map plain_fact facts.entry.items }
         ensures variables { result.variables ≡ variables }
     {
         FactList { facts, variables }
@@ -40,7 +40,7 @@ impl FactList {
 
     /// The fact with this number, counted from 1, if there is one. Takes no memory, like all
     /// readers.
-    pub fn fact(&self, n: u32) -> Option<&Fact>
+    pub fn fact(&self, n: u32) -> Option<&Fact<'a>>
         ensures { option_map (λ f. plain_fact f.now) result ≡ numbered n self.now.facts }
     {
         if n == 0 {
@@ -50,7 +50,7 @@ impl FactList {
     }
 
     /// All facts, in order.
-    pub fn as_slice(&self) -> &[Fact]
+    pub fn as_slice(&self) -> &[Fact<'a>]
         ensures { map plain_fact result.now ≡ self.now.facts }
     {
         &self.facts

@@ -19,6 +19,7 @@ use crate::goals::add_goal;
 use crate::hypotheses::add_hypotheses;
 use crate::limits::FACT_LIMIT;
 use crate::list::FactList;
+use crate::moves::Moves;
 use og_cond::Condition;
 use og_linear::{Form, FormError, Map};
 use og_subst::ActionMap;
@@ -33,47 +34,54 @@ fn size_of(condition: &Condition) -> Option<usize>
 }
 
 // The facts, where the action has this map and these values.
-fn all_facts(
+fn all_facts<'a>(
     alloc: Global,
     size: usize,
-    condition: &Condition,
-    map: &Map,
+    condition: &Condition<'a>,
+    moves: &Moves,
     values: &[Form],
-) -> Result<Vec<Fact>, FormError>
+) -> Result<Vec<Fact<'a>>, FormError>
     ensures { IsAnswer shown faults.TooLarge result
-        (joined (walk_hypotheses (seen condition.now).hypotheses) (walk_goal map.now values.now (seen condition.now).goal)) }
+        (joined (walk_hypotheses (seen condition.now).hypotheses) (walk_goal moves.now values.now (seen condition.now).goal)) }
 {
     let mut facts = Vec::with_capacity(alloc, size)?;
     add_hypotheses(&mut facts, &condition.hypotheses)?;
-    add_goal(&mut facts, map, values, &condition.goal)?;
+    add_goal(&mut facts, moves, values, &condition.goal)?;
     Ok(facts)
 }
 
 // The facts, where the map of the action is still to be made.
-fn facts_of_own(alloc: Global, size: usize, condition: &Condition) -> Result<Vec<Fact>, FormError>
+fn facts_of_own<'a>(
+    alloc: Global,
+    size: usize,
+    condition: &Condition<'a>,
+) -> Result<Vec<Fact<'a>>, FormError>
     ensures { IsAnswer shown faults.TooLarge result (exact_facts (seen condition.now)) }
 {
     match &condition.action {
         Some(action) => {
             let prepared = action.prepare(alloc)?;
-            all_facts(alloc, size, condition, prepared.map(), prepared.values())
+            let moves = Moves::new(prepared.map(), condition.action);
+            all_facts(alloc, size, condition, &moves, prepared.values())
         }
         None => {
             let values: Vec<Form> = Vec::new(alloc);
-            all_facts(alloc, size, condition, &Map::new(alloc), &values)
+            let map = Map::new(alloc);
+            let moves = Moves::new(&map, condition.action);
+            all_facts(alloc, size, condition, &moves, &values)
         }
     }
 }
 
 // The list with these facts, or what kept them from being made.
-fn listed(
-    facts: Result<Vec<Fact>, FormError>,
-    condition: &Condition,
-) -> Result<FactList, FactsError>
+fn listed<'a>(
+    facts: Result<Vec<Fact<'a>>, FormError>,
+    condition: &Condition<'a>,
+) -> Result<FactList<'a>, FactsError>
     requires few { count (seen condition.now) ≤ most_facts }
     requires facts { IsAnswer shown faults.TooLarge facts (exact_facts (seen condition.now)) }
     ensures facts { IsFacts (seen condition.now) result }
-    ensures memory { IsErrOf result errors.Memory → IsErrOf facts form_errors.Memory }
+    ensures memory { IsErrOf result errors.Memory → IsErrOf facts.entry form_errors.Memory }
 {
     match facts {
         Ok(facts) => Ok(FactList::new(facts, condition.variables)),
@@ -98,7 +106,7 @@ pub fn has_few_facts(condition: &Condition) -> bool
 /// told before any memory is asked for. Else `TooLarge` exactly where the map of the action, a form
 /// under it, or a form of these facts has a product, a partial sum or a negation that leaves
 /// `i128`. `Memory` where an allocation was refused.
-pub fn facts(alloc: Global, condition: &Condition) -> Result<FactList, FactsError>
+pub fn facts<'a>(alloc: Global, condition: &Condition<'a>) -> Result<FactList<'a>, FactsError>
     ensures { IsFacts (seen condition.now) result }
 {
     match size_of(condition) {
@@ -112,11 +120,11 @@ pub fn facts(alloc: Global, condition: &Condition) -> Result<FactList, FactsErro
 /// # Errors
 ///
 /// As `facts`.
-pub fn facts_with(
+pub fn facts_with<'a>(
     alloc: Global,
-    condition: &Condition,
+    condition: &Condition<'a>,
     action: &ActionMap,
-) -> Result<FactList, FactsError>
+) -> Result<FactList<'a>, FactsError>
     requires { IsPrepared condition.now.action action.now }
     ensures { IsFacts (seen condition.now) result }
 {
@@ -124,6 +132,7 @@ pub fn facts_with(
         Some(size) => size,
         None => return Err(FactsError::Fault(FactsFault::TooManyFacts)),
     };
-    let facts = all_facts(alloc, size, condition, action.map(), action.values());
+    let moves = Moves::new(action.map(), condition.action);
+    let facts = all_facts(alloc, size, condition, &moves, action.values());
     listed(facts, condition)
 }

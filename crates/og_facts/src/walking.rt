@@ -9,9 +9,11 @@ ghost use Rattle.og_facts.specs.Answer.{shown, added_to};
 ghost use Rattle.og_facts.specs.Facts.{impossible, split};
 ghost use Rattle.og_facts.specs.Walk.{walk_relation, walk, walk_all, walk_each};
 
+use crate::atom::Atom;
 use crate::fact::Fact;
-use crate::relations::{Relation, add_relation};
-use og_linear::{Form, FormError, Map};
+use crate::moves::Moves;
+use crate::relations::{Relation, Subject, add_relation};
+use og_linear::{Form, FormError};
 use og_typed::Assert;
 use std::alloc::AllocError;
 
@@ -19,15 +21,20 @@ use std::alloc::AllocError;
 pub(crate) fn add_impossible(facts: &mut Vec<Fact>) -> Result<(), AllocError>
     ensures { OnOk result (shown facts.new ≡ shown facts.old ++ impossible ∷ []) }
 {
-    let one = Form::constant(*facts.allocator(), 1);
+    let alloc = *facts.allocator();
+    let one = Atom::own(alloc, Form::constant(alloc, 1))?;
     facts.push(Fact::Atom(one))?;
     Ok(())
 }
 
 // The facts of one of the two parts.
-fn add_split(facts: &mut Vec<Fact>, first: Vec<Fact>, second: Vec<Fact>) -> Result<(), FormError>
+fn add_split<'a>(
+    facts: &mut Vec<Fact<'a>>,
+    first: Vec<Fact<'a>>,
+    second: Vec<Fact<'a>>,
+) -> Result<(), FormError>
     ensures { IsAnswer (λ _. shown facts.new) faults.TooLarge result
-        (Some (shown facts.old ++ split (shown first ∷ shown second ∷ []))) }
+        (Some (shown facts.old ++ split (shown first.entry ∷ shown second.entry ∷ []))) }
 {
     let mut parts = Vec::with_capacity(*facts.allocator(), 2)?;
     parts.push(first)?;
@@ -37,18 +44,21 @@ fn add_split(facts: &mut Vec<Fact>, first: Vec<Fact>, second: Vec<Fact>) -> Resu
 }
 
 // The relation of the form under the map, if there is one.
-fn add_moved(
-    facts: &mut Vec<Fact>,
-    forms: Option<&Map>,
+fn add_moved<'a>(
+    facts: &mut Vec<Fact<'a>>,
+    forms: Option<&Moves>,
     relation: Relation,
-    form: &Form,
+    form: &'a Form,
 ) -> Result<(), FormError>
     ensures { IsAnswer (λ _. shown facts.new) faults.TooLarge result
         (added_to (shown facts.old) (walk_relation (option_map (λ m. m.now) forms.entry) relation form.now)) }
 {
     match forms {
-        Some(map) => add_relation(facts, relation, &form.apply(map)?),
-        None => add_relation(facts, relation, form),
+        Some(moves) if !moves.keeps(form) => {
+            let moved = form.apply(moves.map())?;
+            add_relation(facts, relation, Subject::Made(&moved))
+        }
+        _ => add_relation(facts, relation, Subject::Lent(form)),
     }
 }
 
@@ -58,11 +68,11 @@ fn add_moved(
 /// `TooLarge` where a form under the map, or a number of these facts, leaves `i128`.
 #[cycle(walking)]
 #[tactic(auto, using(crate::proofs::Items::walk_and_true, crate::proofs::Items::walk_and_false, crate::proofs::Items::walk_or_true, crate::proofs::Items::walk_or_false))]
-pub(crate) fn add_assertion(
-    a: &Assert,
+pub(crate) fn add_assertion<'a>(
+    a: &'a Assert,
     is_true: bool,
-    forms: Option<&Map>,
-    facts: &mut Vec<Fact>,
+    forms: Option<&Moves>,
+    facts: &mut Vec<Fact<'a>>,
 ) -> Result<(), FormError>
     ensures { IsAnswer (λ _. shown facts.new) faults.TooLarge result
         (added_to (shown facts.old) (walk (option_map (λ m. m.now) forms.entry) is_true (formula a.now))) }
@@ -98,11 +108,11 @@ pub(crate) fn add_assertion(
 
 // The facts of all.
 #[cycle(walking)]
-fn add_all(
-    all: &[Assert],
+fn add_all<'a>(
+    all: &'a [Assert],
     is_true: bool,
-    forms: Option<&Map>,
-    facts: &mut Vec<Fact>,
+    forms: Option<&Moves>,
+    facts: &mut Vec<Fact<'a>>,
 ) -> Result<(), FormError>
     ensures { IsAnswer (λ _. shown facts.new) faults.TooLarge result
         (added_to (shown facts.old)
@@ -116,11 +126,11 @@ fn add_all(
 
 // The facts of one of them.
 #[cycle(walking)]
-fn add_some(
-    all: &[Assert],
+fn add_some<'a>(
+    all: &'a [Assert],
     is_true: bool,
-    forms: Option<&Map>,
-    facts: &mut Vec<Fact>,
+    forms: Option<&Moves>,
+    facts: &mut Vec<Fact<'a>>,
 ) -> Result<(), FormError>
     ensures { IsAnswer (λ _. shown facts.new) faults.TooLarge result
         (added_to (shown facts.old)

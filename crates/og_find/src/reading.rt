@@ -2,16 +2,24 @@
 
 use crate::truth::NESTING_LIMIT;
 use og_cond::Condition;
-use og_facts::{Fact, FactList, FactsError, facts};
+use og_facts::{Atom, Fact, FactList, FactsError, facts};
 use og_search::Part;
 use std::alloc::{AllocError, Global};
+
+// Adds the inequality.
+fn read_atom(alloc: Global, part: &mut Part, atom: &Atom) -> Result<(), AllocError> {
+    match atom.as_form() {
+        Some(form) => part.add_form(form),
+        None => part.add_form(&atom.form(alloc)?),
+    }
+}
 
 #[cycle(reading)]
 fn read_facts(alloc: Global, facts: &[Fact], depth: u32) -> Result<Part, AllocError> {
     let mut part = Part::new(alloc, facts.len())?;
     for fact in facts {
         match fact {
-            Fact::Atom(form) => part.add_form(form)?,
+            Fact::Atom(atom) => read_atom(alloc, &mut part, atom)?,
             Fact::Split(parts) => match depth.checked_sub(1) {
                 Some(below) => part.add_choice(read_parts(alloc, parts, below)?)?,
                 None => part.add_unread(),

@@ -2,17 +2,17 @@
 
 ghost use Rattle.std.specs.Prelude.{◌≡◌, ◌++◌, map, OnOk};
 ghost use Rattle.og_facts.specs.Plain.{plain_fact};
-ghost use Rattle.og_facts.specs.Facts.{facts_of_list, Atom};
+ghost use Rattle.og_facts.specs.Facts as plain;
+ghost use Rattle.og_facts.specs.Facts.{facts_of_list};
 ghost use Rattle.og_listing.specs.Listing.{fact_text, part_text, inner_text};
 
 use crate::forms::put_form;
-use og_facts::Fact;
-use og_linear::Form;
+use og_facts::{Atom, Fact};
 use og_text::Name;
 use std::alloc::AllocError;
 
-fn put_atom(text: &mut Vec<u8>, names: &[Name], form: &Form) -> Result<(), AllocError>
-    ensures { OnOk result (text.new.items ≡ text.old.items ++ fact_text names.now (Atom form.now)) }
+fn put_atom(text: &mut Vec<u8>, names: &[Name], form: &Atom) -> Result<(), AllocError>
+    ensures { OnOk result (text.new.items ≡ text.old.items ++ fact_text names.now (plain.Atom form.now)) }
 {
     put_form(text, names, form)?;
     text.extend_from_slice(b" <= 0")

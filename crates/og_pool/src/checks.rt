@@ -52,11 +52,11 @@ fn replayed(alloc: Global, list: &FactList, cert: &Cert) -> Result<Status, Alloc
 
 // What is answered where the map of the action could not be made. A map that does not fit is told
 // in its turn: where there are too many facts, that is the fault.
-fn unprepared(
+fn unprepared<'c>(
     alloc: Global,
-    condition: &Condition,
+    condition: &Condition<'c>,
     error: FormError,
-) -> Result<FactList, FactsError>
+) -> Result<FactList<'c>, FactsError>
     ensures { IsFacts (seen condition.now) result }
 {
     if error == FormError::Memory && has_few_facts(condition) {
@@ -84,7 +84,7 @@ impl<'a, 'c, G> Checks<'a, 'c, G> {
         alloc: Global,
         index: usize,
         last: &mut Option<Last>,
-    ) -> Result<FactList, FactsError>
+    ) -> Result<FactList<'c>, FactsError>
         requires within { index < length self.now.conditions.now }
         requires keeps { Keeps self.now.conditions.now last.old }
         ensures facts { (c : _) → slice_get self.now.conditions.now index ≡ Some c → IsFacts (seen c) result }

@@ -1,7 +1,7 @@
 //! The facts of conditions.
 
 use og_cond::{Condition, Goal, Hypothesis, Kind, conditions};
-use og_facts::{Fact, FactList, FactsError, facts, facts_with};
+use og_facts::{Atom, Fact, FactList, FactsError, facts, facts_with};
 use og_linear::{Form, FormError};
 use og_samples::{ONE_SKIP, SKIP_AND_ASSIGN, TOLD_ADD, TWO_ADD, outline_of};
 use og_subst::Action;
@@ -38,7 +38,7 @@ fn add_term(
     out.push_str(name)
 }
 
-fn add_form(out: &mut String, alloc: Global, form: &Form) -> Result<(), AllocError> {
+fn add_form(out: &mut String, alloc: Global, form: &Atom) -> Result<(), AllocError> {
     for i in 0..3usize {
         if let Some(term) = form.term(i) {
             add_term(out, alloc, term, i == 0)?;

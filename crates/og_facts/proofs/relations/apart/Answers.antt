@@ -2,6 +2,7 @@ use Rattle.std.proofs.Common.{◌≡◌, [], ◌∷◌, Some, sym, ap, ap₂, �
 use Rattle.std.specs.Prelude.{option_map}
 use Rattle.std.proofs.lemmas.Grind.{common_steps}
 use Rattle.og_facts.specs.Facts.{split, plus_one, negated}
+use Rattle.og_facts.specs.Subjects.{form_in}
 use Rattle.og_facts.specs.Walk.{part_and}
 use Rattle.og_facts.proofs.Multiples.{apart_checked, one_some}
 use Rattle.og_facts.proofs.Trees.{two_parts}
@@ -9,7 +10,7 @@ use Rattle.og_facts.proofs.relations.apart.Goals as goal
 
 pub returns : goal.returns
 returns c =
-    let f = c.args.form.now in
+    let f = form_in c.args.subject in
     let v = c.push-2.new.self in
     let p = c.in_ok-part_of.field-0 in
     let q = c.in_ok-part_of-2.field-0 in

@@ -3,7 +3,7 @@ use mir.Syntax.{w128}
 use Rattle.og_linear.specs.Bounded.{fits_i128}
 use Rattle.og_linear.proofs.Steps.{fits_true}
 use Rattle.og_facts.proofs.Multiples.{next_sum}
-use Rattle.og_facts.proofs.relations.next.Goals as goal
+use Rattle.og_facts.proofs.relations.own_next.Goals as goal
 
 pub returns : goal.returns
 returns c =
