@@ -25,8 +25,10 @@ use Rattle.og_pool.specs.declared.fault.PoolFault.{PoolFault}
 use Rattle.og_engine.specs.Answers.{report_in, status_of, IsOutput, IsChecked}
 use Rattle.og_engine.specs.Written.{Writes}
 use Rattle.og_engine.specs.Commands.{HasTooMany}
-use Rattle.og_engine.specs.Making.{HasCertificates, IsFoundText, IsFoundOf, IsFound}
+use Rattle.og_engine.specs.Making.{HasCertificates, IsFoundOf, IsFound}
 use Rattle.og_engine.specs.declared.making.FindReply.{FindReply}
+use Rattle.og_engine.specs.declared.making.FindReply.TheVariants as replies
+use Rattle.og_engine.specs.declared.making.FoundCertificates.{FoundCertificates}
 use Rattle.og_engine.specs.Warrants.{Warrants}
 
 pub judged : (json : Bool) (source certs : List ℕ) (o : Program) (entries : List Entry) (a : Answer) → IsReport source certs o entries
@@ -59,11 +61,10 @@ too_many P source bytes o p fault (Ok a) same_bytes same h told =
     inr (subst (λ (q : Program). condition_limit < length (conditions q)) same h, (fault, subst (λ (s : List ℕ). IsTold s (faults.Conditions fault) a) same_bytes told))
 
 -- the certificates of listed conditions are those of the outline's
-pub listed_found : {E : Type 0} (version : ℕ) (source : List ℕ) (o p : Program) (cs : List Condition) (r : Result FindReply E) → p ≡ o → cs ≡ conditions p
-    → length (conditions p) ≤ condition_limit → IfOk r (HasCertificates version cs) → IfOk r (IsFoundOf version o source)
-listed_found version source o p cs (Err e) same listed within h = tt
-listed_found version source o p cs (Ok a) same listed within h =
-    inl (subst (λ (q : Program). IsFoundText version q a) same (within, subst (λ (ds : List Condition). HasCertificates version ds a) listed h))
+pub listed_found : (version : ℕ) (source : List ℕ) (o p : Program) (cs : List Condition) (found : FoundCertificates) → p ≡ o → cs ≡ conditions p
+    → length (conditions p) ≤ condition_limit → HasCertificates version cs found → IsFoundOf version o source (replies.Found found)
+listed_found version source o p cs found same listed within h =
+    subst (λ (q : Program). IsFoundOf version q source (replies.Found found)) same (within, subst (λ (ds : List Condition). HasCertificates version ds found) listed h)
 
 -- such a reply is that of the outline's source
 pub found_of_source : {E : Type 0} (version : ℕ) (source : List ℕ) (o : Program) (r : Result FindReply E) → IsSource source o

@@ -1,20 +1,8 @@
 -- What an engine leaves: on its readers, and on a writer that failed.
-use Rattle.std.proofs.Common.{◌≡◌, ℕ, List, [], ◌++◌, take, Option, None, Some, IfSome, Result, Ok, Err, IfErr, sym, ◌∙◌, ap, subst, append-nil}
-use Rattle.std.specs.Io.KnownBytes.{Appends, Keeps, Consumes}
+use Rattle.std.proofs.Common.{◌≡◌, ℕ, List, Option, None, Some, IfSome, Result, Ok, Err, IfErr, subst}
+use Rattle.std.specs.Io.KnownBytes.{Consumes}
 use Rattle.og_engine.specs.declared.fault.EngineFault.{EngineFault}
 use Rattle.og_engine.specs.declared.fault.EngineFault.TheVariants as faults
-
--- ---- single writes
-
-pub appends_none : (a b : Option (List ℕ)) → Keeps a b → Appends a b []
-appends_none None b k = tt
-appends_none (Some x) None k = absurd k
-appends_none (Some x) (Some y) k = k ∙ sym (append-nil x)
-
-pub keeps_none : (a b : Option (List ℕ)) (text : List ℕ) (n : ℕ) → n ≡ 0 → Appends a b (take n text) → Keeps a b
-keeps_none None b text n e k = tt
-keeps_none (Some x) None text n e k = absurd k
-keeps_none (Some x) (Some y) text n e k = k ∙ ap (λ (m : ℕ). x ++ take m text) e ∙ append-nil x
 
 -- ---- whole engines
 

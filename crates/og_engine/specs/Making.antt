@@ -1,5 +1,5 @@
 -- What is printed of certificates that are made, and the status.
-use Rattle.std.specs.Prelude.{◌≡◌, ◌≤◌, ◌⊎◌, ◌==◌, if◌then◌else◌, ℕ, List, [], length, Some, None}
+use Rattle.std.specs.Prelude.{◌≡◌, ◌≤◌, ◌⊎◌, ◌==◌, if◌then◌else◌, ℕ, List, [], length}
 use Rattle.og_typed.specs.Syntax.{Program}
 use Rattle.og_cond.specs.Condition.{Condition}
 use Rattle.og_cond.specs.Conditions.{conditions}
@@ -17,35 +17,41 @@ use Rattle.og_answer.specs.declared.answer.Answer.{Answer}
 use Rattle.og_answer.specs.declared.fault.InputFault.TheVariants as faults
 use Rattle.og_judge.specs.Migrated.{IsMigration, HasSameAnswers}
 use Rattle.og_engine.specs.Commands.{HasTooMany}
+use Rattle.og_engine.specs.declared.making.CertificateText.{CertificateText}
+use Rattle.og_engine.specs.declared.making.CertificateText.TheVariants as texts
 use Rattle.og_engine.specs.declared.making.FindReply.{FindReply}
+use Rattle.og_engine.specs.declared.making.FindReply.TheVariants as replies
+use Rattle.og_engine.specs.declared.making.FoundCertificates.{FoundCertificates}
 
 -- the text of a file in this version
 abbrev pub text_in : ℕ → Entries → List ℕ
 text_in version es = if version == 2 then shared_text es else file_text es
 
--- of so many conditions so many have no certificate: status 0 where none lacks one, and else 1
-abbrev pub Counts : ℕ → ℕ → FindReply → Type 0
-Counts missing conditions reply =
-    (reply.answer.status ≡ if missing == 0 then 0 else 1) × (reply.missing ≡ Some (record { count = missing; conditions = conditions }))
+abbrev pub text_of : CertificateText → List ℕ
+text_of (texts.First certificates) = certificates
+text_of (texts.Second text) = text.items
+
+-- 0 where no condition lacks a certificate, and else 1
+abbrev pub status_of_found : FoundCertificates → ℕ
+status_of_found found = if found.missing.count == 0 then 0 else 1
 
 -- the text of certificates, each of one of the conditions, and how many conditions have none among them
-abbrev pub HasCertificates : ℕ → List Condition → FindReply → Type 0
-HasCertificates version cs reply =
-    (es : Entries) × AreOf cs es × (reply.answer.text.items ≡ text_in version es) × Counts (missing_up_to es (length cs)) (length cs) reply
+abbrev pub HasCertificates : ℕ → List Condition → FoundCertificates → Type 0
+HasCertificates version cs found =
+    (es : Entries) × AreOf cs es × (text_of found.text ≡ text_in version es)
+    × (found.missing.count ≡ missing_up_to es (length cs)) × (found.missing.conditions ≡ length cs)
 
--- that text for the conditions of the outline, which are within the limit
-abbrev pub IsFoundText : ℕ → Program → FindReply → Type 0
-IsFoundText version o reply = (length (conditions o) ≤ condition_limit) × HasCertificates version (conditions o) reply
+-- those of the conditions of the outline, which are within the limit; or the line that says that there are too many
+abbrev pub IsFoundOf : ℕ → Program → List ℕ → FindReply → Type 0
+IsFoundOf version o source (replies.Found found) = (length (conditions o) ≤ condition_limit) × HasCertificates version (conditions o) found
+IsFoundOf version o source (replies.Refused answer) = HasTooMany o source answer
 
 -- the line of a refusal such as P says
 abbrev pub IsRefusal : (Answer → Type 0) → FindReply → Type 0
-IsRefusal P reply = P reply.answer × (reply.missing ≡ None)
+IsRefusal P (replies.Found found) = ⊥
+IsRefusal P (replies.Refused answer) = P answer
 
--- that text, or the line that says that there are too many conditions
-abbrev pub IsFoundOf : ℕ → Program → List ℕ → FindReply → Type 0
-IsFoundOf version o source reply = IsFoundText version o reply ⊎ IsRefusal (HasTooMany o source) reply
-
--- that of the source's outline, or the line of a refusal
+-- what is found of the source's outline, or the line of a refusal
 abbrev pub IsFound : ℕ → List ℕ → FindReply → Type 0
 IsFound version source reply =
     IsRefusal (IsUnread source) reply ⊎ ((o : Program) × IsSource source o × IsFoundOf version o source reply)

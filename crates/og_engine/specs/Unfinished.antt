@@ -1,15 +1,11 @@
--- What a failed write leaves.
-use Rattle.std.specs.Prelude.{◌≡◌, ℕ, Bool, List, ◌++◌, Option}
-use Rattle.std.specs.Io.KnownBytes.{Appends}
+-- What a failed write leaves of a check.
+use Rattle.std.specs.Prelude.{ℕ, Bool, List, Option}
 use Rattle.og_input.specs.Joined.{IsSplit}
+use Rattle.og_output.specs.Written.{AppendsFront}
 use Rattle.og_engine.specs.Answers.{IsOutput}
 use Rattle.og_engine.specs.Warrants.{Warrants}
 
--- known bytes stay, and grow by a front of the text
-abbrev pub AppendsFront : Option (List ℕ) → Option (List ℕ) → List ℕ → Type 0
-AppendsFront before after text = (front back : List ℕ) × (text ≡ front ++ back) × Appends before after front
-
--- by a front of what is to be printed
+-- known bytes grow by a front of what is to be printed
 abbrev pub WritesFront : Bool → List ℕ → List ℕ → Option (List ℕ) → Option (List ℕ) → Type 0
 WritesFront json source certs before after =
     (text : List ℕ) × (status : ℕ) × IsOutput json source certs text status × Warrants json source text status × AppendsFront before after text

@@ -5,10 +5,9 @@ ghost use Rattle.og_engine.specs.Names.{number_of_fault, name_of_fault, of_read,
 ghost use Rattle.og_engine.specs.declared.fault.EngineFault.TheVariants.{Memory, WriteFailed};
 
 use og_input::ReadFault;
+use og_output::WriteFault;
 use og_pool::PoolFault;
 use std::alloc::{AllocError, AllocFailed};
-use std::io;
-use std::io::ErrorKind;
 use thiserror::Error;
 
 /// Why nothing was answered, or the answer was not written.
@@ -72,27 +71,6 @@ impl From<PoolFault> for EngineFault {
         match fault {
             PoolFault::Spawn => EngineFault::Spawn,
             PoolFault::Memory => EngineFault::Memory,
-        }
-    }
-}
-
-/// Why a text was not written whole; some bytes of it may have been written.
-#[derive(Clone, Copy, Debug, PartialEq, Eq, Error)]
-pub enum WriteFault {
-    /// Nobody reads any more what is written: the other end of the pipe is closed.
-    #[error("nobody reads")]
-    Closed,
-    /// The writer failed.
-    #[error("write failed")]
-    Failed,
-}
-
-impl WriteFault {
-    /// Why a write failed.
-    pub(crate) fn of(error: &io::Error) -> WriteFault {
-        match error.kind() {
-            ErrorKind::BrokenPipe => WriteFault::Closed,
-            _ => WriteFault::Failed,
         }
     }
 }

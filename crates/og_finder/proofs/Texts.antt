@@ -1,6 +1,6 @@
 -- The text of the certificates that are found.
 use Rattle.std.proofs.Common.{◌≡◌, ⊎_elim, ◌≤◌, ◌<◌, ℕ, ◌+◌, ◌-◌, zero, suc, List, [], ◌∷◌, ◌++◌, length, true, false, Option, Some, None, refl, sym, ap, ◌∙◌, subst, arith}
-use Rattle.std.specs.Prelude.{◌==◌, ◌&&◌, slice_get, is_none, Result, Ok, Err, IfOk, IsSomeAnd}
+use Rattle.std.specs.Prelude.{◌==◌, ◌&&◌, slice_get, is_none, codes, vec_len, Result, Ok, Err, IfOk, IsSomeAnd}
 use Rattle.std.specs.Global.{Vec}
 use Rattle.std.specs.List.{list_all}
 use Rattle.std.proofs.Math.Nat.{eq-or-lt_of_le}
@@ -13,7 +13,7 @@ use Rattle.og_cert_text.specs.Files.{Entries, certificate_of}
 use Rattle.og_cert_text.specs.Listing.{file_text}
 use Rattle.og_cert_text.specs.Rising.{rise_from}
 use Rattle.og_cert_text.proofs.Forms.{both_true, le_true}
-use Rattle.og_cert_text.proofs.Writing.{entries_text, entry_text, one_more}
+use Rattle.og_cert_text.proofs.Writing.{entries_text, entry_text}
 use Rattle.og_cond.specs.Condition.{Condition}
 use Rattle.og_draws.specs.Answers.{AreAnswers}
 use Rattle.og_find.specs.Found.{AreOf, Certifies}
@@ -22,7 +22,8 @@ use Rattle.og_find.specs.declared.verdict.Verdict.{Verdict}
 use Rattle.og_find.specs.declared.verdict.Verdict.TheVariants as verdicts
 use Rattle.og_finder.specs.Findings.{verdict_of, AreVerdicts}
 use Rattle.og_finder.specs.Filing.{IsCertificateOf, AreFiled}
-use Rattle.og_finder.specs.Written.{certificate_in, lines_of, entry_lines, AreLines, with_first, entries_from, entries_of, IsWritten}
+use Rattle.og_finder.specs.Texts.{certificate_in, lines_of, lines_from, entry_lines, AreLines, with_first, entries_from, entries_of}
+use Rattle.og_finder.specs.Written.{IsWritten}
 use Rattle.og_finder.specs.declared.findings.Findings.{Findings}
 use Rattle.og_finder.specs.declared.writing.Written.{Written}
 use Rattle.og_finder.proofs.Filed.{all_of}
@@ -36,21 +37,33 @@ are_lines n vs all h place lines at =
 
 -- ---- one entry more
 
-next_entries : (f : Findings) (i n : ℕ) → i < n → entries_from f i (n - i) ≡ with_first (i + 1) (certificate_in (verdict_of f i)) (entries_from f (i + 1) (n - (i + 1)))
-next_entries f i n lt =
-    let left : n - i ≡ suc (n - (i + 1)) = omega arith in
-    ap (entries_from f i) left
-
 first_text : (n : ℕ) (o : Option Cert) (es : Entries) → entries_text (with_first n o es) ≡ entry_lines n o ++ entries_text es
 first_text n None es = refl
 first_text n (Some c) es = entry_text n c es
 
-pub put_next : (f : Findings) (i n : ℕ) (t0 t1 whole : List ℕ) → i < n → t1 ≡ t0 ++ entry_lines (i + 1) (certificate_in (verdict_of f i))
-    → t0 ++ entries_text (entries_from f i (n - i)) ≡ whole → t1 ++ entries_text (entries_from f (i + 1) (n - (i + 1))) ≡ whole
-put_next f i n t0 t1 whole lt e h =
+-- the lines of the first entry that is left, and those of the others
+pub next_lines : (f : Findings) (i n : ℕ) → i < n → lines_from f i (n - i) ≡ entry_lines (i + 1) (certificate_in (verdict_of f i)) ++ lines_from f (i + 1) (n - (i + 1))
+next_lines f i n lt =
+    let left : n - i ≡ suc (n - (i + 1)) = omega arith in
+    ap (lines_from f i) left
+
+pub no_more_lines : (f : Findings) (i n : ℕ) → n ≤ i → lines_from f i (n - i) ≡ []
+no_more_lines f i n none =
+    let left : n - i ≡ zero = omega arith in
+    ap (lines_from f i) left
+
+lines_are_text : (f : Findings) (i k : ℕ) → lines_from f i k ≡ entries_text (entries_from f i k)
+lines_are_text f i zero = refl
+lines_are_text f i (suc k) =
     let o = certificate_in (verdict_of f i) in
-    let rest = entries_from f (i + 1) (n - (i + 1)) in
-    one_more t0 t1 (entry_lines (i + 1) o) (entries_text (entries_from f i (n - i))) (entries_text rest) whole e (ap entries_text (next_entries f i n lt) ∙ first_text (i + 1) o rest) h
+    ap (λ l. entry_lines (i + 1) o ++ l) (lines_are_text f (i + 1) k) ∙ sym (first_text (i + 1) o (entries_from f (i + 1) k))
+
+-- the first line and the lines of all entries
+pub whole_text : (f : Findings) (head : List ℕ) → head ≡ codes "og-cert 1\n" → head ++ lines_from f 0 (vec_len f.own) ≡ file_text (entries_of f)
+whole_text f head is =
+    ap (λ l. l ++ lines_from f 0 (vec_len f.own)) is
+    ∙ ap (λ n. codes "og-cert 1\n" ++ lines_from f 0 n) f.own.ok.0
+    ∙ ap (λ l. codes "og-cert 1\n" ++ l) (lines_are_text f 0 (length f.own.items))
 
 -- ---- the entries are those of the verdicts
 
@@ -135,7 +148,7 @@ found_at f j i (suc k) above below = ⊎_elim
 pub lacks_at : (f : Findings) (i : ℕ) → i < length f.own.items → lacks (entries_of f) (i + 1) ≡ is_none (certificate_in (verdict_of f i))
 lacks_at f i below = ap is_none (found_at f i 0 (length f.own.items) (omega arith) (omega arith))
 
-is_written : (cs : List Condition) (f : Findings) (w : Written) → AreVerdicts cs f → length cs ≤ 999999999 → w.text.items ≡ file_text (entries_of f)
+is_written : (cs : List Condition) (f : Findings) (w : Written) → AreVerdicts cs f → length cs ≤ 999999999 → w.certificates ≡ file_text (entries_of f)
     → w.missing.count ≡ missing_up_to (entries_of f) (length f.own.items) → w.missing.conditions ≡ length f.own.items → IsWritten cs w
 is_written cs f w h few text missing conditions =
     let es = entries_of f in
@@ -144,7 +157,7 @@ is_written cs f w h few text missing conditions =
     let file = both_true _ _ (rising f 0 0 count (omega arith)) (all_good cs es few of) in
     (es, of, file, text, missing ∙ ap (missing_up_to es) h.0, conditions ∙ h.0)
 
-pub all_written : {E : Type 0} (cs : List Condition) (f : Findings) (r : Result Written E) → AreVerdicts cs f → length cs ≤ 999999999 → IfOk r (λ w. w.text.items ≡ file_text (entries_of f))
+pub all_written : {E : Type 0} (cs : List Condition) (f : Findings) (r : Result Written E) → AreVerdicts cs f → length cs ≤ 999999999 → IfOk r (λ w. w.certificates ≡ file_text (entries_of f))
     → IfOk r (λ w. w.missing.count ≡ missing_up_to (entries_of f) (length f.own.items)) → IfOk r (λ w. w.missing.conditions ≡ length f.own.items) → IfOk r (IsWritten cs)
 all_written cs f (Ok w) h few text missing conditions = is_written cs f w h few text missing conditions
 all_written cs f (Err e) h few text missing conditions = tt

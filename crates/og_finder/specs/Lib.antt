@@ -1,3 +1,4 @@
 pub mod Filing
 pub mod Findings
+pub mod Texts
 pub mod Written

@@ -1,59 +1,15 @@
--- The text of the certificates that are found.
-use Rattle.std.specs.Prelude.{◌≡◌, ℕ, zero, suc, ◌+◌, List, [], ◌∷◌, length, true, Option, Some, None, slice_get}
-use Rattle.std.specs.Global.{Vec}
-use Rattle.og_cert_text.specs.Tree.{Cert}
-use Rattle.og_cert_text.specs.Plain.{plain_cert}
+-- What is promised of the certificates that are found.
+use Rattle.std.specs.Prelude.{◌≡◌, List, length, true}
 use Rattle.og_cert_text.specs.Files.{Entries}
-use Rattle.og_cert_text.specs.Lines.{ForCondition}
-use Rattle.og_cert_text.specs.Shallow.{cert_lines}
-use Rattle.og_cert_text.specs.Listing.{lines_text, file_text}
+use Rattle.og_cert_text.specs.Listing.{file_text}
 use Rattle.og_cert_text.specs.Rising.{is_file}
 use Rattle.og_cond.specs.Condition.{Condition}
 use Rattle.og_find.specs.Found.{AreOf}
 use Rattle.og_find.specs.Missing.{missing_up_to}
-use Rattle.og_find.specs.declared.verdict.Verdict.{Verdict}
-use Rattle.og_find.specs.declared.verdict.Verdict.TheVariants as verdicts
-use Rattle.og_finder.specs.Findings.{verdict_of}
-use Rattle.og_finder.specs.declared.findings.Findings.{Findings}
 use Rattle.og_finder.specs.declared.writing.Written.{Written}
 
--- the certificate of a verdict, if it has one
-abbrev pub certificate_in : Option Verdict → Option Cert
-certificate_in None = None
-certificate_in (Some (verdicts.True cert)) = Some (plain_cert cert)
-certificate_in (Some (verdicts.False s)) = None
-certificate_in (Some verdicts.Open) = None
-
--- its lines
-abbrev pub lines_of : Option Cert → List ℕ
-lines_of None = []
-lines_of (Some c) = lines_text (cert_lines c)
-
--- the lines of the entry of condition n
-abbrev pub entry_lines : ℕ → Option Cert → List ℕ
-entry_lines n None = []
-entry_lines n (Some c) = lines_text (ForCondition n ∷ cert_lines c)
-
--- at each place of a verdict are the lines of its certificate, as far as there are lines
-abbrev pub AreLines : List Verdict → List (Vec ℕ) → Type 0
-AreLines vs all = (place : ℕ) (lines : Vec ℕ) → slice_get all place ≡ Some lines → lines.items ≡ lines_of (certificate_in (slice_get vs place))
-
--- the entry of condition n in front of others, if it has a certificate
-abbrev pub with_first : ℕ → Option Cert → Entries → Entries
-with_first n None es = es
-with_first n (Some c) es = (n, c) ∷ es
-
--- the entries of so many conditions from this index on
-abbrev pub entries_from : Findings → ℕ → ℕ → Entries
-entries_from f i zero = []
-entries_from f i (suc k) = with_first (i + 1) (certificate_in (verdict_of f i)) (entries_from f (i + 1) k)
-
--- the certificates of all conditions, by their numbers from 1
-abbrev pub entries_of : Findings → Entries
-entries_of f = entries_from f 0 (length f.own.items)
-
--- the text of a file of certificates of the conditions, and how many of the conditions have none in it
+-- the text is that of a file of certificates of the conditions, and so many of the conditions have none in it
 abbrev pub IsWritten : List Condition → Written → Type 0
 IsWritten cs w =
-    (es : Entries) × AreOf cs es × (is_file es ≡ true) × (w.text.items ≡ file_text es)
+    (es : Entries) × AreOf cs es × (is_file es ≡ true) × (w.certificates ≡ file_text es)
     × (w.missing.count ≡ missing_up_to es (length cs)) × (w.missing.conditions ≡ length cs)

@@ -14,7 +14,7 @@ pub(crate) struct Formatting<'a> {
 
 impl<'a> Numbered for Formatting<'a> {
     ghost use Rattle.std.specs.Prelude.{◌≡◌, ◌-◌, slice_get, ⊤};
-    ghost use Rattle.og_finder.specs.Written.{certificate_in, lines_of};
+    ghost use Rattle.og_finder.specs.Texts.{certificate_in, lines_of};
 
     type Answer = Vec<u8>;
 

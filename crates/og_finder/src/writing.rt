@@ -1,12 +1,15 @@
 //! The text of the certificates that are found.
 
 ghost use Rattle.std.specs.Prelude.{◌≡◌, ◌+◌, ◌<◌, ◌≤◌, [], ◌∷◌, ◌++◌, length, map, vec_len, is_none, IfOk, IfErr, IfSome, OnOk};
+ghost use Rattle.std.specs.Io.KnownBytes.{Appends};
 ghost use Rattle.og_cert_text.specs.Lines.{ForCondition, line_text};
 ghost use Rattle.og_cert_text.specs.Listing.{file_text};
 ghost use Rattle.og_cond.specs.Seen.{seen};
 ghost use Rattle.og_find.specs.Missing.{missing_up_to};
 ghost use Rattle.og_finder.specs.Findings.{verdict_of};
-ghost use Rattle.og_finder.specs.Written.{certificate_in, lines_of, entry_lines, entries_of, AreLines, IsWritten};
+ghost use Rattle.og_finder.specs.Texts.{certificate_in, lines_of, lines_from, entry_lines, entries_of, AreLines};
+ghost use Rattle.og_finder.specs.Written.{IsWritten};
+ghost use Rattle.og_output.specs.Written.{AppendsFront, Passes};
 ghost use Rattle.og_pool.specs.declared.fault.PoolFault.TheVariants.{Spawn};
 
 use crate::finder::examine_all;
@@ -17,22 +20,40 @@ use og_cert_text::put_cert;
 use og_cond::Condition;
 use og_draws::answers;
 use og_find::{Missing, Verdict};
+use og_output::{OutputFault, write_long, write_whole};
 use og_pool::{Gate, PoolFault};
 use std::alloc::{AllocError, Global};
+use std::io::Write;
+use std::marker::Model;
 use std::sync::Wait;
 use std::thread::Threads;
 
-// How long the first line of the text is, with its LF.
-const HEAD: usize = 10;
+/// Certificates that searches found for conditions. Contracts see them as their text in version 1, of
+/// which no more is made than is written at a time; lines that conditions share are kept once.
+#[derive(Debug, Drop)]
+pub struct Certificates {
+    findings: Findings,
+    // The lines of the certificate of the verdict at each place.
+    lines: Vec<Vec<u8>>,
+}
 
-// How long the first line of an entry can be, with its LF.
-const LONGEST_START: usize = 15;
+impl Model for Certificates {
+    ghost use Rattle.std.specs.Prelude.{ℕ, ◌≤◌, List, vec_len};
+    ghost use Rattle.og_cert_text.specs.Listing.{file_text};
+    ghost use Rattle.og_finder.specs.Texts.{entries_of, AreLines};
+
+    ghost Value = { List ℕ };
+
+    ghost view = { λ c. file_text (entries_of c.findings) };
+
+    ghost invariant = { λ c. AreLines c.findings.verdicts.items c.lines.items × (vec_len c.findings.own ≤ 999999999) };
+}
 
 /// The certificates of conditions, and how many conditions have none.
 #[derive(Debug, Drop)]
 pub struct Written {
-    /// The text of the certificates in version 1.
-    pub text: Vec<u8>,
+    /// The certificates, of which nothing is written yet.
+    pub certificates: Certificates,
     /// How many conditions have no certificate.
     pub missing: Missing,
 }
@@ -67,27 +88,6 @@ impl Writing<'_> {
         Some(lines)
     }
 
-    // How long the entry of the condition at the index is at most, where it shares its certificate.
-    fn room_of(&self, index: usize) -> usize
-        requires { AreLines self.now.findings.now.verdicts.items self.now.lines.now }
-    {
-        match self.shared(index) {
-            Some(lines) if !lines.is_empty() => lines.len().saturating_add(LONGEST_START),
-            _ => 0,
-        }
-    }
-
-    // How long the text is at most, where all certificates are shared.
-    fn room(&self) -> usize
-        requires { AreLines self.now.findings.now.verdicts.items self.now.lines.now }
-    {
-        let mut room = HEAD;
-        for index in 0..self.findings.own.len() {
-            room = room.saturating_add(self.room_of(index));
-        }
-        room
-    }
-
     // Adds the entry of the condition at the index, if that has a certificate.
     fn put(&self, text: &mut Vec<u8>, index: usize) -> Result<(), AllocError>
         requires lines { AreLines self.now.findings.now.verdicts.items self.now.lines.now }
@@ -104,18 +104,70 @@ impl Writing<'_> {
         }
     }
 
-    // The text of all certificates.
-    fn text(&self, alloc: Global) -> Result<Vec<u8>, AllocError>
+    // Writes the entry of the condition at the index, if that has a certificate, or holds it back.
+    fn write_entry<W: Write>(
+        &self,
+        out: &mut W,
+        text: &mut Vec<u8>,
+        index: usize,
+    ) -> Result<(), OutputFault>
+        requires lines { AreLines self.now.findings.now.verdicts.items self.now.lines.now }
+        requires few { index < 999999999 }
+        ensures written { OnOk result (Passes (W.contents out.old) (W.contents out.new) text.old.items text.new.items
+            (entry_lines (index + 1) (certificate_in (verdict_of self.now.findings.now index)))) }
+        ensures unfinished { IfErr result (λ _. AppendsFront (W.contents out.old) (W.contents out.new) (text.old.items ++
+            entry_lines (index + 1) (certificate_in (verdict_of self.now.findings.now index)))) }
+    {
+        self.put(text, index)?;
+        write_long(out, text)?;
+        Ok(())
+    }
+
+    // Writes the text and after it the entries of all conditions; but for an end, which is the text then.
+    fn write_entries<W: Write>(&self, out: &mut W, text: &mut Vec<u8>) -> Result<(), OutputFault>
         requires lines { AreLines self.now.findings.now.verdicts.items self.now.lines.now }
         requires few { vec_len self.now.findings.now.own ≤ 999999999 }
-        ensures { IfOk result (λ text. text.items ≡ file_text (entries_of self.now.findings.now)) }
+        ensures written { OnOk result (Passes (W.contents out.old) (W.contents out.new) text.old.items text.new.items
+            (lines_from self.now.findings.now 0 (vec_len self.now.findings.now.own))) }
+        ensures unfinished { IfErr result (λ _. AppendsFront (W.contents out.old) (W.contents out.new) (text.old.items ++
+            lines_from self.now.findings.now 0 (vec_len self.now.findings.now.own))) }
     {
-        let mut text = Vec::with_capacity(alloc, self.room())?;
-        text.extend_from_slice(b"og-cert 1\n")?;
         for index in 0..self.findings.own.len() {
-            self.put(&mut text, index)?;
+            self.write_entry(out, text, index)?;
         }
-        Ok(text)
+        Ok(())
+    }
+
+    // Writes the text of all certificates.
+    fn write<W: Write>(&self, alloc: Global, out: &mut W) -> Result<(), OutputFault>
+        requires lines { AreLines self.now.findings.now.verdicts.items self.now.lines.now }
+        requires few { vec_len self.now.findings.now.own ≤ 999999999 }
+        ensures written { OnOk result (Appends (W.contents out.old) (W.contents out.new) (file_text (entries_of self.now.findings.now))) }
+        ensures unfinished { IfErr result (λ _. AppendsFront (W.contents out.old) (W.contents out.new) (file_text (entries_of self.now.findings.now))) }
+    {
+        let mut text = Vec::from_slice(alloc, b"og-cert 1\n")?;
+        self.write_entries(out, &mut text)?;
+        write_whole(out, &text)?;
+        Ok(())
+    }
+}
+
+impl Certificates {
+    /// Writes the text of the certificates as it is made.
+    ///
+    /// # Errors
+    ///
+    /// An allocation was refused, or the writer failed; a front of the text may have been written
+    /// then.
+    pub fn write<W: Write>(&self, alloc: Global, out: &mut W) -> Result<(), OutputFault>
+        ensures written { OnOk result (Appends (W.contents out.old) (W.contents out.new) self.now) }
+        ensures unfinished { IfErr result (λ _. AppendsFront (W.contents out.old) (W.contents out.new) self.now) }
+    {
+        let writing = Writing {
+            findings: &self.findings,
+            lines: &self.lines,
+        };
+        writing.write(alloc, out)
     }
 }
 
@@ -125,6 +177,24 @@ impl Findings {
         ensures { result ≡ is_none (certificate_in (verdict_of self.now index)) }
     {
         !matches!(self.verdict(index), Some(Verdict::True(_)))
+    }
+
+    // The lines of the certificate of the verdict at each place, which so many workers make.
+    fn lines<R: Threads + Wait + Sync>(
+        &self,
+        rt: &R,
+        alloc: Global,
+        workers: u32,
+    ) -> Result<Vec<Vec<u8>>, PoolFault>
+        requires { (0 < workers) × (workers ≤ 64) }
+        ensures lines { IfOk result (λ all. AreLines self.now.verdicts.items all.items) }
+        ensures spawn { IfErr result (λ e. e ≡ Spawn → 1 < workers) }
+    {
+        let verdicts = &self.verdicts;
+        let count = u32::try_from(verdicts.len()).unwrap_or(u32::MAX);
+        let formatting = Formatting { verdicts, count };
+        let lines = answers(rt, alloc, &formatting, count, workers)?;
+        Ok(lines)
     }
 
     // How many conditions have no certificate.
@@ -144,38 +214,36 @@ impl Findings {
         Missing { count, conditions }
     }
 
-    // The text of all certificates, whose lines so many workers make.
+    // The certificates, whose lines so many workers make.
     fn written<R: Threads + Wait + Sync>(
-        &self,
+        self,
         rt: &R,
         alloc: Global,
         workers: u32,
     ) -> Result<Written, PoolFault>
         requires workers { (0 < workers) × (workers ≤ 64) }
-        requires few { vec_len self.now.own ≤ 999999999 }
-        ensures text { IfOk result (λ w. w.text.items ≡ file_text (entries_of self.now)) }
-        ensures missing { IfOk result (λ w. w.missing.count ≡ missing_up_to (entries_of self.now) (length self.now.own.items)) }
-        ensures conditions { IfOk result (λ w. w.missing.conditions ≡ length self.now.own.items) }
+        requires few { vec_len self.own ≤ 999999999 }
+        ensures text { IfOk result (λ w. w.certificates ≡ file_text (entries_of self)) }
+        ensures missing { IfOk result (λ w. w.missing.count ≡ missing_up_to (entries_of self) (length self.own.items)) }
+        ensures conditions { IfOk result (λ w. w.missing.conditions ≡ length self.own.items) }
         ensures spawn { IfErr result (λ e. e ≡ Spawn → 1 < workers) }
     {
-        let verdicts = &self.verdicts;
-        let count = u32::try_from(verdicts.len()).unwrap_or(u32::MAX);
-        let formatting = Formatting { verdicts, count };
-        let lines = answers(rt, alloc, &formatting, count, workers)?;
-        let writing = Writing {
-            findings: self,
-            lines: &lines,
-        };
-        let text = writing.text(alloc)?;
         let missing = self.missing();
-        Ok(Written { text, missing })
+        let lines = self.lines(rt, alloc, workers)?;
+        let certificates = Certificates {
+            findings: self,
+            lines,
+        };
+        Ok(Written {
+            certificates,
+            missing,
+        })
     }
 }
 
-/// The text in version 1 of the certificates that searches find for the conditions, each under the
-/// number of its condition, counted from 1, and how many conditions have none. So many workers
-/// search and write. The text is that of the file of `find_all`, and the same for every number of
-/// workers.
+/// The certificates that searches find for the conditions, each under the number of its condition,
+/// counted from 1, and how many conditions have none. So many workers search, and make the lines of
+/// the text. The text is that of the file of `find_all`, and the same for every number of workers.
 ///
 /// # Errors
 ///
@@ -194,7 +262,5 @@ pub fn write_all<G: Gate, R: Threads + Wait + Sync>(
     ensures spawn { IfErr result (λ e. e ≡ Spawn → 1 < workers) }
 {
     let findings = examine_all(rt, alloc, conditions, budget, workers, gate)?;
-    let written = findings.written(rt, alloc, workers);
-    drop(findings);
-    written
+    findings.written(rt, alloc, workers)
 }

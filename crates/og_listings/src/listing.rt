@@ -4,17 +4,15 @@ ghost use Rattle.std.specs.Prelude.{◌≡◌, ◌≤◌, ◌^◌, length, IfOk,
 ghost use Rattle.std.specs.Io.KnownBytes.{Appends};
 ghost use Rattle.og_cond.specs.Conditions.{conditions};
 ghost use Rattle.og_cond.specs.Limits.{condition_limit};
-ghost use Rattle.og_engine.specs.Unfinished.{AppendsFront};
 ghost use Rattle.og_listings.specs.Listings.{numbers_in, numbers_of, listing_text};
+ghost use Rattle.og_output.specs.Written.{AppendsFront};
 
-use crate::fault::ListingFault;
 use crate::form::Form;
 use crate::lines::{Lines, opening};
 use crate::pieces::write_groups;
-use og_answer::Answer;
 use og_cond::{ConditionsError, Groups};
-use og_engine::write_answer;
 use og_listing::Places;
+use og_output::{OutputFault, write_whole};
 use og_source::Source;
 use og_typed::Outline;
 use std::alloc::{AllocError, Global};
@@ -53,7 +51,7 @@ fn write_conditions<W: Write>(
     outline: &Outline,
     source: &[u8],
     out: &mut W,
-) -> Result<u8, ListingFault>
+) -> Result<u8, OutputFault>
     requires source { length source.now ≤ 2 ^ 20 }
     requires few { length (conditions outline.now) ≤ condition_limit }
     ensures written { OnOk result (Appends (W.contents out.old) (W.contents out.new) (listing_text form (numbers_in only.entry) outline.now source.now)) }
@@ -63,7 +61,7 @@ fn write_conditions<W: Write>(
     outline.follows_rule();
     let mut groups = match Groups::new(alloc, outline) {
         Ok(groups) => groups,
-        Err(ConditionsError::Memory) => return Err(ListingFault::Memory),
+        Err(ConditionsError::Memory) => return Err(OutputFault::Memory),
         Err(ConditionsError::Fault(_)) => unreachable!(),
     };
     let places = Places::new(alloc, source)?;
@@ -76,8 +74,8 @@ fn write_conditions<W: Write>(
         places: &places,
     };
     write_groups(out, &mut text, &lines, alloc, &mut groups)?;
-    let last = Answer { text, status: 0 };
-    Ok(write_answer(out, &last)?)
+    write_whole(out, &text)?;
+    Ok(0)
 }
 
 impl Listing {
@@ -106,7 +104,7 @@ impl Listing {
     ///
     /// An allocation was refused, or the writer failed; a front of the listing may have been written
     /// then.
-    pub fn write<W: Write>(&self, alloc: Global, out: &mut W) -> Result<u8, ListingFault>
+    pub fn write<W: Write>(&self, alloc: Global, out: &mut W) -> Result<u8, OutputFault>
         ensures written { OnOk result (Appends (W.contents out.old) (W.contents out.new) self.now) }
         ensures status { IfOk result (λ status. status ≡ 0) }
         ensures unfinished { IfErr result (λ _. AppendsFront (W.contents out.old) (W.contents out.new) self.now) }

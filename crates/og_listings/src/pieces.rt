@@ -4,32 +4,14 @@ ghost use Rattle.std.specs.Prelude.{◌≡◌, ◌≤◌, ◌+◌, ◌^◌, ◌<
 ghost use Rattle.og_cond.specs.Groups.{rest};
 ghost use Rattle.og_cond.specs.Limits.{condition_limit};
 ghost use Rattle.og_cond.specs.Seen.{seen};
-ghost use Rattle.og_engine.specs.Unfinished.{AppendsFront};
 ghost use Rattle.og_listings.specs.Listings.{numbers_in, wanted_text, wanted_lines};
-ghost use Rattle.og_listings.specs.Written.{Passes};
+ghost use Rattle.og_output.specs.Written.{AppendsFront, Passes};
 
-use crate::fault::ListingFault;
 use crate::lines::{Lines, put_wanted};
 use og_cond::{Condition, Groups};
-use og_engine::{WriteFault, write_text};
+use og_output::{OutputFault, write_long};
 use std::alloc::Global;
 use std::io::Write;
-
-// How many bytes are made before they are written.
-const PIECE: usize = 8_192;
-
-// Writes what was made, where it is long.
-fn write_long<W: Write>(out: &mut W, text: &mut Vec<u8>) -> Result<(), WriteFault>
-    ensures written { OnOk result (Passes (W.contents out.old) (W.contents out.new) text.old.items text.new.items []) }
-    ensures unfinished { IfErr result (λ _. AppendsFront (W.contents out.old) (W.contents out.new) text.old.items) }
-{
-    if text.len() < PIECE {
-        return Ok(());
-    }
-    write_text(out, text.as_slice())?;
-    text.clear();
-    Ok(())
-}
 
 // A condition, where its number is asked for.
 fn write_wanted<W: Write>(
@@ -38,7 +20,7 @@ fn write_wanted<W: Write>(
     lines: &Lines<'_>,
     number: u32,
     condition: &Condition,
-) -> Result<(), ListingFault>
+) -> Result<(), OutputFault>
     ensures written { OnOk result (Passes (W.contents out.old) (W.contents out.new) text.old.items text.new.items
         (wanted_text lines.now.form (numbers_in lines.now.only) lines.now.names.now lines.now.places.now number (seen condition.now))) }
     ensures unfinished { IfErr result (λ _. AppendsFront (W.contents out.old) (W.contents out.new) (text.old.items ++
@@ -56,7 +38,7 @@ fn write_group<W: Write>(
     lines: &Lines<'_>,
     first: u32,
     group: &[Condition],
-) -> Result<(), ListingFault>
+) -> Result<(), OutputFault>
     requires { first + length group.now < 2 ^ 32 }
     ensures written { OnOk result (Passes (W.contents out.old) (W.contents out.new) text.old.items text.new.items
         (wanted_lines lines.now.form (numbers_in lines.now.only) lines.now.names.now lines.now.places.now first (map seen group.now))) }
@@ -83,7 +65,7 @@ pub(crate) fn write_groups<W: Write>(
     lines: &Lines<'_>,
     alloc: Global,
     groups: &mut Groups<'_>,
-) -> Result<(), ListingFault>
+) -> Result<(), OutputFault>
     requires { length (rest groups.old) ≤ condition_limit }
     ensures written { OnOk result (Passes (W.contents out.old) (W.contents out.new) text.old.items text.new.items
         (wanted_lines lines.now.form (numbers_in lines.now.only) lines.now.names.now lines.now.places.now 1 (rest groups.old))) }

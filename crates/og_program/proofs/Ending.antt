@@ -22,7 +22,8 @@ pub of_outcome : (files : List ℕ → Option (List ℕ)) (input : Option (List 
     → EndsJob files input job out out_after err err_after ended
 of_outcome files input job out out_after err err_after ended (Ok (outcomes.Told t)) came fault (inl told) wrong = inl (t, came, told)
 of_outcome files input job out out_after err err_after ended (Ok (outcomes.Told t)) came fault (inr failed) wrong = inr (inr (inl (faults.NotWritten failed.1.0, (t, came, failed.0), failed.1.1)))
-of_outcome files input job out out_after err err_after ended (Ok (outcomes.Listing text)) came fault told wrong = inr (inr (inr (text, came, told)))
+of_outcome files input job out out_after err err_after ended (Ok (outcomes.Found t)) came fault told wrong = inr (inr (inr (outcomes.Found t, came, told)))
+of_outcome files input job out out_after err err_after ended (Ok (outcomes.Listing text)) came fault told wrong = inr (inr (inr (outcomes.Listing text, came, told)))
 of_outcome files input job out out_after err err_after ended (Ok (outcomes.BadValue bad)) came fault (keeps, inl told) wrong =
     inr (inl (bad_value_text bad, (outcomes.BadValue bad, came, refl), keeps, told))
 of_outcome files input job out out_after err err_after ended (Ok (outcomes.BadValue bad)) came fault (keeps, inr told) wrong =

@@ -1,5 +1,7 @@
 -- What status 0 of the program says.
 use Rattle.std.proofs.Common.{◌≡◌, inl, inr, ℕ, List, Bool, true, false, None, Some, Option, map, sym, ap, subst, arith, ◌∙◌}
+use Rattle.std.specs.Prelude.{⊤}
+use Rattle.std.specs.Borrow.{Bor}
 use Rattle.og_answer.specs.declared.answer.Answer.{Answer}
 use Rattle.og_engine.proofs.Promised.{written_text, wrote_unblocked}
 use Rattle.og_expander.specs.declared.expanding.Reply.{Reply as Proving}
@@ -26,9 +28,10 @@ use Rattle.og_remark.specs.Values.{IsValueRemark}
 use Rattle.og_remark.specs.declared.values.Gives.TheVariants as gives
 use Rattle.og_words.specs.declared.job.Job.{Job}
 use Rattle.og_words.specs.declared.job.Job.TheVariants as jobs
-use Rattle.og_program.specs.Served.{Comes, Does, EndsJob, IsWordRemark, Follows, FollowsExploring, FollowsProving, FollowsRuns, TellsProvedBy, IsProvenIn, IsNeverStuckIn}
-use Rattle.og_program.specs.Told.{Says}
+use Rattle.og_program.specs.Served.{Remarks, IsExpansionNote, OnTold, OnBad, TellsMade, Comes, Does, EndsJob, IsWordRemark, Follows, FollowsExploring, FollowsProving, FollowsRuns, TellsRan, TellsProved, TellsProvedBy, IsProvenIn, IsNeverStuckIn}
+use Rattle.og_program.specs.Told.{Noted, Says}
 use Rattle.og_program.specs.declared.ended.Ended.{Ended}
+use Rattle.og_program.specs.declared.outcome.Outcome.{Outcome}
 use Rattle.og_program.specs.declared.outcome.Outcome.TheVariants as outcomes
 use Rattle.og_program.specs.declared.outcome.Told.{Told}
 
@@ -42,17 +45,47 @@ proven_run limit source certs words R V (replies.Told ran) t is follows zero =
 proven_run limit source certs words R V (replies.BadValue word) t is follows zero = absurd follows
 proven_run limit source certs words R V (replies.NotMade line) t is follows zero = let never : outcomes.Told t ≡ outcomes.NotMade line = follows in absurd (cc)
 
--- a run comes to no listing
-no_listing : (R : Option (List ℕ) → Type 0) (V : List ℕ → List ℕ → Type 0) (reply : Reply) (text : List ℕ) → Follows R V reply (outcomes.Listing text) → ⊥
-no_listing R V (replies.Told ran) text follows = follows
-no_listing R V (replies.BadValue word) text follows = follows
-no_listing R V (replies.NotMade line) text follows = let never : outcomes.Listing text ≡ outcomes.NotMade line = follows in absurd (cc)
+-- what is written as it is made: certificates and listings
+abbrev IsMade : Outcome → Type 0
+IsMade (outcomes.Told t) = ⊥
+IsMade (outcomes.Found t) = ⊤
+IsMade (outcomes.Listing text) = ⊤
+IsMade (outcomes.BadValue bad) = ⊥
+IsMade (outcomes.NotMade line) = ⊥
+
+is_made : (o : Outcome) (out out_after err err_after : Option (List ℕ)) (ended : Ended) → TellsMade o out out_after err err_after ended → IsMade o
+is_made (outcomes.Told t) out out_after err err_after ended told = told
+is_made (outcomes.Found t) out out_after err err_after ended told = tt
+is_made (outcomes.Listing text) out out_after err err_after ended told = tt
+is_made (outcomes.BadValue bad) out out_after err err_after ended told = told
+is_made (outcomes.NotMade line) out out_after err err_after ended told = told
+
+-- it is no answer, and no word that gives no value
+no_answer : (P : Told → Type 0) (o : Outcome) → IsMade o → OnTold P o → ⊥
+no_answer P (outcomes.Told t) made h = made
+no_answer P (outcomes.Found t) made h = h
+no_answer P (outcomes.Listing text) made h = h
+no_answer P (outcomes.BadValue bad) made h = made
+no_answer P (outcomes.NotMade line) made h = made
+
+no_bad : (V : List ℕ → List ℕ → Type 0) (word : Bor (List ℕ)) (o : Outcome) → IsMade o → OnBad V word o → ⊥
+no_bad V word (outcomes.Told t) made h = made
+no_bad V word (outcomes.Found t) made h = h
+no_bad V word (outcomes.Listing text) made h = h
+no_bad V word (outcomes.BadValue bad) made h = made
+no_bad V word (outcomes.NotMade line) made h = made
+
+-- a run comes to nothing of this kind
+no_run : (R : Option (List ℕ) → Type 0) (V : List ℕ → List ℕ → Type 0) (reply : Reply) (o : Outcome) → IsMade o → Follows R V reply o → ⊥
+no_run R V (replies.Told ran) o made follows = no_answer (TellsRan R ran) o made follows
+no_run R V (replies.BadValue word) o made follows = no_bad V word o made follows
+no_run R V (replies.NotMade line) o made follows = subst IsMade follows made
 
 -- nor does a proof
-no_listing_proved : (name source : List ℕ) (reply : Proving) (text : List ℕ) → FollowsProving name source reply (outcomes.Listing text) → ⊥
-no_listing_proved name source (provings.Answer a) text follows = follows
-no_listing_proved name source (provings.Refused a fault) text follows = follows
-no_listing_proved name source (provings.BadValue word) text follows = follows
+no_proof : (name source : List ℕ) (reply : Proving) (o : Outcome) → IsMade o → FollowsProving name source reply o → ⊥
+no_proof name source (provings.Answer a) o made follows = no_answer (TellsProved name source a) o made follows
+no_proof name source (provings.Refused a fault) o made follows = no_answer (λ t. (t.answer ≡ a) × Noted (IsExpansionNote name source fault) t) o made follows
+no_proof name source (provings.BadValue word) o made follows = no_bad (λ _ _. ⊥) word o made follows
 
 -- what a reply to `prove` says is said by what is told
 told_answer : (b : Bool) (name source : List ℕ) (a : Answer) (t : Told) → TellsProvedBy b name source a t → t.answer ≡ a
@@ -76,12 +109,11 @@ runs_proven json name source words (reachings.Refused a fault) t is follows zero
 runs_proven json name source words (reachings.BadConstant word) t is follows zero = absurd follows
 runs_proven json name source words (reachings.BadStart word own) t is follows zero = absurd follows
 
--- it comes to no listing
-no_listing_of_runs : (name source : List ℕ) (reply : Reaching) (text : List ℕ) → FollowsRuns name source reply (outcomes.Listing text) → ⊥
-no_listing_of_runs name source (reachings.Answer a) text follows = follows
-no_listing_of_runs name source (reachings.Refused a fault) text follows = follows
-no_listing_of_runs name source (reachings.BadConstant word) text follows = follows
-no_listing_of_runs name source (reachings.BadStart word own) text follows = follows
+no_proof_with_runs : (name source : List ℕ) (reply : Reaching) (o : Outcome) → IsMade o → FollowsRuns name source reply o → ⊥
+no_proof_with_runs name source (reachings.Answer a) o made follows = no_answer (TellsProved name source a) o made follows
+no_proof_with_runs name source (reachings.Refused a fault) o made follows = no_answer (λ t. (t.answer ≡ a) × Noted (IsExpansionNote name source fault) t) o made follows
+no_proof_with_runs name source (reachings.BadConstant word) o made follows = no_bad (λ _ _. ⊥) word o made follows
+no_proof_with_runs name source (reachings.BadStart word own) o made follows = no_bad (IsValueRemark gives.Ranges own.items) word o made follows
 
 -- a page with runs that ended with status 0
 show_proven : (source : List ℕ) (words : List (List ℕ)) (R : Option (List ℕ) → Type 0) (V : List ℕ → List ℕ → Type 0) (reply : Exploring) (t : Told) → IsShowingRuns source words reply
@@ -89,10 +121,9 @@ show_proven : (source : List ℕ) (words : List (List ℕ)) (R : Option (List �
 show_proven source words R V (explorings.Answer a) t is follows zero = shown_runs_proven source a is (ap (λ a. a.status) (sym follows.0) ∙ zero)
 show_proven source words R V (explorings.BadValue word) t is follows zero = absurd follows
 
--- nor does such a page
-no_listing_of_page : (R : Option (List ℕ) → Type 0) (V : List ℕ → List ℕ → Type 0) (reply : Exploring) (text : List ℕ) → FollowsExploring R V reply (outcomes.Listing text) → ⊥
-no_listing_of_page R V (explorings.Answer a) text follows = follows
-no_listing_of_page R V (explorings.BadValue word) text follows = follows
+no_page : (R : Option (List ℕ) → Type 0) (V : List ℕ → List ℕ → Type 0) (reply : Exploring) (o : Outcome) → IsMade o → FollowsExploring R V reply o → ⊥
+no_page R V (explorings.Answer a) o made follows = no_answer (λ t. (t.answer ≡ a) × Remarks R t) o made follows
+no_page R V (explorings.BadValue word) o made follows = no_bad V word o made follows
 
 sound_answer : (files : List ℕ → Option (List ℕ)) (input : Option (List ℕ)) (job : Job) (before after err err_after : Option (List ℕ)) (ended : Ended) → Does files input job before after err err_after ended
     → ended.status ≡ 0 → IsProvenIn files input job
@@ -138,45 +169,45 @@ unblocked_answer files input (jobs.Explore source limit erased json ranges) befo
 unblocked_answer files input (jobs.Expand template as_map values) before after err err_after ended h zero = tt
 unblocked_answer files input (jobs.Migrate certs) before after err err_after ended h zero = tt
 
--- ---- of a listing
+-- ---- of what is written as it is made
 
-sound_listing : (files : List ℕ → Option (List ℕ)) (input : Option (List ℕ)) (job : Job) (text : List ℕ) → Comes files input job (outcomes.Listing text) → IsProvenIn files input job
-sound_listing files input jobs.Joined text came = absurd came.2.3
-sound_listing files input (jobs.Prove source budget workers json values) text came =
-    absurd (no_listing_proved source.now came.0 came.2.0 text came.2.3)
-sound_listing files input (jobs.ProveRuns source budget workers json limit ranges) text came =
-    absurd (no_listing_of_runs source.now came.0 came.2.0 text came.2.2)
-sound_listing files input (jobs.Check source certs workers json) text came = absurd came.2.2
-sound_listing files input (jobs.Notes source budget) text came = tt
-sound_listing files input (jobs.Show source budget workers) text came = absurd came.2
-sound_listing files input (jobs.ShowRuns source budget workers limit ranges) text came =
-    let r = came.2 in absurd (no_listing_of_page (IsConditionsRemark source.now came.0) (IsValueRemark gives.Ranges came.0) r.0 text r.2)
-sound_listing files input (jobs.Conditions source triples smt2 only) text came = tt
-sound_listing files input (jobs.Find source budget workers version) text came = tt
-sound_listing files input (jobs.Erase source readable) text came = tt
-sound_listing files input (jobs.Run source limit erased None schedule values) text came = tt
-sound_listing files input (jobs.Run source limit erased (Some certs) schedule values) text came =
-    let r = came.2.2 in absurd (no_listing (IsProvedRunRemark source.now certs.now came.0 came.2.0 (map (λ x. x.now) values.items)) (IsWordRemark came.0 None) r.0 text r.2)
-sound_listing files input (jobs.Explore source limit erased json ranges) text came = tt
-sound_listing files input (jobs.Expand template as_map values) text came = tt
-sound_listing files input (jobs.Migrate certs) text came = tt
+sound_made : (files : List ℕ → Option (List ℕ)) (input : Option (List ℕ)) (job : Job) (o : Outcome) → IsMade o → Comes files input job o → IsProvenIn files input job
+sound_made files input jobs.Joined o made came = absurd (no_answer _ o made came.2.3)
+sound_made files input (jobs.Prove source budget workers json values) o made came =
+    absurd (no_proof source.now came.0 came.2.0 o made came.2.3)
+sound_made files input (jobs.ProveRuns source budget workers json limit ranges) o made came =
+    absurd (no_proof_with_runs source.now came.0 came.2.0 o made came.2.2)
+sound_made files input (jobs.Check source certs workers json) o made came = absurd (no_answer _ o made came.2.2)
+sound_made files input (jobs.Notes source budget) o made came = tt
+sound_made files input (jobs.Show source budget workers) o made came = absurd (no_answer _ o made came.2)
+sound_made files input (jobs.ShowRuns source budget workers limit ranges) o made came =
+    let r = came.2 in absurd (no_page (IsConditionsRemark source.now came.0) (IsValueRemark gives.Ranges came.0) r.0 o made r.2)
+sound_made files input (jobs.Conditions source triples smt2 only) o made came = tt
+sound_made files input (jobs.Find source budget workers version) o made came = tt
+sound_made files input (jobs.Erase source readable) o made came = tt
+sound_made files input (jobs.Run source limit erased None schedule values) o made came = tt
+sound_made files input (jobs.Run source limit erased (Some certs) schedule values) o made came =
+    let r = came.2.2 in absurd (no_run (IsProvedRunRemark source.now certs.now came.0 came.2.0 (map (λ x. x.now) values.items)) (IsWordRemark came.0 None) r.0 o made r.2)
+sound_made files input (jobs.Explore source limit erased json ranges) o made came = tt
+sound_made files input (jobs.Expand template as_map values) o made came = tt
+sound_made files input (jobs.Migrate certs) o made came = tt
 
-unblocked_listing : (files : List ℕ → Option (List ℕ)) (input before after : Option (List ℕ)) (job : Job) (text : List ℕ) → Comes files input job (outcomes.Listing text) → IsNeverStuckIn files input before after job
-unblocked_listing files input before after jobs.Joined text came = absurd came.2.3
-unblocked_listing files input before after (jobs.Prove source budget workers json values) text came =
-    absurd (no_listing_proved source.now came.0 came.2.0 text came.2.3)
-unblocked_listing files input before after (jobs.ProveRuns source budget workers json limit ranges) text came = tt
-unblocked_listing files input before after (jobs.Check source certs workers json) text came = absurd came.2.2
-unblocked_listing files input before after (jobs.Notes source budget) text came = tt
-unblocked_listing files input before after (jobs.Show source budget workers) text came = tt
-unblocked_listing files input before after (jobs.ShowRuns source budget workers limit ranges) text came = tt
-unblocked_listing files input before after (jobs.Conditions source triples smt2 only) text came = tt
-unblocked_listing files input before after (jobs.Find source budget workers version) text came = tt
-unblocked_listing files input before after (jobs.Erase source readable) text came = tt
-unblocked_listing files input before after (jobs.Run source limit erased certs schedule values) text came = tt
-unblocked_listing files input before after (jobs.Explore source limit erased json ranges) text came = tt
-unblocked_listing files input before after (jobs.Expand template as_map values) text came = tt
-unblocked_listing files input before after (jobs.Migrate certs) text came = tt
+unblocked_made : (files : List ℕ → Option (List ℕ)) (input before after : Option (List ℕ)) (job : Job) (o : Outcome) → IsMade o → Comes files input job o → IsNeverStuckIn files input before after job
+unblocked_made files input before after jobs.Joined o made came = absurd (no_answer _ o made came.2.3)
+unblocked_made files input before after (jobs.Prove source budget workers json values) o made came =
+    absurd (no_proof source.now came.0 came.2.0 o made came.2.3)
+unblocked_made files input before after (jobs.ProveRuns source budget workers json limit ranges) o made came = tt
+unblocked_made files input before after (jobs.Check source certs workers json) o made came = absurd (no_answer _ o made came.2.2)
+unblocked_made files input before after (jobs.Notes source budget) o made came = tt
+unblocked_made files input before after (jobs.Show source budget workers) o made came = tt
+unblocked_made files input before after (jobs.ShowRuns source budget workers limit ranges) o made came = tt
+unblocked_made files input before after (jobs.Conditions source triples smt2 only) o made came = tt
+unblocked_made files input before after (jobs.Find source budget workers version) o made came = tt
+unblocked_made files input before after (jobs.Erase source readable) o made came = tt
+unblocked_made files input before after (jobs.Run source limit erased certs schedule values) o made came = tt
+unblocked_made files input before after (jobs.Explore source limit erased json ranges) o made came = tt
+unblocked_made files input before after (jobs.Expand template as_map values) o made came = tt
+unblocked_made files input before after (jobs.Migrate certs) o made came = tt
 
 -- ---- of the program
 
@@ -189,11 +220,11 @@ pub sound_job : (files : List ℕ → Option (List ℕ)) (input : Option (List �
 sound_job files input job out out_after err err_after ended (inl done) zero = sound_answer files input job out out_after err err_after ended done zero
 sound_job files input job out out_after err err_after ended (inr (inl refused)) zero = let three = refused.3.0 in absurd (omega (arith, three, zero))
 sound_job files input job out out_after err err_after ended (inr (inr (inl failed))) zero = absurd (four_not_0 _ err err_after ended failed.2.1 zero)
-sound_job files input job out out_after err err_after ended (inr (inr (inr listed))) zero = sound_listing files input job listed.0 listed.1
+sound_job files input job out out_after err err_after ended (inr (inr (inr m))) zero = sound_made files input job m.0 (is_made m.0 out out_after err err_after ended m.2) m.1
 
 pub unblocked_job : (files : List ℕ → Option (List ℕ)) (input : Option (List ℕ)) (job : Job) (out out_after err err_after : Option (List ℕ)) (ended : Ended)
     → EndsJob files input job out out_after err err_after ended → ended.status ≡ 0 → IsNeverStuckIn files input out out_after job
 unblocked_job files input job out out_after err err_after ended (inl done) zero = unblocked_answer files input job out out_after err err_after ended done zero
 unblocked_job files input job out out_after err err_after ended (inr (inl refused)) zero = let three = refused.3.0 in absurd (omega (arith, three, zero))
 unblocked_job files input job out out_after err err_after ended (inr (inr (inl failed))) zero = absurd (four_not_0 _ err err_after ended failed.2.1 zero)
-unblocked_job files input job out out_after err err_after ended (inr (inr (inr listed))) zero = unblocked_listing files input out out_after job listed.0 listed.1
+unblocked_job files input job out out_after err err_after ended (inr (inr (inr m))) zero = unblocked_made files input out out_after job m.0 (is_made m.0 out out_after err err_after ended m.2) m.1

@@ -1,9 +1,9 @@
 -- Why a job cannot be done, and how that is told.
 use Rattle.std.specs.Prelude.{◌≡◌, ◌⊎◌, ℕ, Bool, true, false, List, [], codes, Result, Ok, Err, ⊤}
-use Rattle.og_engine.specs.declared.fault.WriteFault.TheVariants as writes
+use Rattle.og_output.specs.declared.fault.WriteFault.TheVariants as writes
 use Rattle.og_listing.specs.Places.{◌&◌}
-use Rattle.og_listings.specs.declared.fault.ListingFault.{ListingFault}
-use Rattle.og_listings.specs.declared.fault.ListingFault.TheVariants as listing
+use Rattle.og_output.specs.declared.fault.OutputFault.{OutputFault}
+use Rattle.og_output.specs.declared.fault.OutputFault.TheVariants as outputs
 use Rattle.og_pool.specs.declared.fault.PoolFault.{PoolFault}
 use Rattle.og_pool.specs.declared.fault.PoolFault.TheVariants as pool
 use Rattle.og_program.specs.declared.fault.Fault.{Fault}
@@ -61,7 +61,7 @@ abbrev pub of_pool : PoolFault → Fault
 of_pool pool.Memory = faults.Memory
 of_pool pool.Spawn = faults.Spawn
 
--- why a listing is not written whole
-abbrev pub of_listing : ListingFault → Fault
-of_listing listing.Memory = faults.Memory
-of_listing (listing.NotWritten why) = faults.NotWritten why
+-- why a text that is written as it is made is not written whole
+abbrev pub of_output : OutputFault → Fault
+of_output outputs.Memory = faults.Memory
+of_output (outputs.NotWritten why) = faults.NotWritten why

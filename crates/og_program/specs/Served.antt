@@ -10,7 +10,8 @@ use Rattle.og_engine.specs.Commands.{IsErased}
 use Rattle.og_engine.specs.Inputs.{source_of, certs_of, joined_of, Reads}
 use Rattle.og_engine.specs.Making.{IsFound, IsMigrated}
 use Rattle.og_engine.specs.declared.making.FindReply.{FindReply}
-use Rattle.og_engine.specs.Unfinished.{AppendsFront}
+use Rattle.og_engine.specs.declared.making.FindReply.TheVariants as finds
+use Rattle.og_output.specs.Written.{AppendsFront}
 use Rattle.og_engine.specs.Warrants.{Warrants}
 use Rattle.og_engine.specs.Wrote.{Wrote}
 use Rattle.og_expander.specs.Expanded as expanding
@@ -57,7 +58,7 @@ use Rattle.og_words.specs.declared.job.Usage.{Usage}
 use Rattle.og_words.specs.declared.job.Usage.TheVariants as usages
 use Rattle.og_program.specs.Failing.{IsFault}
 use Rattle.og_program.specs.Named.{bytes_in, certs_in, is_file, lacks_bytes, lacks_certs}
-use Rattle.og_program.specs.Told.{Noted, bad_value_text, Complains, IsSilent, Prints, TellsListing, Fails, FailsToWrite}
+use Rattle.og_program.specs.Told.{IsNote, Noted, bad_value_text, Complains, IsSilent, Prints, TellsFound, TellsListing, Fails, FailsToWrite}
 use Rattle.og_program.specs.declared.ended.Ended.{Ended}
 use Rattle.og_program.specs.declared.fault.Fault.{Fault}
 use Rattle.og_program.specs.declared.fault.Fault.TheVariants as faults
@@ -65,6 +66,7 @@ use Rattle.og_program.specs.declared.fault.Why.{Why}
 use Rattle.og_program.specs.declared.outcome.Outcome.{Outcome}
 use Rattle.og_program.specs.declared.outcome.Outcome.TheVariants as outcomes
 use Rattle.og_program.specs.declared.outcome.Told.{Told}
+use Rattle.og_program.specs.declared.outcome.ToldFound.{ToldFound}
 
 -- what goes to standard error beside an answer is such as R says where it has status 2, and else nothing
 abbrev pub Remarks : (Option (List ℕ) → Type 0) → Told → Type 0
@@ -77,6 +79,7 @@ RemarksBoth R M t = (t.answer.status ≡ 2 → Noted R t) × (t.answer.status �
 -- an answer such as P says
 abbrev pub OnTold : (Told → Type 0) → Outcome → Type 0
 OnTold P (outcomes.Told t) = P t
+OnTold P (outcomes.Found t) = ⊥
 OnTold P (outcomes.Listing text) = ⊥
 OnTold P (outcomes.BadValue bad) = ⊥
 OnTold P (outcomes.NotMade line) = ⊥
@@ -106,14 +109,28 @@ abbrev pub IsMissingNote : List ℕ → Missing → Option (List ℕ) → Type 0
 IsMissingNote name missing None = ⊥
 IsMissingNote name missing (Some text) = text ≡ missing_text name missing.count missing.conditions
 
--- beside certificates how many conditions have none, if some have none; and else why the conditions are refused
-abbrev pub TellsFound : List ℕ → List ℕ → Option Missing → Told → Type 0
-TellsFound name source None t = Noted (IsConditionsRemark name source) t
-TellsFound name source (Some missing) t = (missing.count ≡ 0 → t.note ≡ Ok None) × (missing.count ≢ 0 → Noted (IsMissingNote name missing) t)
+-- certificates such as P says
+abbrev pub OnFound : (ToldFound → Type 0) → Outcome → Type 0
+OnFound P (outcomes.Told t) = ⊥
+OnFound P (outcomes.Found t) = P t
+OnFound P (outcomes.Listing text) = ⊥
+OnFound P (outcomes.BadValue bad) = ⊥
+OnFound P (outcomes.NotMade line) = ⊥
 
-abbrev pub Finds : ℕ → List ℕ → List ℕ → Told → Type 0
-Finds version name source t =
-    (reply : FindReply) × IsFound version source reply × (t.answer ≡ reply.answer) × TellsFound name source reply.missing t
+-- beside certificates how many conditions have none, if some have none
+abbrev pub TellsMissing : List ℕ → ToldFound → Type 0
+TellsMissing name t =
+    (t.found.missing.count ≡ 0 → t.note ≡ Ok None) × (t.found.missing.count ≢ 0 → IsNote (IsMissingNote name t.found.missing) t.note)
+
+-- what is told of the reply to whoever asks for certificates
+abbrev pub FollowsFinding : List ℕ → List ℕ → FindReply → Outcome → Type 0
+FollowsFinding name source (finds.Found found) outcome = OnFound (λ t. (t.found ≡ found) × TellsMissing name t) outcome
+FollowsFinding name source (finds.Refused answer) outcome =
+    OnTold (λ t. (t.answer ≡ answer) × Noted (IsConditionsRemark name source) t) outcome
+
+-- the certificates that searches find for the conditions of a source
+abbrev pub Finds : ℕ → List ℕ → List ℕ → Outcome → Type 0
+Finds version name source outcome = (reply : FindReply) × IsFound version source reply × FollowsFinding name source reply outcome
 
 abbrev pub Erases : Bool → List ℕ → List ℕ → Told → Type 0
 Erases readable name source t = IsErased readable source t.answer × Remarks (IsSourceRemark name source) t
@@ -128,6 +145,7 @@ TellsRan R ran t = (t.answer ≡ ran.answer) × (t.answer.status ≡ 2 → Noted
 -- the word that gives no value, and where a line says why, it is such as V says
 abbrev pub OnBad : (List ℕ → List ℕ → Type 0) → Bor (List ℕ) → Outcome → Type 0
 OnBad V word (outcomes.Told t) = ⊥
+OnBad V word (outcomes.Found t) = ⊥
 OnBad V word (outcomes.Listing text) = ⊥
 OnBad V word (outcomes.BadValue bad) = (bad.word ≡ word) × IfSome bad.why (λ line. V word.now line.items)
 OnBad V word (outcomes.NotMade line) = ⊥
@@ -258,7 +276,7 @@ Comes files input (jobs.Notes source budget) = OfSource files input source.now (
 Comes files input (jobs.Show source budget workers) = OfSource files input source.now (λ s. OnTold (Shows source.now s))
 Comes files input (jobs.ShowRuns source budget workers limit ranges) = OfSource files input source.now (ShowsRuns (map (λ w. w.now) ranges.items) source.now)
 Comes files input (jobs.Conditions source triples smt2 only) = OfSource files input source.now (Lists (form_of triples smt2) only source.now)
-Comes files input (jobs.Find source budget workers version) = OfSource files input source.now (λ s. OnTold (Finds version source.now s))
+Comes files input (jobs.Find source budget workers version) = OfSource files input source.now (Finds version source.now)
 Comes files input (jobs.Erase source readable) = OfSource files input source.now (λ s. OnTold (Erases readable source.now s))
 Comes files input (jobs.Run source limit erased certs schedule values) = OfRun files input source.now limit erased certs schedule (map (λ w. w.now) values.items)
 Comes files input (jobs.Explore source limit erased json ranges) = OfSource files input source.now (Explores erased json (map (λ w. w.now) ranges.items) source.now)
@@ -269,10 +287,17 @@ Comes files input (jobs.Migrate certs) = λ outcome. Reads certs_of (bytes_in fi
 abbrev pub Does : (List ℕ → Option (List ℕ)) → Option (List ℕ) → Job → Option (List ℕ) → Option (List ℕ) → Option (List ℕ) → Option (List ℕ) → Ended → Type 0
 Does files input job out out_after err err_after ended = (t : Told) × Comes files input job (outcomes.Told t) × Prints t out out_after err err_after ended
 
--- the listing that a job comes to is written as it is made
-abbrev pub DoesList : (List ℕ → Option (List ℕ)) → Option (List ℕ) → Job → Option (List ℕ) → Option (List ℕ) → Option (List ℕ) → Option (List ℕ) → Ended → Type 0
-DoesList files input job out out_after err err_after ended =
-    (text : List ℕ) × Comes files input job (outcomes.Listing text) × TellsListing text out out_after err err_after ended
+-- so are certificates and listings, as they are made
+abbrev pub TellsMade : Outcome → Option (List ℕ) → Option (List ℕ) → Option (List ℕ) → Option (List ℕ) → Ended → Type 0
+TellsMade (outcomes.Told t) out out_after err err_after ended = ⊥
+TellsMade (outcomes.Found t) out out_after err err_after ended = TellsFound t out out_after err err_after ended
+TellsMade (outcomes.Listing text) out out_after err err_after ended = TellsListing text out out_after err err_after ended
+TellsMade (outcomes.BadValue bad) out out_after err err_after ended = ⊥
+TellsMade (outcomes.NotMade line) out out_after err err_after ended = ⊥
+
+abbrev pub Makes : (List ℕ → Option (List ℕ)) → Option (List ℕ) → Job → Option (List ℕ) → Option (List ℕ) → Option (List ℕ) → Option (List ℕ) → Ended → Type 0
+Makes files input job out out_after err err_after ended =
+    (outcome : Outcome) × Comes files input job outcome × TellsMade outcome out out_after err err_after ended
 
 -- a front of the answer goes to the end of what standard output holds
 abbrev pub Leaves : (List ℕ → Option (List ℕ)) → Option (List ℕ) → Job → Option (List ℕ) → Option (List ℕ) → Type 0
@@ -281,6 +306,7 @@ Leaves files input job before after = (t : Told) × Comes files input job (outco
 -- the text that says why it cannot be done: a word gives no value or no steps, or a step cannot be made
 abbrev pub RefusesAs : Outcome → List ℕ → Type 0
 RefusesAs (outcomes.Told t) text = ⊥
+RefusesAs (outcomes.Found t) text = ⊥
 RefusesAs (outcomes.Listing listing) text = ⊥
 RefusesAs (outcomes.BadValue bad) text = text ≡ bad_value_text bad
 RefusesAs (outcomes.NotMade line) text = text ≡ line.items
@@ -377,15 +403,15 @@ StartsThreads files input (jobs.Expand template as_map values) = ⊥
 StartsThreads files input (jobs.Migrate certs) = ⊥
 
 -- how the program ends where it is given a job: with what it comes to, or with a fault; a failed write leaves a front of the
--- answer, and that a thread could not be started is told only of a job that starts threads; a listing that is not written whole
--- leaves a front of it
+-- answer, and that a thread could not be started is told only of a job that starts threads; certificates or a listing that are not
+-- written whole leave a front of them
 abbrev pub EndsJob : (List ℕ → Option (List ℕ)) → Option (List ℕ) → Job → Option (List ℕ) → Option (List ℕ) → Option (List ℕ) → Option (List ℕ) → Ended → Type 0
 EndsJob files input job out out_after err err_after ended =
     Does files input job out out_after err err_after ended
     ⊎ ((text : List ℕ) × Refuses files input job text × Keeps out out_after × Complains text 3 err err_after ended)
     ⊎ ((fault : Fault) × IsFault (Opens job) (Leaves files input job out out_after) (StartsThreads files input job) fault
     × Fails fault out out_after err err_after ended)
-    ⊎ DoesList files input job out out_after err err_after ended
+    ⊎ Makes files input job out out_after err err_after ended
 
 -- a file that the job opens was not read
 abbrev pub FailsToRead : Job → Option (List ℕ) → Option (List ℕ) → Option (List ℕ) → Option (List ℕ) → Ended → Type 0

@@ -3,10 +3,11 @@ use Rattle.std.specs.Prelude.{◌≡◌, ◌⊎◌, ℕ, Bool, true, false, List
 use Rattle.std.specs.Global.{Global}
 use Rattle.std.specs.Io.KnownBytes.{Appends, Keeps}
 use Rattle.std.specs.declared.alloc.AllocError.{AllocError}
-use Rattle.og_engine.specs.Unfinished.{AppendsFront}
-use Rattle.og_engine.specs.declared.fault.WriteFault.{WriteFault}
-use Rattle.og_listings.specs.declared.fault.ListingFault.{ListingFault}
-use Rattle.og_program.specs.Failing.{fault_text, is_not_written, of_listing}
+use Rattle.og_engine.specs.Making.{text_of, status_of_found}
+use Rattle.og_output.specs.Written.{AppendsFront}
+use Rattle.og_output.specs.declared.fault.OutputFault.{OutputFault}
+use Rattle.og_output.specs.declared.fault.WriteFault.{WriteFault}
+use Rattle.og_program.specs.Failing.{fault_text, is_not_written, of_output}
 use Rattle.og_program.specs.declared.ended.Ended.{Ended}
 use Rattle.og_program.specs.declared.fault.Fault.{Fault}
 use Rattle.og_program.specs.declared.fault.Fault.TheVariants as faults
@@ -14,6 +15,7 @@ use Rattle.og_program.specs.declared.outcome.BadValue.{BadValue}
 use Rattle.og_program.specs.declared.outcome.Outcome.{Outcome}
 use Rattle.og_program.specs.declared.outcome.Outcome.TheVariants as outcomes
 use Rattle.og_program.specs.declared.outcome.Told.{Told}
+use Rattle.og_program.specs.declared.outcome.ToldFound.{ToldFound}
 
 -- the line, where there is one
 abbrev pub line_or_nothing : Option (Vec ℕ Global) → List ℕ
@@ -23,9 +25,12 @@ line_or_nothing (Some line) = line.items
 abbrev pub bad_value_text : BadValue → List ℕ
 bad_value_text bad = codes "bad value: " ++ bad.word.now ++ codes "\n" ++ line_or_nothing bad.why
 
--- what goes to standard error beside an answer, if anything does, is such as R says; or memory for it was refused
+-- what goes to standard error beside something, if anything does, is such as R says; or memory for it was refused
+abbrev pub IsNote : (Option (List ℕ) → Type 0) → Result (Option (Vec ℕ Global)) AllocError → Type 0
+IsNote R note = IfOk note (λ text. R (option_map (λ t. t.items) text))
+
 abbrev pub Noted : (Option (List ℕ) → Type 0) → Told → Type 0
-Noted R t = IfOk t.note (λ note. R (option_map (λ n. n.items) note))
+Noted R t = IsNote R t.note
 
 -- the text goes to the end of what is held, or a front of it where it could not be written whole
 abbrev pub IsWritten : Bool → List ℕ → Option (List ℕ) → Option (List ℕ) → Type 0
@@ -71,18 +76,28 @@ TellsAnswer t out out_after err err_after ended = Prints t out out_after err err
 abbrev pub PrintsListing : List ℕ → Option (List ℕ) → Option (List ℕ) → Option (List ℕ) → Option (List ℕ) → Ended → Type 0
 PrintsListing text out out_after err err_after ended = Appends out out_after text × (ended.status ≡ 0) × IsSilent err err_after ended
 
--- a front of it does, and it is told why it is not whole: a failed write, or memory ran out
-abbrev pub StopsListing : List ℕ → Option (List ℕ) → Option (List ℕ) → Option (List ℕ) → Option (List ℕ) → Ended → Type 0
-StopsListing text out out_after err err_after ended =
-    AppendsFront out out_after text × ((why : ListingFault) × Says (fault_text (of_listing why)) 4 err err_after ended)
+-- a front of a text that is written as it is made does, and it is told why it is not whole: a failed write, or memory ran out
+abbrev pub Stops : List ℕ → Option (List ℕ) → Option (List ℕ) → Option (List ℕ) → Option (List ℕ) → Ended → Type 0
+Stops text out out_after err err_after ended =
+    AppendsFront out out_after text × ((why : OutputFault) × Says (fault_text (of_output why)) 4 err err_after ended)
 
 abbrev pub TellsListing : List ℕ → Option (List ℕ) → Option (List ℕ) → Option (List ℕ) → Option (List ℕ) → Ended → Type 0
 TellsListing text out out_after err err_after ended =
-    PrintsListing text out out_after err err_after ended ⊎ StopsListing text out out_after err err_after ended
+    PrintsListing text out out_after err err_after ended ⊎ Stops text out out_after err err_after ended
 
--- an answer, a listing, a word that gives no value, or the line of a step that cannot be made
+-- the certificates go to the end of what standard output holds, with the status that goes with them, and their note to standard error
+abbrev pub PrintsFound : ToldFound → Option (List ℕ) → Option (List ℕ) → Option (List ℕ) → Option (List ℕ) → Ended → Type 0
+PrintsFound t out out_after err err_after ended =
+    Appends out out_after (text_of t.found.text) × (ended.status ≡ status_of_found t.found) × Notes t.note err err_after ended
+
+abbrev pub TellsFound : ToldFound → Option (List ℕ) → Option (List ℕ) → Option (List ℕ) → Option (List ℕ) → Ended → Type 0
+TellsFound t out out_after err err_after ended =
+    PrintsFound t out out_after err err_after ended ⊎ Stops (text_of t.found.text) out out_after err err_after ended
+
+-- an answer, certificates, a listing, a word that gives no value, or the line of a step that cannot be made
 abbrev pub TellsOutcome : Outcome → Option (List ℕ) → Option (List ℕ) → Option (List ℕ) → Option (List ℕ) → Ended → Type 0
 TellsOutcome (outcomes.Told t) out out_after err err_after ended = TellsAnswer t out out_after err err_after ended
+TellsOutcome (outcomes.Found t) out out_after err err_after ended = TellsFound t out out_after err err_after ended
 TellsOutcome (outcomes.Listing text) out out_after err err_after ended = TellsListing text out out_after err err_after ended
 TellsOutcome (outcomes.BadValue bad) out out_after err err_after ended = Keeps out out_after × Says (bad_value_text bad) 3 err err_after ended
 TellsOutcome (outcomes.NotMade line) out out_after err err_after ended = Keeps out out_after × Complains line.items 3 err err_after ended

@@ -6,13 +6,13 @@ ghost use Rattle.og_remark.specs.Remarks.{IsSourceRemark, IsConditionsRemark, Is
 ghost use Rattle.og_remark.specs.Starting.{IsRunRemark, IsProvedRunRemark};
 ghost use Rattle.og_remark.specs.Values.{schedule_text, reason_line, IsValueRemark};
 ghost use Rattle.og_remark.specs.declared.values.Gives.TheVariants as gives;
-ghost use Rattle.og_program.specs.Told.{Noted};
-ghost use Rattle.og_program.specs.Served.{Remarks, RemarksBoth, IsMissingNote, TellsFound, TellsRan, IsWordRemark, IsExpansionNote, Follows, FollowsExploring, FollowsExpanding, FollowsListing, FollowsProving, FollowsRuns, TellsProved, OnBad};
+ghost use Rattle.og_program.specs.Told.{IsNote, Noted};
+ghost use Rattle.og_program.specs.Served.{Remarks, RemarksBoth, IsMissingNote, TellsMissing, FollowsFinding, TellsRan, IsWordRemark, IsExpansionNote, Follows, FollowsExploring, FollowsExpanding, FollowsListing, FollowsProving, FollowsRuns, TellsProved, OnBad};
 
-use crate::outcome::{BadValue, Outcome, Told};
+use crate::outcome::{BadValue, Outcome, Told, ToldFound};
 use og_advice::Names;
 use og_answer::Answer;
-use og_engine::FindReply;
+use og_engine::{FindReply, FoundCertificates};
 use og_expander::{ExpandFault, Reply as Expanded};
 use og_explorer::Reply as Explored;
 use og_find::Missing;
@@ -77,7 +77,7 @@ pub(crate) fn beside_certificates(alloc: Global, name: &str, certs: &[u8], answe
 // How many conditions have no certificate, if some have none.
 fn missing_note(alloc: Global, name: &str, missing: Missing) -> Result<Option<Vec<u8>>, AllocError>
     ensures none { missing.count ≡ 0 → result ≡ Ok None }
-    ensures some { missing.count ≢ 0 → IfOk result (λ note. IsMissingNote name.now missing (option_map (λ n. n.items) note)) }
+    ensures some { missing.count ≢ 0 → IsNote (IsMissingNote name.now missing) result }
 {
     if missing.count == 0 {
         return Ok(None);
@@ -85,18 +85,31 @@ fn missing_note(alloc: Global, name: &str, missing: Missing) -> Result<Option<Ve
     missing_line(alloc, name, missing).map(Some)
 }
 
-/// The certificates that are found for a source, and how many conditions have none, or why the
-/// source is refused.
-pub(crate) fn beside_found(alloc: Global, name: &str, source: &[u8], reply: FindReply) -> Told
-    ensures answer { result.answer ≡ reply.answer }
-    ensures remark { TellsFound name.now source.now reply.missing result }
+// The certificates that are found, and how many conditions have none.
+fn beside_certificates_found(alloc: Global, name: &str, found: FoundCertificates) -> ToldFound
+    ensures found { result.found ≡ found }
+    ensures note { TellsMissing name.now result }
 {
-    let FindReply { answer, missing } = reply;
-    let note = match missing {
-        Some(missing) => missing_note(alloc, name, missing),
-        None => conditions_remark(alloc, name, source),
-    };
-    Told { answer, note }
+    let note = missing_note(alloc, name, found.missing);
+    ToldFound { found, note }
+}
+
+/// What is told of the reply to whoever asks for certificates of a source.
+pub(crate) fn beside_found<'a>(
+    alloc: Global,
+    name: &str,
+    source: &[u8],
+    reply: FindReply,
+) -> Outcome<'a>
+    ensures { FollowsFinding name.now source.now reply result }
+{
+    match reply {
+        FindReply::Found(found) => { Outcome::Found(beside_certificates_found(alloc, name, found)) }
+        FindReply::Refused(answer) => {
+            let note = conditions_remark(alloc, name, source);
+            Outcome::Told(Told { answer, note })
+        }
+    }
 }
 
 /// The answer of a check, and how many conditions have no certificate, or why the source or the

@@ -1,11 +1,10 @@
 //! Why a job cannot be done.
 
 ghost use Rattle.std.specs.Prelude.{◌≡◌};
-ghost use Rattle.og_program.specs.Failing.{why_text, of_listing, of_pool};
+ghost use Rattle.og_program.specs.Failing.{why_text, of_output, of_pool};
 ghost use Rattle.og_program.specs.declared.fault.Fault.TheVariants.{Memory};
 
-use og_engine::WriteFault;
-use og_listings::ListingFault;
+use og_output::{OutputFault, WriteFault};
 use og_pool::PoolFault;
 use std::alloc::{AllocError, AllocFailed};
 use std::io::{Error, ErrorKind};
@@ -79,13 +78,13 @@ impl<'a> From<PoolFault> for Fault<'a> {
     }
 }
 
-impl<'a> From<ListingFault> for Fault<'a> {
-    ghost from_gives = { λ from fault. fault ≡ of_listing from };
+impl<'a> From<OutputFault> for Fault<'a> {
+    ghost from_gives = { λ from fault. fault ≡ of_output from };
 
-    fn from(fault: ListingFault) -> Fault<'a> {
+    fn from(fault: OutputFault) -> Fault<'a> {
         match fault {
-            ListingFault::Memory => Fault::Memory,
-            ListingFault::NotWritten(why) => Fault::NotWritten(why),
+            OutputFault::Memory => Fault::Memory,
+            OutputFault::NotWritten(why) => Fault::NotWritten(why),
         }
     }
 }

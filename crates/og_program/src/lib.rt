@@ -19,5 +19,5 @@ mod telling;
 pub use ended::Ended;
 pub use fault::{Fault, Why};
 pub use files::Files;
-pub use outcome::{BadValue, Outcome, Told};
+pub use outcome::{BadValue, Outcome, Told, ToldFound};
 pub use serving::{serve, serve_words};

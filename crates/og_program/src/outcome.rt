@@ -1,6 +1,7 @@
 //! What a job comes to, before anything of it is written.
 
 use og_answer::Answer;
+use og_engine::FoundCertificates;
 use og_listings::Listing;
 use std::alloc::AllocError;
 
@@ -9,6 +10,15 @@ use std::alloc::AllocError;
 pub struct Told {
     /// What is printed, and the status.
     pub answer: Answer,
+    /// What goes to standard error, if anything does; or that memory for it was refused.
+    pub note: Result<Option<Vec<u8>>, AllocError>,
+}
+
+/// Certificates that were found, and what goes to standard error beside them.
+#[derive(Debug, Drop)]
+pub struct ToldFound {
+    /// The certificates, of which nothing is written yet.
+    pub found: FoundCertificates,
     /// What goes to standard error, if anything does; or that memory for it was refused.
     pub note: Result<Option<Vec<u8>>, AllocError>,
 }
@@ -28,6 +38,8 @@ pub struct BadValue<'a> {
 pub enum Outcome<'a> {
     /// An answer.
     Told(Told),
+    /// Certificates.
+    Found(ToldFound),
     /// A listing of conditions.
     Listing(Listing),
     /// The first word that gives no value.

@@ -111,7 +111,7 @@ impl<'r, F: Files, G: Gate, H: Threads + Wait + Sync> Program<'r, F, G, H> {
         version: CertVersion,
         input: &mut I,
     ) -> Result<Outcome<'a>, Fault<'a>>
-        ensures came { IfOk result (OfSource (F.contents self.now.files.now) (I.remaining input.old) source.now (λ s. OnTold (Finds version source.now s))) }
+        ensures came { IfOk result (OfSource (F.contents self.now.files.now) (I.remaining input.old) source.now (Finds version source.now)) }
         ensures fault { IfErr result (IsFault (λ n. n ≡ source.now) ⊥ (1 < workers)) }
         ensures missing { lacks_bytes (F.is_missing self.now.files.now) source.now ≡ true → IsUnread result }
         ensures kept { is_file source.now ≡ true → I.remaining input.new ≡ I.remaining input.old }
@@ -120,7 +120,6 @@ impl<'r, F: Files, G: Gate, H: Threads + Wait + Sync> Program<'r, F, G, H> {
         let reply = found(
             self.rt, self.alloc, &bytes, budget, workers, version, self.gate,
         )?;
-        let told = beside_found(self.alloc, source, &bytes, reply);
-        Ok(Outcome::Told(told))
+        Ok(beside_found(self.alloc, source, &bytes, reply))
     }
 }

@@ -2,13 +2,14 @@
 
 ghost use Rattle.std.specs.Prelude.{◌≡◌, ◌++◌, IfOk, IfErr, OnOk};
 ghost use Rattle.og_program.specs.Failing.{fault_text};
-ghost use Rattle.og_program.specs.Told.{line_or_nothing, bad_value_text, Complains, Notes, Says, Fails, TellsAnswer, TellsListing, TellsOutcome};
+ghost use Rattle.og_program.specs.Told.{line_or_nothing, bad_value_text, Complains, Notes, Says, Fails, TellsAnswer, TellsFound, TellsListing, TellsOutcome};
 
 use crate::ended::Ended;
 use crate::fault::{Fault, Why};
-use crate::outcome::{BadValue, Outcome, Told};
-use og_engine::{WriteFault, write_answer, write_text};
+use crate::outcome::{BadValue, Outcome, Told, ToldFound};
+use og_engine::write_answer;
 use og_listings::Listing;
+use og_output::{WriteFault, write_text};
 use std::alloc::{AllocError, Global};
 use std::io::Write;
 
@@ -139,6 +140,22 @@ fn list<O: Write, E: Write>(alloc: Global, listing: &Listing, out: &mut O, err: 
     }
 }
 
+// Writes certificates as their text is made, and then what goes to standard error beside them; or tells
+// why they are not written whole.
+fn print_found<O: Write, E: Write>(
+    alloc: Global,
+    certificates: &ToldFound,
+    out: &mut O,
+    err: &mut E,
+) -> Ended
+    ensures { TellsFound certificates.now (O.contents out.old) (O.contents out.new) (E.contents err.old) (E.contents err.new) result }
+{
+    match certificates.found.write(alloc, out) {
+        Ok(status) => note(&certificates.note, status, err),
+        Err(fault) => fail(alloc, Fault::from(fault), err),
+    }
+}
+
 // Tells what a job comes to.
 fn tell_outcome<O: Write, E: Write>(
     alloc: Global,
@@ -150,6 +167,7 @@ fn tell_outcome<O: Write, E: Write>(
 {
     match outcome {
         Outcome::Told(told) => print(alloc, told, out, err),
+        Outcome::Found(certificates) => print_found(alloc, certificates, out, err),
         Outcome::Listing(listing) => list(alloc, listing, out, err),
         Outcome::BadValue(bad) => refuse_value(alloc, bad, err),
         Outcome::NotMade(line) => complain(line, WRONG, err),

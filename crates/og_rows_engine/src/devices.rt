@@ -2,11 +2,12 @@
 
 ghost use Rattle.std.specs.Prelude.{◌≡◌, ◌<◌, IfOk};
 
-use og_engine::{EngineFault, Options, WriteFault, engine, engine_joined};
-use og_limits::Workers;
-use og_listings::{Form, Listing, ListingFault, Reply, listed};
+use og_engine::{EngineFault, FindReply, FoundCertificates, Options, engine, engine_joined, found};
+use og_limits::{Budget, CertVersion, Workers};
+use og_listings::{Form, Listing, Reply, listed};
+use og_output::{OutputFault, WriteFault};
 use og_pool::OpenGate;
-use og_samples::alike;
+use og_samples::{ONE_SKIP, ONE_SKIP_CERTS, ONE_SKIP_CERTS_2, alike};
 use std::alloc::{AllocError, Global};
 use std::io::{Error, ErrorKind, Read, Write};
 use std::process::Abort;
@@ -373,15 +374,32 @@ fn listing_of(alloc: Global, source: &[u8]) -> Result<Option<Listing>, AllocErro
     }
 }
 
+// A text that is written as it is made.
+trait Made {
+    fn write_on(&self, alloc: Global, paper: &mut Paper) -> Result<u8, OutputFault>;
+}
+
+impl Made for Listing {
+    fn write_on(&self, alloc: Global, paper: &mut Paper) -> Result<u8, OutputFault> {
+        self.write(alloc, paper)
+    }
+}
+
+impl Made for FoundCertificates {
+    fn write_on(&self, alloc: Global, paper: &mut Paper) -> Result<u8, OutputFault> {
+        self.write(alloc, paper)
+    }
+}
+
 // Each write fails in turn, and what was written stays.
-fn expect_cut<R: Abort>(rt: &R, alloc: Global, listing: &Listing, whole: &[u8], step: usize)
+fn expect_cut<M: Made, R: Abort>(rt: &R, alloc: Global, made: &M, whole: &[u8], step: usize)
     requires { 0 < step }
 {
     for fails_at in (1..whole.len() + 1).step_by(step) {
         let mut paper = Paper::new(alloc, fails_at);
-        let got = listing.write(alloc, &mut paper);
+        let got = made.write_on(alloc, &mut paper);
         assert!(rt;
-            got == Err(ListingFault::NotWritten(WriteFault::Failed)),
+            got == Err(OutputFault::NotWritten(WriteFault::Failed)),
             "at {fails_at}"
         );
         let written = paper.bytes.as_slice();
@@ -393,14 +411,14 @@ fn expect_cut<R: Abort>(rt: &R, alloc: Global, listing: &Listing, whole: &[u8], 
 }
 
 // Each write is made, and then the flush fails.
-fn expect_failed_flush<R: Abort>(rt: &R, alloc: Global, listing: &Listing, whole: &[u8]) {
+fn expect_failed_flush<M: Made, R: Abort>(rt: &R, alloc: Global, made: &M, whole: &[u8]) {
     let mut paper = Paper::new(alloc, whole.len() + 1);
-    assert!(rt; listing.write(alloc, &mut paper) == Ok(0));
+    assert!(rt; made.write_on(alloc, &mut paper) == Ok(0));
     assert!(rt; paper.bytes.as_slice() == whole);
     let mut paper = Paper::new(alloc, 0);
     paper.fails_flush = true;
-    let got = listing.write(alloc, &mut paper);
-    assert!(rt; got == Err(ListingFault::NotWritten(WriteFault::Failed)));
+    let got = made.write_on(alloc, &mut paper);
+    assert!(rt; got == Err(OutputFault::NotWritten(WriteFault::Failed)));
     assert!(rt; paper.bytes.as_slice() == whole);
 }
 
@@ -426,5 +444,25 @@ fn writers_that_fail_in_a_long_listing(rt: HostRuntime) -> Result<(), Fail> {
     assert!(rt; listing.write(rt.alloc(), &mut whole) == Ok(0));
     assert!(rt; 8_192 < whole.bytes.len());
     expect_cut(&rt, rt.alloc(), &listing, &whole.bytes, 3_001);
+    Ok(())
+}
+
+// So it has where certificates are written, in either version.
+#[test]
+fn writers_that_fail_in_certificates(rt: HostRuntime) -> Result<(), Fail> {
+    let budget = Budget::new(100_000).expect(&rt, "within its limit");
+    let texts = [ONE_SKIP_CERTS, ONE_SKIP_CERTS_2];
+    for (version, text) in [1, 2].iter().zip(texts.iter()) {
+        let version = CertVersion::new(*version).expect(&rt, "from 1 to 2");
+        let source = ONE_SKIP.as_bytes();
+        let (alloc, workers) = (rt.alloc(), Workers::ONE);
+        match found(&rt, alloc, source, budget, workers, version, &OpenGate)? {
+            FindReply::Found(found) => {
+                expect_cut(&rt, alloc, &found, text.as_bytes(), 1);
+                expect_failed_flush(&rt, alloc, &found, text.as_bytes());
+            }
+            FindReply::Refused(_) => return Err(Fail::new("the source is refused")),
+        }
+    }
     Ok(())
 }

@@ -1,6 +1,6 @@
 //! Certificates that are found, checked again.
 
-use og_engine::{Options, checked, found};
+use og_engine::{FindReply, Options, checked, found};
 use og_find::Missing;
 use og_limits::{Budget, CertVersion, Workers};
 use og_pool::OpenGate;
@@ -34,6 +34,25 @@ fn expect_report<R: Threads + Wait + Sync + Abort>(
     Ok(())
 }
 
+// The text of what is found, its status, and how many conditions have no certificate.
+pub(crate) fn text_of<R: Abort>(
+    rt: &R,
+    alloc: Global,
+    reply: &FindReply,
+) -> Result<(Vec<u8>, u8, Option<Missing>), Fail> {
+    let mut text = Vec::new(alloc);
+    match reply {
+        FindReply::Found(found) => {
+            let status = found.write(alloc, &mut text).expect(rt, "memory");
+            Ok((text, status, Some(found.missing)))
+        }
+        FindReply::Refused(answer) => {
+            text.extend_from_slice(&answer.text)?;
+            Ok((text, answer.status, None))
+        }
+    }
+}
+
 // What is found is in this version and checked again, and so many of 12 conditions have none.
 fn expect_found<R: Threads + Wait + Sync + Abort>(
     rt: &R,
@@ -60,11 +79,11 @@ fn expect_found<R: Threads + Wait + Sync + Abort>(
     } else {
         b"og-cert 1\n"
     };
-    let certs = reply.answer;
-    assert!(rt; certs.text.starts_with(opening));
-    assert_eq!(rt; certs.status, status);
+    let (certs, told, lacking) = text_of(rt, alloc, &reply)?;
+    assert!(rt; certs.starts_with(opening));
+    assert_eq!(rt; told, status);
     assert_eq!(rt;
-        reply.missing,
+        lacking,
         Some(Missing {
             count: missing,
             conditions: 12
@@ -74,14 +93,7 @@ fn expect_found<R: Threads + Wait + Sync + Abort>(
         workers,
         json: false,
     };
-    let answer = checked(
-        rt,
-        alloc,
-        source.as_bytes(),
-        &certs.text,
-        options,
-        &OpenGate,
-    )?;
+    let answer = checked(rt, alloc, source.as_bytes(), &certs, options, &OpenGate)?;
     assert!(rt; answer.text.ends_with(report.as_bytes()));
     Ok(())
 }
@@ -116,10 +128,10 @@ fn expect_proved<R: Threads + Wait + Sync + Abort>(
         version,
         &OpenGate,
     )?;
-    let certs = reply.answer;
-    assert_eq!(rt; certs.status, 0);
+    let (certs, status, _) = text_of(rt, alloc, &reply)?;
+    assert_eq!(rt; status, 0);
     for workers in [1, 2, 64] {
-        expect_report(rt, alloc, source, &certs.text, workers, report)?;
+        expect_report(rt, alloc, source, &certs, workers, report)?;
     }
     Ok(())
 }

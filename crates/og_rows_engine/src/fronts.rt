@@ -1,5 +1,6 @@
 //! Every front of a source, and of its certificates.
 
+use crate::finding::text_of;
 use og_engine::{Answer, Options, checked, found};
 use og_limits::{Budget, CertVersion, Workers};
 use og_pool::OpenGate;
@@ -95,7 +96,8 @@ fn fronts(rt: HostRuntime) -> Result<(), Fail> {
         CertVersion::ONE,
         &OpenGate,
     )?;
-    let certs = str::from_utf8(&reply.answer.text).expect(&rt, "ASCII");
+    let (text, _, _) = text_of(&rt, alloc, &reply)?;
+    let certs = str::from_utf8(&text).expect(&rt, "ASCII");
     expect_sources(&rt, alloc, certs)?;
     expect_certs(&rt, alloc, certs)
 }

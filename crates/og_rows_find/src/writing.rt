@@ -29,7 +29,9 @@ fn expect_text<R: Threads + Wait + Sync + Abort>(
     let text = text_of_found(rt, alloc, list, budget, 1)?;
     for workers in [1, 4] {
         let written = write_all(rt, alloc, list, budget, workers, &OpenGate)?;
-        assert!(rt; written.text == text, "by {workers} workers");
+        let mut whole = Vec::new(alloc);
+        let done = written.certificates.write(alloc, &mut whole);
+        assert!(rt; done.is_ok() && whole == text, "by {workers} workers");
         assert_eq!(rt; written.missing.count, missing);
         assert_eq!(rt; written.missing.conditions as usize, list.len());
     }

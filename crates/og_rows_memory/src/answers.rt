@@ -1,10 +1,15 @@
 //! What commands answer, as texts.
 
-use og_engine::{Answer, EngineFault, Options, checked, engine, erased, found, migrated};
+use og_engine::{
+    Answer, EngineFault, FindReply, Options, checked, engine, erased, found, migrated,
+};
 use og_limits::{Budget, CertVersion, Workers};
-use og_listings::{Form, Listing, ListingFault, Reply, listed};
+use og_listings::{Form, Listing, Reply, listed};
+use og_output::OutputFault;
 use og_pool::{OpenGate, PoolFault};
-use og_samples::{ONE_SKIP, ONE_SKIP_CERTS, TOLD_ADD, TWO_ADD, TWO_ADD_CERTS, alike};
+use og_samples::{
+    ONE_SKIP, ONE_SKIP_CERTS, ONE_SKIP_CERTS_2, TOLD_ADD, TWO_ADD, TWO_ADD_CERTS, alike,
+};
 use std::alloc::Global;
 use std::io::{Error, ErrorKind, Write};
 use std::sync::Wait;
@@ -106,15 +111,15 @@ cond 4 blocking at 2:1
   1: 1 <= 0
 ";
 
-// Where memory is refused a front of the listing is written.
-fn of_listing(
-    answer: Result<u8, ListingFault>,
+// Where memory is refused a front of the text is written.
+fn of_output(
+    answer: Result<u8, OutputFault>,
     written: &[u8],
     whole: &[u8],
 ) -> Result<bool, PoolFault> {
     match answer {
         Ok(status) => Ok(status == 0 && written == whole),
-        Err(ListingFault::Memory) if whole.starts_with(written) => Err(PoolFault::Memory),
+        Err(OutputFault::Memory) if whole.starts_with(written) => Err(PoolFault::Memory),
         Err(_) => Ok(false),
     }
 }
@@ -125,7 +130,7 @@ pub(crate) fn is_listed(alloc: Global) -> Result<bool, PoolFault> {
     };
     let mut sheet = Sheet::<256>::new();
     let answer = listing.write(alloc, &mut sheet);
-    of_listing(answer, sheet.written(), LISTED.as_bytes())
+    of_output(answer, sheet.written(), LISTED.as_bytes())
 }
 
 // A listing that is written in several pieces is compared with the same one, written again.
@@ -138,7 +143,7 @@ fn in_pieces(alloc: Global, listing: &Listing) -> Result<bool, PoolFault> {
     if again.written().len() <= 8_192 {
         return Ok(false);
     }
-    of_listing(answer, sheet.written(), again.written())
+    of_output(answer, sheet.written(), again.written())
 }
 
 pub(crate) fn is_listed_in_pieces(alloc: Global) -> Result<bool, PoolFault> {
@@ -163,7 +168,12 @@ pub(crate) fn is_found<R: Threads + Wait + Sync>(rt: &R, alloc: Global) -> Resul
         version,
         &OpenGate,
     )?;
-    Ok(is(&reply.answer, ONE_SKIP_CERTS, 0))
+    let FindReply::Found(found) = reply else {
+        return Ok(false);
+    };
+    let mut sheet = Sheet::<256>::new();
+    let answer = found.write(alloc, &mut sheet);
+    of_output(answer, sheet.written(), ONE_SKIP_CERTS.as_bytes())
 }
 
 const ERASED: &str =
@@ -173,9 +183,7 @@ pub(crate) fn is_erased(alloc: Global) -> Result<bool, PoolFault> {
     Ok(is(&erased(alloc, TOLD_ADD.as_bytes(), false)?, ERASED, 0))
 }
 
-const MIGRATED: &str =
-    "og-cert 2\ncond 1\nclose 1*1\ncond 2\nsame 1\ncond 3\nsame 1\ncond 4\nsame 1\n";
-
 pub(crate) fn is_migrated(alloc: Global) -> Result<bool, PoolFault> {
-    Ok(is(&migrated(alloc, ONE_SKIP_CERTS.as_bytes())?, MIGRATED, 0))
+    let migrated = migrated(alloc, ONE_SKIP_CERTS.as_bytes())?;
+    Ok(is(&migrated, ONE_SKIP_CERTS_2, 0))
 }

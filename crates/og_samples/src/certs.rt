@@ -8,6 +8,10 @@ pub const TWO_ADD_CERTS: &str =
 pub const ONE_SKIP_CERTS: &str =
     "og-cert 1\ncond 1\nclose 1*1\ncond 2\nclose 1*1\ncond 3\nclose 1*1\ncond 4\nclose 1*1\n";
 
+/// The same in version 2.
+pub const ONE_SKIP_CERTS_2: &str =
+    "og-cert 2\ncond 1\nclose 1*1\ncond 2\nsame 1\ncond 3\nsame 1\ncond 4\nsame 1\n";
+
 /// Certificates of all conditions of `SKIP_AND_ASSIGN` that are true: all but 6 and 7.
 pub const SKIP_AND_ASSIGN_CERTS: &str =
     "og-cert 1\ncond 1\nsplit 3 2\nclose 1*2 1*4\nclose 1*1 1*4\ncond 2\nclose 1*3\ncond 3\nsplit 3 2\nclose 1*2 1*4\nclose 1*1 1*4\ncond 4\nclose 1*1\ncond 5\nsplit 1 2\nclose 1*2\nclose 1*2\ncond 8\nclose 1*3\ncond 9\nclose 1*3\n";

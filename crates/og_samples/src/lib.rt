@@ -5,7 +5,7 @@ mod certs;
 mod outlines;
 mod sources;
 
-pub use certs::{ONE_SKIP_CERTS, SKIP_AND_ASSIGN_CERTS, TWO_ADD_CERTS};
+pub use certs::{ONE_SKIP_CERTS, ONE_SKIP_CERTS_2, SKIP_AND_ASSIGN_CERTS, TWO_ADD_CERTS};
 pub use outlines::outline_of;
 pub use sources::{
     AUXILIARY_LOOP, EACH_WAITS, EQUAL_ADD, NESTED, ONE_BELOW, ONE_SKIP, SKIP_AND_ASSIGN, TOLD_ADD,

@@ -3,7 +3,7 @@ use Rattle.std.proofs.lemmas.List.{drop_all}
 use Rattle.og_cond.specs.Seen.{seen}
 use Rattle.og_listings.specs.Listings.{numbers_in, wanted_lines}
 use Rattle.og_listings.proofs.Loops.{first_wanted}
-use Rattle.og_listings.proofs.Passing.{failed, begun, goes_on, ended, stopped}
+use Rattle.og_output.proofs.Passing.{failed, begun, goes_on, ended, stopped}
 use Rattle.og_listings.proofs.pieces.write_group.Goals as goal
 
 pub loop-condition-init : goal.loop-condition-init

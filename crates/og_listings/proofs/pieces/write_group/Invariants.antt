@@ -1,7 +1,7 @@
 use Rattle.std.proofs.Common.{◌≡◌, ◌+◌, drop, map}
 use Rattle.og_cond.specs.Seen.{seen}
 use Rattle.og_listings.specs.Listings.{numbers_in, wanted_lines}
-use Rattle.og_listings.proofs.Passing.{HasPassed}
+use Rattle.og_output.proofs.Passing.{HasPassed}
 use Rattle.og_listings.proofs.pieces.write_group.Given as goal
 
 abbrev pub invariant-loop-condition : goal.invariant-loop-condition

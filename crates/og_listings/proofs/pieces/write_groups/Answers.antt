@@ -4,7 +4,7 @@ use Rattle.og_cond.specs.Groups.{rest}
 use Rattle.og_cond.specs.Seen.{seen}
 use Rattle.og_listings.specs.Listings.{numbers_in, wanted_lines}
 use Rattle.og_listings.proofs.Loops.{counted, wanted-append}
-use Rattle.og_listings.proofs.Passing.{failed, nothing_yet, begun, goes_on, ended, stopped}
+use Rattle.og_output.proofs.Passing.{failed, nothing_yet, begun, goes_on, ended, stopped}
 use Rattle.og_listings.proofs.pieces.write_groups.Goals as goal
 
 pub loop-group-init : goal.loop-group-init

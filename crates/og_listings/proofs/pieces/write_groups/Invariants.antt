@@ -1,7 +1,7 @@
 use Rattle.std.proofs.Common.{◌≡◌, ◌+◌, length}
 use Rattle.og_cond.specs.Groups.{rest, left}
 use Rattle.og_listings.specs.Listings.{numbers_in, wanted_lines}
-use Rattle.og_listings.proofs.Passing.{HasPassed}
+use Rattle.og_output.proofs.Passing.{HasPassed}
 use Rattle.og_listings.proofs.pieces.write_groups.Given as goal
 
 abbrev pub invariant-loop-group : goal.invariant-loop-group

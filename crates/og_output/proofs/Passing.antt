@@ -2,8 +2,7 @@
 use Rattle.std.proofs.Common.{◌≡◌, refl, ℕ, List, [], ◌++◌, Option, Result, Ok, Err, IfErr, ap, sym, subst, ◌∙◌, append_assoc, append-nil}
 use Rattle.std.proofs.KnownBytes.{Appends-nil, Appends-trans}
 use Rattle.std.specs.Io.KnownBytes.{Appends}
-use Rattle.og_engine.specs.Unfinished.{AppendsFront}
-use Rattle.og_listings.specs.Written.{Passes}
+use Rattle.og_output.specs.Written.{AppendsFront, Passes}
 
 -- what holds holds at every error
 pub failed : {T E : Type 0} (r : Result T E) (P : Type 0) → P → IfErr r (λ _. P)
