@@ -7,7 +7,8 @@ use Rattle.std.proofs.lemmas.Fmt.{decimal_digit, decimal_step_wide, decimal_by_s
 use Rattle.og_linear.specs.Bounded.{fits_i128}
 use Rattle.og_cert_text.specs.Lines.{is_number, is_variable, is_factor}
 use Rattle.og_cert_text.proofs.Forms.{le_true, le_from, lt_true, both_true, and_parts}
-use Rattle.og_cert_read.specs.Words.{and_then, is_digit, next_of, read_from, number_of, positive, index_of, variable_of, factor_of, negative, whole_of}
+use Rattle.og_cert_text.specs.Tree.{Ref}
+use Rattle.og_cert_read.specs.Words.{and_then, before, past, is_digit, next_of, read_from, number_of, positive, index_of, variable_of, factor_of, negative, whole_of, source_of, term_of}
 
 -- ---- answers
 
@@ -260,3 +261,15 @@ whole_complete (pos n) h =
 whole_complete (negsuc n) h =
     let lt = lt_from n (2 ^ 127) h in
     ap (λ o. and_then o negative) (number_complete 170141183460469231731687303715884105728 (suc n) (omega (arith, lt)) (omega (arith, lt))) ∙ negative_is n
+
+-- ---- a multiplier of one digit
+
+pub short_term_is : (d : ℕ) (rest : List ℕ) → 49 ≤ d → d ≤ 57 → term_of (d ∷ 42 ∷ rest) ≡ option_map (λ (r : Ref). (d - 48, r)) (source_of rest)
+short_term_is d rest lo hi =
+    let no : (d == 42) ≡ false = apart d 42 (λ e. omega (arith, e)) in
+    let front : before 42 (d ∷ 42 ∷ rest) ≡ d ∷ [] = ap (λ t. cond t [] (d ∷ [])) no in
+    let later : past 42 (d ∷ 42 ∷ rest) ≡ Some rest = ap (λ t. cond t (Some (42 ∷ rest)) (Some rest)) no in
+    let digit : next_of 9223372036854775807 0 d ≡ Some (d - 48) = next_complete 9223372036854775807 0 d (d - 48) (omega arith) hi (omega arith) (omega arith) in
+    let times : factor_of (d ∷ []) ≡ Some (d - 48) = ap (λ o. and_then o (λ (w : ℕ). Some w)) digit in
+    ap₂ (λ b p. and_then (factor_of b) (λ (m : ℕ). and_then p (λ (r : List ℕ). option_map (λ (x : Ref). (m, x)) (source_of r)))) front later
+    ∙ ap (λ o. and_then o (λ (m : ℕ). option_map (λ (x : Ref). (m, x)) (source_of rest))) times

@@ -1,5 +1,5 @@
 -- The certificates that are open round a line.
-use Rattle.std.proofs.Common.{◌≡◌, ℕ, suc, ◌+◌, ◌-◌, ◌<◌, ◌≤◌, List, [], ◌∷◌, ◌++◌, map, length, Vec, Global, refl, ap, sym, ◌∙◌, subst, ap₂, true, Option, Some, None, arith, length-append, take}
+use Rattle.std.proofs.Common.{◌≡◌, ℕ, zero, suc, ◌+◌, ◌-◌, ◌<◌, ◌≤◌, List, [], ◌∷◌, ◌++◌, map, length, Vec, Global, refl, ap, sym, ◌∙◌, subst, ap₂, true, Option, Some, None, arith, length-append, take, Result, Ok, Err, IfOk, slice_index_or, slice_set}
 use Rattle.std.specs.Prelude.{nat_le}
 use Rattle.std.specs.List.{list_all}
 use Rattle.std.proofs.lemmas.List.{map-append, length-take}
@@ -21,7 +21,7 @@ use Rattle.og_cert_read.specs.declared.levels.Fork.TheVariants as its
 use Rattle.og_cert_read.specs.declared.levels.Level.{Level}
 use Rattle.og_cert_read.specs.declared.levels.Put.TheVariants as puts
 use Rattle.og_cert_read.specs.Reading.{Frame, AfterSum, AfterCut, First, Second, Part, plug, within, depth}
-use Rattle.og_cert_read.specs.Levels.{step_frame, fork_frame, steps_frames, level_frames, levels_frames, IsGood, AreGood, AreGoodFrames, IsPut, IsSettled}
+use Rattle.og_cert_read.specs.Levels.{step_frame, fork_frame, steps_frames, level_frames, levels_frames, IsGood, AreGood, AreGoodFrames, IsPut, IsSettled, IsTakenIn, IsTakenInLast}
 
 -- ---- steps and levels as frames
 
@@ -150,10 +150,10 @@ more cs v cert e = ap (map plain_cert) e ∙ map-append plain_cert cs (cert ∷ 
 
 pub put_last : (level : Level) (cert : Cert) (i k : ℕ) (cs v : Vec Cert Global) → level.fork ≡ its.Part i k cs → k ≡ 0 → v.items ≡ cs.items ++ cert ∷ []
     → Puts (fork_frame level.fork) (plain_cert cert) level.steps.items (with_steps level.steps.items (plain_finish (finish_type.Split i v)))
-put_last level cert i k cs v e zero items =
+put_last level cert i k cs v e none items =
     let w = with_steps level.steps.items (plain_finish (finish_type.Split i v)) in
     subst (λ x. Puts (fork_frame x) (plain_cert cert) level.steps.items w) (sym e)
-    (subst (λ m. Puts (Part i m (map plain_cert cs.items)) (plain_cert cert) level.steps.items w) (sym zero)
+    (subst (λ m. Puts (Part i m (map plain_cert cs.items)) (plain_cert cert) level.steps.items w) (sym none)
     (subst (λ x. Puts (Part i 0 (map plain_cert cs.items)) (plain_cert cert) level.steps.items x)
     (ap (λ l. with_steps level.steps.items (tree.SplitOn i (tree.cert_list l))) (sym (more cs.items v.items cert items)) ∙ ap (with_steps level.steps.items) (sym (plain_split i v)))
     (puts_last i (map plain_cert cs.items) (plain_cert cert) level.steps.items)))
@@ -205,7 +205,26 @@ settle_end old cert new h =
     )
 
 pub empty_before : (old new : List Level) (n : ℕ) → old ≡ new ++ [] → new ≡ take (n - 1) old → n ≡ 0 → length old ≡ 0
-empty_before old new n a b zero =
+empty_before old new n a b none =
     let p : length old ≡ length (new ++ []) = ap length a in
     let q : length new ≡ length (take (n - 1) old) = ap length b in
-    omega (arith, p, q, zero, length-append {A = Level} new [], length-take {A = Level} (n - 1) old)
+    omega (arith, p, q, none, length-append {A = Level} new [], length-take {A = Level} (n - 1) old)
+
+-- ---- into the last level, in place
+
+last_changed : (old : List Level) (i : ℕ) (x y : Level) → length old ≡ i + 1 → x ≡ slice_index_or old i x → (old ≡ take i old ++ x ∷ []) × (slice_set old i y ≡ take i old ++ y ∷ [])
+last_changed [] i x y len at = absurd (omega (arith, len))
+last_changed (z ∷ []) zero x y len at = (ap (λ s. s ∷ []) (sym at), refl)
+last_changed (z ∷ w ∷ zs) zero x y len at = absurd (omega (arith, len))
+last_changed (z ∷ zs) (suc i) x y len at =
+    let r = last_changed zs i x y (omega (arith, len)) at in
+    (ap (λ s. z ∷ s) r.0, ap (λ s. z ∷ s) r.1)
+
+pub taken_last : {E : Type 0} (old : List Level) (i : ℕ) (x y : Level) (cert : Cert) (r : Result (Option Cert) E) → length old ≡ i + 1 → x ≡ slice_index_or old i x → IfOk r (λ o. IsTakenIn x cert y o) → IfOk r (λ o. IsTakenInLast old cert (slice_set old i y) o)
+taken_last old i x y cert (Err e) len at h = tt
+taken_last old i x y cert (Ok None) len at h =
+    let p = last_changed old i x y len at in
+    settle_open old (take i old) (slice_set old i y) x y cert p.0 h p.1
+taken_last old i x y cert (Ok (Some left)) len at h =
+    let p = last_changed old i x y len at in
+    (h.0, p.1 ∙ ap (λ (l : Level). take i old ++ l ∷ []) h.1 ∙ sym p.0)

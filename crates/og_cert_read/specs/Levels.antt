@@ -82,3 +82,13 @@ IsSettled old c new (Some w) =
 IsSettled old c new None =
     ((done : Entries) (n : ℕ) → plug done n (plain_cert c) (levels_frames old []) ≡ within done n (levels_frames new []))
     × (AreGoodFrames (levels_frames old []) → IsGood (depth (levels_frames old [])) (plain_cert c) → AreGoodFrames (levels_frames new []))
+
+-- the certificate is put into the level, or it is left and the level is as it was
+abbrev pub IsTakenIn : Level → Cert → Level → Option Cert → Type 0
+IsTakenIn old c new None = IsPut old c (puts.Open new)
+IsTakenIn old c new (Some left) = (left ≡ c) × (new ≡ old)
+
+-- the same of the last level, if there is one
+abbrev pub IsTakenInLast : List Level → Cert → List Level → Option Cert → Type 0
+IsTakenInLast old c new None = IsSettled old c new None
+IsTakenInLast old c new (Some left) = (left ≡ c) × (new ≡ old)

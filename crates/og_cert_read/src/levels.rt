@@ -1,7 +1,7 @@
 //! The certificates that are open round the line that is read.
 
 ghost use Rattle.std.specs.Prelude.{◌<◌, length, IfOk, OnErr};
-ghost use Rattle.og_cert_read.specs.Levels.{IsPut, IsSettled};
+ghost use Rattle.og_cert_read.specs.Levels.{IsPut, IsSettled, IsTakenIn, IsTakenInLast};
 
 use og_cert_text::{Cert, CertStep, Finish};
 use og_linear::Form;
@@ -64,10 +64,36 @@ fn put_into(alloc: Global, level: Level, cert: Cert) -> Result<Put, AllocError>
     }
 }
 
-/// Puts a complete certificate into the levels round it, the innermost last, and each certificate
-/// that is complete by that too. Gives the outermost certificate, if that is complete. Takes no
-/// memory where there are no levels.
-pub(crate) fn settle(
+// Puts a complete certificate into a split that wants more after it, in place. Gives it back where
+// the level is no such split.
+fn take_in(level: &mut Level, cert: Cert) -> Result<Option<Cert>, AllocError>
+    ensures { IfOk result (λ r. IsTakenIn level.old cert level.new r) }
+{
+    if let Fork::Part(_, wanted, certs) = &mut level.fork {
+        if *wanted > 0 {
+            certs.push(cert)?;
+            *wanted -= 1;
+            return Ok(None);
+        }
+    }
+    Ok(Some(cert))
+}
+
+// The same for the innermost level. Takes no memory where there are no levels.
+fn take_in_last(levels: &mut Vec<Level>, cert: Cert) -> Result<Option<Cert>, AllocError>
+    ensures taken { IfOk result (λ r. IsTakenInLast levels.old.items cert levels.new.items r) }
+    ensures memory { OnErr result (0 < length levels.old.items) }
+{
+    let count = levels.len();
+    if count == 0 {
+        return Ok(Some(cert));
+    }
+    let last = &mut levels[count - 1];
+    take_in(last, cert)
+}
+
+// Puts a complete certificate into the levels round it, each of which is taken out first.
+fn settle_each(
     alloc: Global,
     levels: &mut Vec<Level>,
     cert: Cert,
@@ -86,4 +112,21 @@ pub(crate) fn settle(
         }
     }
     Ok(Some(cert))
+}
+
+/// Puts a complete certificate into the levels round it, the innermost last, and each certificate
+/// that is complete by that too. Gives the outermost certificate, if that is complete. Takes no
+/// memory where there are no levels.
+pub(crate) fn settle(
+    alloc: Global,
+    levels: &mut Vec<Level>,
+    cert: Cert,
+) -> Result<Option<Cert>, AllocError>
+    ensures settled { IfOk result (λ r. IsSettled levels.old.items cert levels.new.items r) }
+    ensures memory { OnErr result (0 < length levels.old.items) }
+{
+    match take_in_last(levels, cert)? {
+        None => Ok(None),
+        Some(cert) => settle_each(alloc, levels, cert),
+    }
 }

@@ -10,6 +10,7 @@ mod limits;
 mod line;
 mod read;
 mod reader;
+mod wide;
 mod words;
 mod write;
 

@@ -28,13 +28,11 @@ pub(crate) enum Line {
 fn most_words(text: &[u8]) -> usize
     ensures { result ≤ length text.now + 1 }
 {
-    let mut words: usize = 1;
+    let mut spaces: usize = 0;
     for b in text {
-        if *b == b' ' && words <= text.len() / 4 {
-            words += 1;
-        }
+        spaces += usize::from(*b == b' ');
     }
-    words
+    spaces.min(text.len() / 4) + 1
 }
 
 // The terms that the words are.
@@ -100,7 +98,7 @@ fn split(text: &[u8]) -> Option<Line>
     ensures { option_map said_line result ≡ words.split_of text.now }
 {
     let (fact, rest) = index_and_rest(text)?;
-    let count = number(rest, PARTS_LIMIT as u128)?;
+    let count = number(rest, PARTS_LIMIT as u64)?;
     Some(Line::Split(fact, count as u32))
 }
 

@@ -1,13 +1,15 @@
 //! The words of a line.
 
-ghost use Rattle.std.specs.Prelude.{◌≡◌, ◌≤◌, ◌<◌, IfOk, ◌-◌, negsuc, IfSome, option_map, Some};
+ghost use Rattle.std.specs.Prelude.{◌≡◌, ◌≤◌, ◌<◌, ◌∷◌, IfOk, ◌-◌, negsuc, IfSome, option_map, Some};
 ghost use Rattle.og_cert_text.specs.Plain.{ref_of};
 ghost use Rattle.og_cert_read.specs.Words as words;
 
 use crate::limits::{FACTOR_LIMIT, NUMBER_LIMIT};
+use crate::wide::wide_number;
 use og_cert_text::{Source, Term};
 
 /// The bytes before the first such byte, and those after it.
+#[inline(never)]
 pub(crate) fn split_at_byte(text: &[u8], byte: u8) -> (&[u8], Option<&[u8]>)
     ensures before { result.0.now ≡ words.before byte text.now }
     ensures past { option_map (λ s. s.now) result.1 ≡ words.past byte text.now }
@@ -24,22 +26,32 @@ pub(crate) fn split_at_byte(text: &[u8], byte: u8) -> (&[u8], Option<&[u8]>)
 pub(crate) fn after<'a>(front: &[u8], text: &'a [u8]) -> Option<&'a [u8]>
     ensures { option_map (λ s. s.now) result ≡ words.after front.now text.now }
 {
-    text.strip_prefix(front)
+    let mut rest = text;
+    for p in front {
+        let [b, later @ ..] = rest else {
+            return None;
+        };
+        if *b != *p {
+            return None;
+        }
+        rest = later;
+    }
+    Some(rest)
 }
 
-// A tenth of 2^127, rounded down. A greater value has no digit more within 2^127.
-const TENTH: u128 = 17_014_118_346_046_923_173_168_730_371_588_410_572;
+// A tenth of 2^63, rounded down. A greater value has no digit more below 2^63.
+const TENTH: u64 = 922_337_203_685_477_580;
 
 // The value with one digit more.
-fn next_value(value: u128, byte: u8, most: u128) -> Option<u128>
-    requires most { most ≤ 170141183460469231731687303715884105728 }
+fn next_value(value: u64, byte: u8, most: u64) -> Option<u64>
+    requires most { most ≤ 9223372036854775807 }
     requires value { value ≤ most }
     ensures { result ≡ words.next_of most value byte }
 {
     if byte < b'0' || b'9' < byte || value > TENTH {
         return None;
     }
-    let next = 10 * value + (byte - b'0') as u128;
+    let next = 10 * value + (byte - b'0') as u64;
     if next > most {
         return None;
     }
@@ -47,21 +59,21 @@ fn next_value(value: u128, byte: u8, most: u128) -> Option<u128>
 }
 
 // The number with these digits.
-fn digits(word: &[u8], most: u128) -> Option<u128>
-    requires { most ≤ 170141183460469231731687303715884105728 }
+fn digits(word: &[u8], most: u64) -> Option<u64>
+    requires { most ≤ 9223372036854775807 }
     ensures value { result ≡ words.read_from most 0 word.now }
     ensures within { IfSome result (λ n. n ≤ most) }
 {
-    let mut value: u128 = 0;
+    let mut value: u64 = 0;
     for b in word {
         value = next_value(value, *b, most)?;
     }
     Some(value)
 }
 
-/// The number that is the whole word, without leading zeros and up to a limit.
-pub(crate) fn number(word: &[u8], most: u128) -> Option<u128>
-    requires { most ≤ 170141183460469231731687303715884105728 }
+/// The number that is the whole word, without leading zeros and up to a limit below 2^63.
+pub(crate) fn number(word: &[u8], most: u64) -> Option<u64>
+    requires { most ≤ 9223372036854775807 }
     ensures value { result ≡ words.number_of most word.now }
     ensures within { IfSome result (λ n. n ≤ most) }
 {
@@ -76,7 +88,7 @@ pub(crate) fn number(word: &[u8], most: u128) -> Option<u128>
 pub(crate) fn index(word: &[u8]) -> Option<u32>
     ensures { result ≡ words.index_of word.now }
 {
-    match number(word, NUMBER_LIMIT as u128)? {
+    match number(word, NUMBER_LIMIT as u64)? {
         0 => None,
         n => Some(n as u32),
     }
@@ -86,7 +98,7 @@ pub(crate) fn index(word: &[u8]) -> Option<u32>
 pub(crate) fn variable(word: &[u8]) -> Option<u32>
     ensures { result ≡ words.variable_of word.now }
 {
-    let v = number(word, NUMBER_LIMIT as u128)?;
+    let v = number(word, NUMBER_LIMIT as u64)?;
     Some(v as u32)
 }
 
@@ -94,8 +106,7 @@ pub(crate) fn variable(word: &[u8]) -> Option<u32>
 pub(crate) fn factor(word: &[u8]) -> Option<u64>
     ensures { result ≡ words.factor_of word.now }
 {
-    let m = number(word, FACTOR_LIMIT as u128)?;
-    Some(m as u64)
+    number(word, FACTOR_LIMIT)
 }
 
 // The number below 0.
@@ -112,12 +123,12 @@ pub(crate) fn whole(word: &[u8]) -> Option<i128>
     ensures { result ≡ words.whole_of word.now }
 {
     if let [b'-', digits @ ..] = word {
-        return match number(digits, i128::MAX as u128 + 1)? {
+        return match wide_number(digits, i128::MAX as u128 + 1)? {
             0 => None,
             n => Some(negated(n)),
         };
     }
-    let n = number(word, i128::MAX as u128)?;
+    let n = wide_number(word, i128::MAX as u128)?;
     Some(n as i128)
 }
 
@@ -131,10 +142,29 @@ fn source(word: &[u8]) -> Option<Source>
     }
 }
 
+// A term whose multiplier is one digit, by the digit and what stands after the `*`.
+#[tactic(auto, using(crate::proofs::Numbers::short_term_is))]
+fn short_term(digit: u8, rest: &[u8]) -> Option<Term>
+    requires low { 49 ≤ digit }
+    requires high { digit ≤ 57 }
+    ensures { option_map (λ t. (t.times, ref_of t.source)) result ≡ words.term_of (digit ∷ 42 ∷ rest.now) }
+{
+    let source = source(rest)?;
+    Some(Term {
+        times: (digit - b'0') as u64,
+        source,
+    })
+}
+
 /// A term of a combination.
 pub(crate) fn term(word: &[u8]) -> Option<Term>
     ensures { option_map (λ t. (t.times, ref_of t.source)) result ≡ words.term_of word.now }
 {
+    if let [digit, b'*', rest @ ..] = word {
+        if b'1' <= *digit && *digit <= b'9' {
+            return short_term(*digit, rest);
+        }
+    }
     let (times, past) = split_at_byte(word, b'*');
     let times = factor(times)?;
     let source = source(past?)?;

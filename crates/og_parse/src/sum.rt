@@ -59,7 +59,7 @@ fn terms(alloc: Global, cursor: &mut Cursor) -> Result<Vec<RawTerm>, Refusal>
 {
     let sign = leading(cursor);
     let factor = factor(alloc, cursor)?;
-    let mut all = Vec::new(alloc);
+    let mut all = Vec::with_capacity(alloc, 1)?;
     all.push(RawTerm { sign, factor })?;
     'more: while is_at_sign(cursor) {
         all.push(term_after(alloc, cursor)?)?;

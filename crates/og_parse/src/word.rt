@@ -29,9 +29,8 @@ pub(crate) fn is_at_sign(cursor: &Cursor) -> bool
 fn copied(alloc: Global, name: &Name, span: Span) -> Result<RawName, AllocError>
     ensures { IfOk result (λ n. (n.name ≡ name.now) × (n.span ≡ span)) }
 {
-    let bytes = Vec::from_slice(alloc, name.as_slice())?;
     Ok(RawName {
-        name: Name::new(bytes),
+        name: Name::from_slice(alloc, name.as_slice())?,
         span,
     })
 }

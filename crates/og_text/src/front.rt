@@ -64,7 +64,7 @@ fn word(alloc: Global, text: &[u8]) -> Result<Front, AllocError>
     if let Some(kind) = keyword(word) {
         return Ok(Front::Lexeme(kind, len));
     }
-    let name = Name::new(Vec::from_slice(alloc, word)?);
+    let name = Name::from_slice(alloc, word)?;
     Ok(Front::Lexeme(TokenKind::Name(name), len))
 }
 

@@ -1,51 +1,100 @@
 //! Keywords.
 
-ghost use Rattle.std.specs.Prelude.{◌≡◌};
+ghost use Rattle.std.specs.Prelude.{◌≡◌, ◌∷◌, if◌then◌else◌, Some, None};
+ghost use Rattle.std.specs.Str.{bytes_eq};
 ghost use Rattle.og_text.specs.Lexemes.{keyword_of};
 
 use crate::token::TokenKind;
+
+// The kind, where the bytes are these.
+fn only(bytes: &[u8], these: &[u8], kind: TokenKind) -> Option<TokenKind>
+    ensures { result ≡ (if bytes_eq bytes.now these.now then Some kind else None) }
+{
+    if bytes == these { Some(kind) } else { None }
+}
+
+// The keyword that `a` and these bytes are.
+fn after_a(rest: &[u8]) -> Option<TokenKind>
+    ensures { result ≡ keyword_of (97 ∷ rest.now) }
+{
+    if rest == b"ux".as_slice() {
+        Some(TokenKind::Aux)
+    } else if rest == b"wait".as_slice() {
+        Some(TokenKind::Await)
+    } else if rest == b"nd".as_slice() {
+        Some(TokenKind::And)
+    } else {
+        None
+    }
+}
+
+// The keyword that `c` and these bytes are.
+fn after_c(rest: &[u8]) -> Option<TokenKind>
+    ensures { result ≡ keyword_of (99 ∷ rest.now) }
+{
+    if rest == b"obegin".as_slice() {
+        Some(TokenKind::Cobegin)
+    } else if rest == b"oend".as_slice() {
+        Some(TokenKind::Coend)
+    } else {
+        None
+    }
+}
+
+// The keyword that `e` and these bytes are.
+fn after_e(rest: &[u8]) -> Option<TokenKind>
+    ensures { result ≡ keyword_of (101 ∷ rest.now) }
+{
+    if rest == b"nd".as_slice() {
+        Some(TokenKind::End)
+    } else if rest == b"lse".as_slice() {
+        Some(TokenKind::Else)
+    } else {
+        None
+    }
+}
+
+// The keyword that `t` and these bytes are.
+fn after_t(rest: &[u8]) -> Option<TokenKind>
+    ensures { result ≡ keyword_of (116 ∷ rest.now) }
+{
+    if rest == b"hen".as_slice() {
+        Some(TokenKind::Then)
+    } else if rest == b"rue".as_slice() {
+        Some(TokenKind::True)
+    } else {
+        None
+    }
+}
+
+// The keyword that a byte and those after it are.
+fn keyword_from(first: u8, rest: &[u8]) -> Option<TokenKind>
+    ensures { result ≡ keyword_of (first ∷ rest.now) }
+{
+    match first {
+        b'a' => after_a(rest),
+        b'b' => only(rest, b"egin".as_slice(), TokenKind::Begin),
+        b'c' => after_c(rest),
+        b'd' => only(rest, b"o".as_slice(), TokenKind::Do),
+        b'e' => after_e(rest),
+        b'f' => only(rest, b"alse".as_slice(), TokenKind::False),
+        b'i' => only(rest, b"f".as_slice(), TokenKind::If),
+        b'n' => only(rest, b"ot".as_slice(), TokenKind::Not),
+        b'o' => only(rest, b"r".as_slice(), TokenKind::Or),
+        b's' => only(rest, b"kip".as_slice(), TokenKind::Skip),
+        b't' => after_t(rest),
+        b'v' => only(rest, b"ar".as_slice(), TokenKind::Var),
+        b'w' => only(rest, b"hile".as_slice(), TokenKind::While),
+        _ => None,
+    }
+}
 
 // The keyword that a word is.
 pub(crate) fn keyword(word: &[u8]) -> Option<TokenKind>
     ensures { result ≡ keyword_of word.now }
 {
-    if word == b"var".as_slice() {
-        Some(TokenKind::Var)
-    } else if word == b"aux".as_slice() {
-        Some(TokenKind::Aux)
-    } else if word == b"cobegin".as_slice() {
-        Some(TokenKind::Cobegin)
-    } else if word == b"coend".as_slice() {
-        Some(TokenKind::Coend)
-    } else if word == b"await".as_slice() {
-        Some(TokenKind::Await)
-    } else if word == b"then".as_slice() {
-        Some(TokenKind::Then)
-    } else if word == b"begin".as_slice() {
-        Some(TokenKind::Begin)
-    } else if word == b"end".as_slice() {
-        Some(TokenKind::End)
-    } else if word == b"if".as_slice() {
-        Some(TokenKind::If)
-    } else if word == b"else".as_slice() {
-        Some(TokenKind::Else)
-    } else if word == b"while".as_slice() {
-        Some(TokenKind::While)
-    } else if word == b"do".as_slice() {
-        Some(TokenKind::Do)
-    } else if word == b"skip".as_slice() {
-        Some(TokenKind::Skip)
-    } else if word == b"true".as_slice() {
-        Some(TokenKind::True)
-    } else if word == b"false".as_slice() {
-        Some(TokenKind::False)
-    } else if word == b"not".as_slice() {
-        Some(TokenKind::Not)
-    } else if word == b"and".as_slice() {
-        Some(TokenKind::And)
-    } else if word == b"or".as_slice() {
-        Some(TokenKind::Or)
-    } else {
-        None
+    match word {
+        [first, rest @ ..] => keyword_from(*first, rest),
+        [] => None,
     }
 }

@@ -1,4 +1,4 @@
-use Rattle.std.proofs.Common.{take, sym, ◌∙◌, arith}
+use Rattle.std.proofs.Common.{take, sym, arith}
 use Rattle.og_text.proofs.Found.{word_front, word_large, name_front, keyword_spells}
 use Rattle.og_text.proofs.front.word.Goals as goal
 
@@ -16,4 +16,4 @@ pub returns : goal.returns
 returns c =
     let text = c.args.text.now in
     let len = c.word_len-len.result in
-    name_front text c.new-name.result len c.requires.some c.requires.first c.word_len-len.ensures (sym c.in_default.ensures) (c.new-name.ensures ∙ c.in_ok-from_slice.ensures.items) (omega arith)
+    name_front text c.in_ok-name.name len c.requires.some c.requires.first c.word_len-len.ensures (sym c.in_default.ensures) c.in_ok-name.ensures.copied (omega arith)

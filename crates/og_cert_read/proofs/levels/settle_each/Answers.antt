@@ -1,7 +1,7 @@
 use Rattle.std.proofs.Common.{subst, vec_len, None, Some, arith}
 use Rattle.og_cert_read.specs.Levels.{IsPut}
 use Rattle.og_cert_read.proofs.OpenLevels.{settle_whole, settle_open, settle_end, empty_before}
-use Rattle.og_cert_read.proofs.levels.settle.Goals as goal
+use Rattle.og_cert_read.proofs.levels.settle_each.Goals as goal
 
 pub loop-level-preserved : goal.loop-level-preserved
 loop-level-preserved c = record {
