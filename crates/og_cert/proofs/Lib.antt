@@ -8,3 +8,4 @@ pub mod Lines
 pub mod Answering
 pub mod Written
 pub mod Sights
+pub mod Sums

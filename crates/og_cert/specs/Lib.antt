@@ -5,5 +5,6 @@ pub mod Faults
 pub mod Steps
 pub mod Held
 pub mod Sight
+pub mod Sums
 pub mod Answer
 pub mod Law

@@ -1,22 +1,20 @@
 //! Combinations of facts, and the other forms that a line of a certificate makes.
 
-ghost use Rattle.std.specs.Prelude.{◌≡◌, ◌<◌, [], nat_lt, true, Ok, IsOk, IsErrOf, IsTrue};
+ghost use Rattle.std.specs.Prelude.{◌≡◌, ◌<◌, [], nat_lt, true, Ok, Err, MatchResult, IsOk, IsErrOf, IsTrue};
 ghost use Rattle.std.specs.List.{list_all};
 ghost use Rattle.og_cert_text.specs.Tree.{Low, High};
 ghost use Rattle.og_cert_text.specs.Plain.{ref_of, combination_of};
-ghost use Rattle.og_linear.specs.Bounded.{add_scaled};
-ghost use Rattle.og_linear.specs.Answer.{IsAnswer};
-ghost use Rattle.og_linear.specs.declared.fault.FormFault.TheVariants as faults;
 ghost use Rattle.og_cert.specs.Checks as check;
 ghost use Rattle.og_cert.specs.Held.{facts_held};
+ghost use Rattle.og_cert.specs.Sight.{single_form};
 ghost use Rattle.og_cert.specs.Answer.{IsChecked, or_kind};
 ghost use Rattle.og_cert.specs.declared.fault.CheckError.TheVariants.{Memory};
 
 use crate::fault::{CheckError, FaultKind};
 use crate::held::{Held, atom_at};
-use crate::sight::is_closed;
+use crate::sight::{Single, is_closed};
+use crate::sum::Sum;
 use og_cert_text::{Source, Term};
-use og_facts::Atom;
 use og_linear::{Form, FormError};
 use std::alloc::Global;
 
@@ -31,62 +29,48 @@ fn or_kind<T>(answer: Result<T, FormError>, kind: FaultKind) -> Result<T, CheckE
     }
 }
 
-// That the variable is no less than the least i64. Takes memory only where there is the variable.
-fn low_form(alloc: Global, variables: u32, var: u32) -> Result<Form, CheckError>
-    ensures form { IsChecked (λ form. form) result (check.form_at variables [] (Low var)) }
-    ensures memory { IsErrOf result Memory → var < variables }
+// That the variable is no less than the least i64.
+fn low_bound(variables: u32, var: u32) -> Result<Single, FaultKind>
+    ensures { MatchResult result
+        (λ bound. check.form_at variables [] (Low var) ≡ Ok (single_form bound))
+        (λ kind. check.form_at variables [] (Low var) ≡ Err kind) }
 {
     if var >= variables {
-        return Err(CheckError::Fault(FaultKind::NoSuchFact));
+        return Err(FaultKind::NoSuchFact);
     }
-    let own = Form::variable(alloc, var)?;
-    let mut form = Form::constant(alloc, -9_223_372_036_854_775_808);
-    or_kind(form.add_scaled(-1, &own), FaultKind::TooLarge)?;
-    Ok(form)
+    Ok(Single {
+        var,
+        coefficient: -1,
+        constant: -9_223_372_036_854_775_808,
+    })
 }
 
-// That the variable is no greater than the greatest i64. Takes memory only where there is the
-// variable.
-fn high_form(alloc: Global, variables: u32, var: u32) -> Result<Form, CheckError>
-    ensures form { IsChecked (λ form. form) result (check.form_at variables [] (High var)) }
-    ensures memory { IsErrOf result Memory → var < variables }
+// That the variable is no greater than the greatest i64.
+fn high_bound(variables: u32, var: u32) -> Result<Single, FaultKind>
+    ensures { MatchResult result
+        (λ bound. check.form_at variables [] (High var) ≡ Ok (single_form bound))
+        (λ kind. check.form_at variables [] (High var) ≡ Err kind) }
 {
     if var >= variables {
-        return Err(CheckError::Fault(FaultKind::NoSuchFact));
+        return Err(FaultKind::NoSuchFact);
     }
-    let own = Form::variable(alloc, var)?;
-    let mut form = Form::constant(alloc, -9_223_372_036_854_775_807);
-    or_kind(form.add_scaled(1, &own), FaultKind::TooLarge)?;
-    Ok(form)
-}
-
-// Adds so many times the form of a fact.
-fn add_atom(alloc: Global, sum: &mut Form, times: i128, atom: &Atom) -> Result<(), FormError>
-    ensures { IsAnswer (λ _. sum.new) faults.TooLarge result (add_scaled sum.old times atom.now) }
-{
-    match atom.as_form() {
-        Some(form) => sum.add_scaled(times, form),
-        None => sum.add_scaled(times, &atom.form(alloc)?),
-    }
+    Ok(Single {
+        var,
+        coefficient: 1,
+        constant: -9_223_372_036_854_775_807,
+    })
 }
 
 // Adds a multiple of a fact or of a bound. Takes memory only where there is the fact or the bound.
-fn add_term(
-    alloc: Global,
-    variables: u32,
-    held: &[Held],
-    sum: &mut Form,
-    term: Term,
-) -> Result<(), CheckError>
+fn add_term(variables: u32, held: &[Held], sum: &mut Sum, term: Term) -> Result<(), CheckError>
     ensures added { IsChecked (λ _. sum.new) result
         (check.add_term variables (facts_held held.now) sum.old (term.times, ref_of term.source)) }
     ensures memory { IsErrOf result Memory → IsOk (check.form_at variables (facts_held held.now) (ref_of term.source)) }
 {
-    let times = i128::from(term.times);
     let added = match term.source {
-        Source::Known(number) => add_atom(alloc, sum, times, atom_at(held, number)?),
-        Source::Low(var) => sum.add_scaled(times, &low_form(alloc, variables, var)?),
-        Source::High(var) => sum.add_scaled(times, &high_form(alloc, variables, var)?),
+        Source::Known(number) => sum.add(term.times, atom_at(held, number)?),
+        Source::Low(var) => sum.add_single(term.times, low_bound(variables, var)?),
+        Source::High(var) => sum.add_single(term.times, high_bound(variables, var)?),
     };
     or_kind(added, FaultKind::TooLarge)
 }
@@ -101,11 +85,11 @@ pub(crate) fn combination(
     ensures { IsChecked (λ form. form) result
         (check.combination variables (facts_held held.now) (combination_of terms.now)) }
 {
-    let mut sum = Form::constant(alloc, 0);
+    let mut sum = Sum::new(alloc);
     for term in terms {
-        add_term(alloc, variables, held, &mut sum, *term)?;
+        add_term(variables, held, &mut sum, *term)?;
     }
-    Ok(sum)
+    Ok(sum.into_form())
 }
 
 // Whether the form is a constant above 0.

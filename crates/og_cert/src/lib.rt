@@ -8,6 +8,7 @@ mod held;
 mod laws;
 mod replaying;
 mod sight;
+mod sum;
 
 pub use fault::{FaultKind, ReplayError, ReplayFault};
 pub use laws::replay_laws;

@@ -237,7 +237,7 @@ pub fn replay(alloc: Global, facts: &FactList, cert: &Cert) -> Result<(), Replay
     ensures answer { IsReplay facts.now.variables facts.now.facts (plain_cert cert.now) result }
     ensures sound { OnOk result ((c : plain.Condition) → facts_of c ≡ Ok facts.now.facts → IsValid c) }
 {
-    let mut held = Vec::new(alloc);
+    let mut held = Vec::with_capacity(alloc, facts.as_slice().len())?;
     hold_all(&mut held, facts.as_slice())?;
     replay_cert(&mut held, facts.variables(), 1, cert)?;
     Ok(())

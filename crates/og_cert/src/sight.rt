@@ -8,15 +8,16 @@ ghost use Rattle.og_cert.specs.Held.{facts_held};
 ghost use Rattle.og_cert.specs.Sight.{single_form, IsMixed, Opposes};
 
 use crate::held::{Held, atom_at};
+use crate::sum::{plus_product, product_of};
 use og_cert_text::{Source, Term};
 use og_facts::Atom;
 
 /// A form of one variable.
 #[derive(Clone, Copy)]
 pub(crate) struct Single {
-    var: u32,
-    coefficient: i128,
-    constant: i128,
+    pub(crate) var: u32,
+    pub(crate) coefficient: i128,
+    pub(crate) constant: i128,
 }
 
 // The form of the inequality, where it has one variable.
@@ -38,9 +39,8 @@ fn form_of_one(atom: &Atom) -> Option<Single>
 fn mixed(k: u64, c: i128, m: u64, d: i128) -> Option<i128>
     ensures { IfSome result (IsMixed k c m d) }
 {
-    let first = i128::from(k).checked_mul(c)?;
-    let second = i128::from(m).checked_mul(d)?;
-    first.checked_add(second)
+    let first = product_of(i128::from(k), c).ok()?;
+    plus_product(first, i128::from(m), d).ok()
 }
 
 // Whether the sum of these multiples of the two is a constant above 0.
