@@ -202,46 +202,47 @@ fn tightest(part: &Part, form: &Inequality) -> Option<i128> {
     best
 }
 
-// The least of the constants with which each part that has a way bounds these terms.
-fn weakest(parts: &[Part], form: &Inequality, bounds: &Bounds) -> Option<i128> {
-    let mut weakest = form.constant;
+// The parts that have a way.
+fn left<'a>(
+    alloc: Global,
+    parts: &'a [Part],
+    bounds: &Bounds,
+) -> Result<Vec<&'a Part>, AllocError> {
+    let mut left = Vec::new(alloc);
     for part in parts {
         if width(part, bounds, 1) > 0 {
-            weakest = weakest.min(tightest(part, form)?);
+            left.push(part)?;
         }
+    }
+    Ok(left)
+}
+
+// The least of the constants with which each of these parts bounds these terms.
+fn weakest(parts: &[&Part], form: &Inequality) -> Option<i128> {
+    let mut weakest = form.constant;
+    for part in parts {
+        weakest = weakest.min(tightest(part, form)?);
     }
     Some(weakest)
 }
 
-// The first part that has a way, if another has one too.
-fn first_of_several<'a>(parts: &'a [Part], bounds: &Bounds) -> Option<&'a Part> {
-    let mut first = None;
-    for part in parts {
-        if width(part, bounds, 1) > 0 {
-            if first.is_some() {
-                return first;
-            }
-            first = Some(part);
-        }
-    }
-    None
-}
-
-// An inequality that each part that has a way implies, and that is false of the values.
+// An inequality that each part that has a way implies, and that is false of the values, where several
+// have one.
 fn common_row(
     alloc: Global,
     parts: &[Part],
     bounds: &Bounds,
     model: &Model,
 ) -> Result<Option<Inequality>, AllocError> {
-    let Some(first) = first_of_several(parts, bounds) else {
+    let left = left(alloc, parts, bounds)?;
+    let [first, _, ..] = left.as_slice() else {
         return Ok(None);
     };
     for atom in &first.atoms {
         if atom.form.terms.is_empty() || atom.form.holds(model) {
             continue;
         }
-        if let Some(constant) = weakest(parts, &atom.form, bounds) {
+        if let Some(constant) = weakest(&left, &atom.form) {
             let mut row = Inequality::number(alloc, constant);
             row.terms.extend_from_slice(&atom.form.terms)?;
             if !row.holds(model) {

@@ -7,6 +7,7 @@ use og_choices::{
 };
 use og_elimination::{Gap, Outcome, Problem, Ranges, close_within, eliminate, narrow, note_bound};
 use og_inequalities::{Added, Bounds, Inequality, Levels, Model, Place, Rows, TOP, Term};
+use og_pigeons::{Crowd, Move, look, weight_of_pairs};
 use og_refutation::{Case, Lifted, Proof, Sides, Tree, closing, leaf};
 use std::alloc::{AllocError, Global};
 
@@ -22,8 +23,12 @@ const MOST_LIFTS: u32 = 4;
 /// The lowest level to which forms are lifted, so that levels are left below them.
 const LIFT_LEVEL: u32 = 130;
 
+/// The lowest level at which numbers are looked for that are all different and have too few values,
+/// so that levels are left to refute them.
+const CROWD_LEVEL: u32 = 100;
+
 /// The greatest size of a refutation, over all its leaves: more takes too much memory.
-const MOST: u64 = 500_000;
+const MOST: u64 = 1_200_000;
 
 // The facts with which a level begins.
 #[derive(Drop)]
@@ -44,6 +49,8 @@ enum Decision {
         form: Inequality,
         next: Option<usize>,
     },
+    // It refutes these numbers.
+    Refute(Crowd),
 }
 
 // What comes of going into the parts of a choice.
@@ -80,6 +87,9 @@ pub(crate) struct Search<'a> {
     next: Option<usize>,
     // The forms to be branched on next, the last one first, before any choice.
     lifted: Vec<Lifted>,
+    // Whether there are numbers on the path that are all different and have too few values, by what was
+    // done last.
+    is_crowded: bool,
     // The lowest level above which there are first sides of branches alone, and how often forms may
     // still be lifted to it.
     trunk: u32,
@@ -131,6 +141,7 @@ impl<'a> Search<'a> {
             near: 0,
             next: None,
             lifted: Vec::new(alloc),
+            is_crowded: false,
             trunk: TOP,
             lifts: MOST_LIFTS,
             room: MOST,
@@ -270,10 +281,9 @@ impl<'a> Search<'a> {
         Ok(Some(dead.unwrap_or(best).choice))
     }
 
-    // Takes a step for a level, and one for each 1,000 facts that are looked through there.
-    fn spend_level(&mut self) -> Result<(), Stop> {
-        let thousands = (weight(&self.open) / 1000) as u64;
-        self.rows.spend(thousands.saturating_add(1))?;
+    // Takes a step for each 1,000 facts in the choices that are looked through.
+    fn spend_choices(&mut self) -> Result<(), Stop> {
+        self.rows.spend((weight(&self.open) / 1000) as u64)?;
         Ok(())
     }
 
@@ -301,7 +311,7 @@ impl<'a> Search<'a> {
 
     // Takes in the facts of a level.
     fn take_in(&mut self, entry: Entry<'a>, level: u32, bounds: &mut Bounds) -> Result<(), Halt> {
-        self.spend_level()?;
+        self.rows.spend(1)?;
         match entry {
             Entry::Side(form) => self.take_atom(form, Place { level, index: 0 }, bounds),
             Entry::Part(part) => {
@@ -366,11 +376,35 @@ impl<'a> Search<'a> {
         }
     }
 
+    // What is done about numbers that are all different and have too few values, if there are some.
+    // Takes a step for each 1,000 facts that are looked through.
+    fn crowd(&mut self, bounds: &Bounds) -> Result<Option<Decision>, Stop> {
+        self.is_crowded = false;
+        self.rows
+            .spend((weight_of_pairs(&self.open) / 1000) as u64)?;
+        let Some(found) = look(self.alloc, self.view(bounds))? else {
+            return Ok(None);
+        };
+        let next = None;
+        let decision = match found {
+            Move::Split(i) => Decision::Split(i),
+            Move::Branch(form) => Decision::Branch { form, next },
+            Move::Refute(crowd) => return Ok(Some(Decision::Refute(crowd))),
+        };
+        self.is_crowded = true;
+        Ok(Some(decision))
+    }
+
     // What is done where all rows hold of these values.
-    fn decide_at(&mut self, model: Model, bounds: &Bounds) -> Result<Decision, Stop> {
+    fn decide_at(&mut self, model: Model, level: u32, bounds: &Bounds) -> Result<Decision, Stop> {
         self.model = model;
         if all_hold(&self.open, &self.model) {
             return Err(Stop::Model);
+        }
+        if level >= CROWD_LEVEL {
+            if let Some(decision) = self.crowd(bounds)? {
+                return Ok(decision);
+            }
         }
         if let Some(i) = forced(&self.open, bounds, Some(&self.model)) {
             return Ok(Decision::Split(i));
@@ -417,6 +451,12 @@ impl<'a> Search<'a> {
         if let Some(Lifted { form, next }) = self.lifted.pop() {
             return Ok(Decision::Branch { form, next });
         }
+        if self.is_crowded {
+            if let Some(decision) = self.crowd(bounds)? {
+                return Ok(decision);
+            }
+        }
+        self.spend_choices()?;
         let reach = Reach::of_level(level);
         if let Some(i) = self.refuted(bounds, reach) {
             return Ok(Decision::Split(i));
@@ -430,7 +470,7 @@ impl<'a> Search<'a> {
             return Ok(Decision::Split(i));
         }
         let decision = match self.eliminate(bounds)? {
-            Outcome::Model(model) => self.decide_at(model, bounds)?,
+            Outcome::Model(model) => self.decide_at(model, level, bounds)?,
             Outcome::Gap(gap) => self.decide_without(Some(gap), bounds)?,
             Outcome::OutOfRange | Outcome::Unknown => self.decide_without(None, bounds)?,
         };
@@ -607,7 +647,14 @@ impl<'a> Search<'a> {
         match decision {
             Decision::Split(i) => self.split_at(below, i, &own),
             Decision::Branch { form, next } => self.branch(below, form, next, &own),
+            Decision::Refute(crowd) => self.refute_crowd(below, &crowd),
         }
+    }
+
+    // Refutes numbers that are all different and have too few values.
+    fn refute_crowd(&mut self, below: u32, crowd: &Crowd) -> Result<Proof, Stop> {
+        let proof = crowd.refute(self.alloc, below, &mut self.rows, &mut self.room)?;
+        Ok(proof)
     }
 
     // Goes into the parts of a choice, or first into the sides of the forms that were met there.

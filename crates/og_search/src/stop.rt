@@ -1,6 +1,7 @@
 //! Why a search ends without a certificate, and what ends the work on its rows.
 
 use og_inequalities::{AddError, RowError};
+use og_pigeons::Unrefuted;
 use og_refutation::Unwritten;
 use std::alloc::{AllocError, AllocFailed};
 
@@ -45,6 +46,17 @@ impl From<Unwritten> for Stop {
         match unwritten {
             Unwritten::Memory => Stop::Memory,
             Unwritten::TooLarge => Stop::Stuck,
+        }
+    }
+}
+
+impl From<Unrefuted> for Stop {
+    fn from(unrefuted: Unrefuted) -> Stop {
+        match unrefuted {
+            Unrefuted::Memory => Stop::Memory,
+            Unrefuted::Budget => Stop::Budget,
+            Unrefuted::Size => Stop::Size,
+            Unrefuted::Levels => Stop::Stuck,
         }
     }
 }

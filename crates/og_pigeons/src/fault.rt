@@ -1,0 +1,38 @@
+//! Why a crowd is not refuted.
+
+use og_inequalities::RowError;
+use std::alloc::{AllocError, AllocFailed};
+
+/// Why a crowd is not refuted.
+#[derive(Clone, Copy)]
+pub enum Unrefuted {
+    /// An allocation was refused.
+    Memory,
+    /// The budget is spent.
+    Budget,
+    /// The refutation is too large.
+    Size,
+    /// There are too few levels.
+    Levels,
+}
+
+impl From<AllocError> for Unrefuted {
+    fn from(_: AllocError) -> Unrefuted {
+        Unrefuted::Memory
+    }
+}
+
+impl<T: Drop> From<AllocFailed<T>> for Unrefuted {
+    fn from(_: AllocFailed<T>) -> Unrefuted {
+        Unrefuted::Memory
+    }
+}
+
+impl From<RowError> for Unrefuted {
+    fn from(error: RowError) -> Unrefuted {
+        match error {
+            RowError::Memory => Unrefuted::Memory,
+            RowError::Budget => Unrefuted::Budget,
+        }
+    }
+}
