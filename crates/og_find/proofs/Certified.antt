@@ -13,7 +13,9 @@ use Rattle.og_cert.specs.Closes.{closes}
 use Rattle.og_cert.proofs.Refuting.{closed_is_valid}
 use Rattle.og_find.specs.declared.verdict.Verdict.{Verdict}
 use Rattle.og_find.specs.declared.verdict.Verdict.TheVariants as verdicts
-use Rattle.og_find.specs.Found.{Certifies, IsFalseAt, IsVerdict, IsVerdictOn, IsModel, Closes}
+use Rattle.og_find.specs.declared.verdict.Followed.{Followed}
+use Rattle.og_find.specs.declared.verdict.Followed.TheVariants as followed
+use Rattle.og_find.specs.Found.{Certifies, IsFalseAt, IsFollowed, IsFollowedOn, IsVerdict, IsVerdictOn, IsModel, Closes}
 
 -- a certificate that closes the facts of a condition certifies it
 pub certified : (c : Condition) (list : Listed) (proof : Cert) → facts_of c ≡ Ok list.facts → list.variables ≡ c.variables → Closes list proof → Certifies c proof
@@ -46,6 +48,10 @@ pub verdict_on : (c : Condition) (list : Listed) (v : Verdict) → facts_of c �
 verdict_on c list (verdicts.True cert) e v h = certified c list (plain_cert cert) e v h
 verdict_on c list (verdicts.False s) e v h = falsified c list s e v h
 verdict_on c list verdicts.Open e v h = tt
+
+pub followed_on : (c : Condition) (list : Listed) (proof : Cert) (f : Followed) → facts_of c ≡ Ok list.facts → list.variables ≡ c.variables → IsFollowedOn list proof f → IsFollowed c proof f
+followed_on c list proof followed.Shares e v h = certified c list proof e v h
+followed_on c list proof (followed.Own own) e v h = verdict_on c list own e v h
 
 -- ---- results
 

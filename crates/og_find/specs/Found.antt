@@ -14,6 +14,8 @@ use Rattle.og_cert_text.specs.Files.{Entries}
 use Rattle.og_cert.specs.Closes.{closes}
 use Rattle.og_find.specs.declared.verdict.Verdict.{Verdict}
 use Rattle.og_find.specs.declared.verdict.Verdict.TheVariants as verdicts
+use Rattle.og_find.specs.declared.verdict.Followed.{Followed}
+use Rattle.og_find.specs.declared.verdict.Followed.TheVariants as followed
 
 -- the certificate is well formed, and it closes the facts of the condition
 abbrev pub Certifies : Condition → Cert → Type 0
@@ -28,6 +30,11 @@ abbrev pub IsVerdict : Condition → Verdict → Type 0
 IsVerdict c (verdicts.True cert) = Certifies c (plain_cert cert)
 IsVerdict c (verdicts.False s) = IsFalseAt c s
 IsVerdict c verdicts.Open = ⊤
+
+-- what is told of the condition after the certificate of its leader is so
+abbrev pub IsFollowed : Condition → Cert → Followed → Type 0
+IsFollowed c proof followed.Shares = Certifies c proof
+IsFollowed c proof (followed.Own v) = IsVerdict c v
 
 -- the entry is of a condition of the list, counted from 1, and certifies it
 abbrev pub IsOfOne : List Condition → ℕ × Cert → Type 0
@@ -50,3 +57,7 @@ abbrev pub IsVerdictOn : Listed → Verdict → Type 0
 IsVerdictOn list (verdicts.True cert) = Closes list (plain_cert cert)
 IsVerdictOn list (verdicts.False s) = IsModel list s
 IsVerdictOn list verdicts.Open = ⊤
+
+abbrev pub IsFollowedOn : Listed → Cert → Followed → Type 0
+IsFollowedOn list proof followed.Shares = Closes list proof
+IsFollowedOn list proof (followed.Own v) = IsVerdictOn list v

@@ -4,16 +4,17 @@ ghost use Rattle.std.specs.Prelude.{◌≡◌, IfOk, IfSome, OnSome, IsTrue, vec
 ghost use Rattle.og_cond.specs.Valid.{IsValid};
 ghost use Rattle.og_cond.specs.Seen.{seen};
 ghost use Rattle.og_cert_text.specs.Plain.{plain_cert};
-ghost use Rattle.og_find.specs.Found.{Certifies, Closes, IsModel, IsVerdict, IsVerdictOn};
+ghost use Rattle.og_find.specs.Found.{Certifies, Closes, IsFollowed, IsFollowedOn, IsModel, IsVerdict, IsVerdictOn};
 
 use crate::reading::part_of;
 use crate::truth::{NESTING_LIMIT, all_true};
-use crate::verdict::Verdict;
+use crate::verdict::{Followed, Verdict};
 use og_cert::{Cert, ReplayError, replay};
 use og_cond::Condition;
 use og_facts::{FactList, FactsError, facts};
 use og_linear::State;
 use og_search::{Claim, Model, Part, search_among};
+use og_symmetry::carried;
 use og_values::Values;
 use std::alloc::{AllocError, Global};
 
@@ -116,6 +117,77 @@ pub fn examine(alloc: Global, condition: &Condition, budget: u64) -> Result<Verd
         }
         Err(FactsError::Memory) => Err(AllocError),
         Err(FactsError::Fault(_)) => Ok(Verdict::Open),
+    }
+}
+
+// The certificate of a condition of which another one differs in the names of variables, carried over
+// to the facts of that other one, if it closes them.
+fn carried_over(
+    alloc: Global,
+    list: &FactList,
+    leader: &Condition,
+    cert: &Cert,
+) -> Result<Option<Cert>, AllocError>
+    ensures { IfOk result (λ some. IfSome some (λ own. Closes list.now (plain_cert own))) }
+{
+    let from = match facts(alloc, leader) {
+        Ok(from) => from,
+        Err(FactsError::Memory) => return Err(AllocError),
+        Err(FactsError::Fault(_)) => return Ok(None),
+    };
+    match carried(alloc, cert, &from, list)? {
+        Some(own) => {
+            if is_closing(alloc, list, &own)? {
+                return Ok(Some(own));
+            }
+            Ok(None)
+        }
+        None => Ok(None),
+    }
+}
+
+// What is told of a condition with these facts after the certificate of its leader.
+fn follow_facts(
+    alloc: Global,
+    list: &FactList,
+    leader: &Condition,
+    cert: &Cert,
+    budget: u64,
+) -> Result<Followed, AllocError>
+    ensures { IfOk result (IsFollowedOn list.now (plain_cert cert.now)) }
+{
+    if is_closing(alloc, list, cert)? {
+        return Ok(Followed::Shares);
+    }
+    if let Some(own) = carried_over(alloc, list, leader, cert)? {
+        return Ok(Followed::Own(Verdict::True(own)));
+    }
+    let part = part_of(alloc, list)?;
+    Ok(Followed::Own(examine_facts(alloc, list, &part, budget)?))
+}
+
+/// What is told of a condition after the certificate of its leader, another condition, from which it
+/// may differ in the names of variables alone: whether the same certificate is one of its own, and
+/// else its verdict, by that certificate with variables exchanged, or by a search within the budget.
+///
+/// The answer is the same each time.
+///
+/// # Errors
+///
+/// `AllocError` where an allocation was refused.
+pub fn follow(
+    alloc: Global,
+    condition: &Condition,
+    leader: &Condition,
+    cert: &Cert,
+    budget: u64,
+) -> Result<Followed, AllocError>
+    ensures { IfOk result (IsFollowed (seen condition.now) (plain_cert cert.now)) }
+{
+    match facts(alloc, condition) {
+        Ok(list) => follow_facts(alloc, &list, leader, cert, budget),
+        Err(FactsError::Memory) => Err(AllocError),
+        Err(FactsError::Fault(_)) => Ok(Followed::Own(Verdict::Open)),
     }
 }
 

@@ -6,14 +6,16 @@
 
 mod counting;
 mod finding;
+mod kinds;
 mod marking;
 mod reading;
 mod truth;
 mod verdict;
 
 pub use counting::Missing;
-pub use finding::{examine, find, is_verdict};
+pub use finding::{examine, find, follow, is_verdict};
+pub use kinds::kind;
 pub use marking::{Marks, mark};
 pub use og_cert::Cert;
 pub use reading::has_equal_facts;
-pub use verdict::Verdict;
+pub use verdict::{Followed, Verdict};

@@ -49,13 +49,26 @@ impl Reader<'_, '_> {
         }
     }
 
+    // With a variable and its coefficient.
+    fn term(self, marks: Marks, var: u32, coefficient: i128) -> Marks {
+        let high = coefficient.cast_unsigned().wrapping_mul(1 << 32);
+        let name = u128::from(var) + 1;
+        Marks {
+            facts: next_mark(marks.facts, high ^ name),
+            shape: next_mark(
+                marks.shape,
+                if self.assigns(var) { high ^ name } else { high },
+            ),
+        }
+    }
+
     fn form(self, marks: Marks, form: &Form) -> Marks {
         let mut next = marks.number(form.offset().cast_unsigned());
         for i in 0..usize::MAX {
             let Some((var, coefficient)) = form.term(i) else {
                 return next.number(i as u128);
             };
-            next = self.variable(next, var).number(coefficient.cast_unsigned());
+            next = self.term(next, var, coefficient);
         }
         next
     }

@@ -13,3 +13,12 @@ pub enum Verdict {
     /// The search ended with neither.
     Open,
 }
+
+/// What is told of a condition after the certificate of another one, its leader.
+#[derive(Debug, Drop)]
+pub enum Followed {
+    /// It is true: the leader's certificate closes its facts too.
+    Shares,
+    /// This, by itself.
+    Own(Verdict),
+}

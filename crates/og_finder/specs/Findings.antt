@@ -51,7 +51,12 @@ IsKnownAt cs verdicts i place = (v : Verdict) × (slice_get verdicts place ≡ S
 abbrev pub AreKnown : List Condition → List Verdict → List (Option ℕ) → Type 0
 AreKnown cs verdicts known = (i place : ℕ) → slice_get known i ≡ Some (Some place) → IsKnownAt cs verdicts i place
 
--- the verdict of a follower's own search is true of it, or without one that of its leader is
+-- the verdict is true of the condition, or without one that of its leader is
+abbrev pub IsOwnOrLed : Condition → List Verdict → Option ℕ → Option Verdict → Type 0
+IsOwnOrLed c verdicts leader None = IsSomeAnd leader (λ place. IsSomeAnd (slice_get verdicts place) (IsVerdict c))
+IsOwnOrLed c verdicts leader (Some own) = IsVerdict c own
+
+-- the verdict of a follower's own is true of it, or without one that of its leader is
 abbrev pub IsTried : List Condition → List Verdict → Follower → Option (Box Verdict) → Type 0
 IsTried cs verdicts f None = IsSomeAnd f.leader (IsKnownAt cs verdicts f.index)
 IsTried cs verdicts f (Some own) = IsVerdictAt cs f.index own.value

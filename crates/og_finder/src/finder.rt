@@ -61,6 +61,7 @@ impl<'a, 'c, G: Gate> Search<'a, 'c, G> {
         let verdicts = answers(rt, alloc, &searching, lead, self.workers)?;
         let trial = Trial {
             conditions: self.conditions,
+            leaders: &leaders,
             verdicts: &verdicts,
             budget: self.budget,
         };
@@ -82,11 +83,11 @@ impl<'a, 'c, G: Gate> Search<'a, 'c, G> {
 /// as in `og_find::examine`. The verdicts are the same for every number of workers.
 ///
 /// Conditions with equal facts are searched once, and share what was found. Of conditions that differ
-/// in the names of variables alone, but for those that their action assigns, the first one leads: where
-/// it has a certificate, that is tried for the others, and those whose facts it closes share it. A
-/// condition from which no other differs so is searched together with those others, so that no worker
-/// waits for it. The
-/// gate is told how many different conditions there are, and before and after each.
+/// in the names of variables alone, but for those that their action assigns, one leads: where
+/// it has a certificate, that is tried for the others, and those whose facts it closes share it; for
+/// those where it does not, the same with variables exchanged is tried. A condition from which no other
+/// differs so is searched together with those others, so that no worker waits for it. The gate is told
+/// how many different conditions there are, and before and after each.
 ///
 /// # Errors
 ///
@@ -108,7 +109,7 @@ pub fn examine_all<G: Gate, R: Threads + Wait + Sync>(
     let count = conditions.len() as u32;
     let marks = answers(rt, alloc, &Marking { conditions }, count, workers)?;
     let groups = grouped(alloc, &marks)?;
-    let shapes = by_shape(alloc, &marks, &groups.firsts)?;
+    let shapes = by_shape(alloc, conditions, &marks, &groups.firsts)?;
     drop(marks);
     gate.begin(groups.firsts.len() as u32);
     let search = Search {

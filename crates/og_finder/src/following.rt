@@ -1,61 +1,69 @@
 //! What is found of the followers.
 
-ghost use Rattle.std.specs.Prelude.{map, slice_get, IfOk, IsSomeAnd, IsTrue};
+ghost use Rattle.std.specs.Prelude.{◌≡◌, Some, map, slice_get, IfOk, IfSome, IsSomeAnd};
 ghost use Rattle.og_cond.specs.Seen.{seen};
-ghost use Rattle.og_find.specs.Found.{IsVerdict};
-ghost use Rattle.og_finder.specs.Findings.{IsTried};
+ghost use Rattle.og_find.specs.declared.verdict.Verdict.TheVariants as verdicts;
+ghost use Rattle.og_finder.specs.Findings.{IsTried, IsOwnOrLed};
 
 use crate::leading::Follower;
 use og_cond::Condition;
 use og_draws::Numbered;
-use og_find::{Verdict, examine, is_verdict};
+use og_find::{Cert, Followed, Verdict, examine, follow};
 use og_pool::Gate;
 use std::alloc::{AllocError, Global};
 
-/// The certificate of its leader is tried for a follower, which is searched for itself where that does
-/// not close its facts, or where it has no leader.
+/// The certificate of its leader is tried for a follower, as it is and with variables exchanged. The
+/// follower is searched for itself where neither closes its facts, or where it has no leader.
 #[derive(Clone, Copy)]
 pub(crate) struct Trial<'a, 'c> {
     pub(crate) conditions: &'a [Condition<'c>],
-    // What was found of the leaders.
+    // The indices of the leaders, and what was found of them.
+    pub(crate) leaders: &'a [usize],
     pub(crate) verdicts: &'a [Verdict],
     pub(crate) budget: u64,
 }
 
 impl Trial<'_, '_> {
-    // Whether the leader's certificate closes the facts of the condition.
-    fn is_led(
-        &self,
-        alloc: Global,
-        condition: &Condition,
-        leader: Option<usize>,
-    ) -> Result<bool, AllocError>
-        ensures { IfOk result (λ yes. IsTrue yes → IsSomeAnd leader (λ place. IsSomeAnd (slice_get self.now.verdicts.now place) (IsVerdict (seen condition.now)))) }
+    // The leader at this place, with its certificate, if it has one.
+    fn leader(&self, place: Option<usize>) -> Option<(&Condition<'_>, &Cert)>
+        ensures { IfSome result (λ leader. IsSomeAnd place (λ p. slice_get self.now.verdicts.now p ≡ Some (verdicts.True leader.1.now))) }
     {
-        let Some(place) = leader else {
-            return Ok(false);
-        };
-        let Some(verdict) = self.verdicts.get(place) else {
-            return Ok(false);
-        };
-        match verdict {
-            Verdict::True(_) => is_verdict(alloc, condition, verdict),
-            _ => Ok(false),
+        let place = place?;
+        match self.verdicts.get(place)? {
+            Verdict::True(cert) => Some((self.conditions.get(*self.leaders.get(place)?)?, cert)),
+            _ => None,
         }
     }
 
-    // The verdict of the follower's own search, where it needs one.
+    // The verdict on the condition after its leader's, or None where it shares that.
+    fn own_of(
+        &self,
+        alloc: Global,
+        condition: &Condition,
+        place: Option<usize>,
+    ) -> Result<Option<Verdict>, AllocError>
+        ensures { IfOk result (λ own. IsOwnOrLed (seen condition.now) self.now.verdicts.now place own) }
+    {
+        let Some((leader, cert)) = self.leader(place) else {
+            return Ok(Some(examine(alloc, condition, self.budget)?));
+        };
+        match follow(alloc, condition, leader, cert, self.budget)? {
+            Followed::Shares => Ok(None),
+            Followed::Own(own) => Ok(Some(own)),
+        }
+    }
+
+    // The verdict of the follower's own, where it does not share that of its leader.
     fn own(&self, alloc: Global, follower: Follower) -> Result<Option<Box<Verdict>>, AllocError>
         ensures { IfOk result (IsTried (map seen self.now.conditions.now) self.now.verdicts.now follower) }
     {
         let Some(condition) = self.conditions.get(follower.index) else {
             return Ok(Some(Box::new(alloc, Verdict::Open)?));
         };
-        if self.is_led(alloc, condition, follower.leader)? {
-            return Ok(None);
+        match self.own_of(alloc, condition, follower.leader)? {
+            Some(own) => Ok(Some(Box::new(alloc, own)?)),
+            None => Ok(None),
         }
-        let verdict = examine(alloc, condition, self.budget)?;
-        Ok(Some(Box::new(alloc, verdict)?))
     }
 }
 

@@ -1,9 +1,10 @@
-//! Conditions of one shape, of which the first one leads.
+//! Conditions of one shape, of which one leads.
 
 ghost use Rattle.std.specs.Prelude.{◌≡◌, ◌+◌, length, IfOk, OnOk, vec_len};
 
 use crate::groups::place_of;
-use og_find::Marks;
+use og_cond::Condition;
+use og_find::{Marks, kind};
 use std::alloc::{AllocError, Global};
 use std::collections::BTreeMap;
 
@@ -19,7 +20,7 @@ pub(crate) struct Follower {
     pub(crate) leader: Option<usize>,
 }
 
-/// The first condition of each shape that several have, and all others.
+/// One condition of each shape that several have, and all others.
 #[derive(Drop)]
 pub(crate) struct Shapes {
     /// The index of each leader.
@@ -95,7 +96,10 @@ impl Shapes {
 struct Shape {
     // How many groups have it.
     groups: usize,
-    // The place of its leader, once that was met.
+    // The group that leads: the second one, or else the only one. The last condition of a shape, which
+    // is the first one here, is more often unlike the others than any other one.
+    first: usize,
+    // The place of that leader.
     leader: Option<usize>,
 }
 
@@ -107,36 +111,83 @@ struct Numbering {
 }
 
 impl Numbering {
-    // Adds a group whose shape has this place.
-    fn add(&mut self, place: usize) -> Result<(), AllocError> {
+    // Counts a group to the shape with this place, or to a new one.
+    fn count(&mut self, group: usize, place: usize) -> Result<(), AllocError> {
         match self.shapes.get_mut(place) {
-            Some(shape) => shape.groups = shape.groups.saturating_add(1),
+            Some(shape) => {
+                shape.groups = shape.groups.saturating_add(1);
+                if shape.groups == 2 {
+                    shape.first = group;
+                }
+            }
             None => self.shapes.push(Shape {
                 groups: 1,
+                first: group,
                 leader: None,
             })?,
         }
+        Ok(())
+    }
+
+    // Adds the next group, whose shape has this place.
+    fn add(&mut self, place: usize) -> Result<(), AllocError> {
+        let group = self.places.len();
+        self.count(group, place)?;
         self.places.push(place)?;
         Ok(())
     }
 
-    // The part of a group, where the next leader has this place.
-    fn part_of(&mut self, group: usize, next: usize) -> Part {
-        let Some(place) = self.places.get(group) else {
-            return Part::IsAlone;
-        };
-        let Some(shape) = self.shapes.get_mut(*place) else {
-            return Part::IsAlone;
-        };
-        if shape.groups < 2 {
-            return Part::IsAlone;
+    // Gives a group the shape with this place.
+    fn move_to(&mut self, group: usize, place: usize) -> Result<(), AllocError> {
+        self.count(group, place)?;
+        if let Some(own) = self.places.get_mut(group) {
+            *own = place;
         }
-        match shape.leader {
-            Some(leader) => Part::Follows(leader),
-            None => {
-                shape.leader = Some(next);
-                Part::Leads
+        Ok(())
+    }
+
+    // The shape of a group, if others have it too.
+    fn shared(&self, group: usize) -> Option<Shape> {
+        let shape = self.shapes.get(*self.places.get(group)?)?;
+        if shape.groups < 2 {
+            return None;
+        }
+        Some(*shape)
+    }
+
+    // The place of the shape that the group leads, if it leads one.
+    fn led_by(&self, group: usize) -> Option<usize> {
+        let place = *self.places.get(group)?;
+        match self.shapes.get(place) {
+            Some(shape) if shape.groups >= 2 && shape.first == group => Some(place),
+            _ => None,
+        }
+    }
+
+    // Notes the place of each leader among the leaders.
+    fn place_leaders(&mut self) {
+        let mut next = 0usize;
+        for group in 0..self.places.len() {
+            if let Some(place) = self.led_by(group) {
+                if let Some(shape) = self.shapes.get_mut(place) {
+                    shape.leader = Some(next);
+                }
+                next = next.saturating_add(1);
             }
+        }
+    }
+
+    // The part of a group.
+    fn part_of(&self, group: usize) -> Part {
+        match self.shared(group) {
+            Some(shape) if shape.first == group => Part::Leads,
+            Some(
+                Shape {
+                    leader: Some(leader),
+                    ..
+                },
+            ) => Part::Follows(leader),
+            _ => Part::IsAlone,
         }
     }
 }
@@ -163,19 +214,40 @@ fn numbered(
     Ok(numbering)
 }
 
+// Gives those groups that are alone in their shape a common one where they are of one kind.
+fn join_kinds(
+    alloc: Global,
+    numbering: &mut Numbering,
+    conditions: &[Condition],
+    firsts: &[usize],
+) -> Result<(), AllocError> {
+    let mut known = BTreeMap::new(alloc);
+    for group in 0..firsts.len() {
+        if let (None, Some(condition)) = (numbering.shared(group), conditions.get(firsts[group])) {
+            let place = place_of(&mut known, Some(kind(condition)), numbering.shapes.len())?;
+            numbering.move_to(group, place)?;
+        }
+    }
+    Ok(())
+}
+
 /// The groups whose first conditions have these indices, by their shapes. A group without marks has a
-/// shape of its own.
+/// shape of its own. Groups that are alone in their shape count as of one shape where they are of one
+/// kind.
 pub(crate) fn by_shape(
     alloc: Global,
+    conditions: &[Condition],
     marks: &[Option<Marks>],
     firsts: &[usize],
 ) -> Result<Shapes, AllocError>
     ensures { IfOk result (λ s. vec_len s.leaders + vec_len s.followers ≡ length firsts.now) }
 {
     let mut numbering = numbered(alloc, marks, firsts)?;
+    join_kinds(alloc, &mut numbering, conditions, firsts)?;
+    numbering.place_leaders();
     let mut shapes = Shapes::new(alloc, firsts.len())?;
     for group in 0..firsts.len() {
-        let part = numbering.part_of(group, shapes.leaders.len());
+        let part = numbering.part_of(group);
         shapes.add(group, firsts[group], part)?;
     }
     Ok(shapes)

@@ -7,6 +7,8 @@ use crate::sources::TURNED;
 use og_cert_text::{CertFile, put_cert, write_certs};
 use og_cond::{Condition, conditions};
 use og_find::{find, mark};
+use og_finder::find_all;
+use og_pool::OpenGate;
 use og_samples::{EQUAL_ADD, NESTED, TOLD_ADD, TWO_ADD, alike, outline_of};
 use og_typed::Outline;
 use std::alloc::{AllocError, Global};
@@ -46,6 +48,54 @@ fn expect_alone<R: Threads + Wait + Sync + Abort>(
     Ok(())
 }
 
+// A certificate is found of each condition of which a search of it alone finds one, and of no other.
+fn expect_of_each(
+    rt: &impl Abort,
+    alloc: Global,
+    list: &[Condition],
+    file: &CertFile,
+) -> Result<(), Fail> {
+    let mut number = 0u32;
+    for condition in list {
+        number = number.saturating_add(1);
+        let is_alone = find(alloc, condition, BUDGET)?.is_some();
+        assert_eq!(rt; file.certificate(number).is_some(), is_alone);
+    }
+    Ok(())
+}
+
+// The same of the only worker, and each number of workers finds the same.
+fn expect_same<R: Threads + Wait + Sync + Abort>(
+    rt: &R,
+    alloc: Global,
+    list: &[Condition],
+) -> Result<(), Fail>
+    requires few { length list.now < 2 ^ 32 }
+{
+    let file = find_all(rt, alloc, list, BUDGET, 1, &OpenGate)?;
+    let told = expect_of_each(rt, alloc, list, &file);
+    let one = write_certs(alloc, &file);
+    drop(file);
+    told?;
+    let one = one?;
+    for workers in [2, 3, 64] {
+        let text = text_of_found(rt, alloc, list, BUDGET, workers)?;
+        assert!(rt; text == one, "by {workers} workers");
+    }
+    Ok(())
+}
+
+fn expect_same_of<R: Threads + Wait + Sync + Abort>(
+    rt: &R,
+    alloc: Global,
+    outline: &Outline,
+) -> Result<(), Fail> {
+    let list = conditions(alloc, outline)?;
+    let told = expect_same(rt, alloc, &list);
+    drop(list);
+    told
+}
+
 fn expect_alone_of<R: Threads + Wait + Sync + Abort>(
     rt: &R,
     alloc: Global,
@@ -70,10 +120,19 @@ fn expect_alone_in<R: Threads + Wait + Sync + Abort>(
 
 #[test]
 fn certificates_of_workers(rt: HostRuntime) -> Result<(), Fail> {
-    for source in [TWO_ADD, EQUAL_ADD, TOLD_ADD, NESTED, TURNED] {
+    for source in [TWO_ADD, EQUAL_ADD, NESTED, TURNED] {
         expect_alone_in(&rt, rt.alloc(), source)?;
     }
     Ok(())
+}
+
+// The processes are alike, so that conditions of one may have the certificates of the other.
+#[test]
+fn certificates_of_like_processes(rt: HostRuntime) -> Result<(), Fail> {
+    let outline = outline_of(rt.alloc(), TOLD_ADD)?;
+    let told = expect_same_of(&rt, rt.alloc(), &outline);
+    drop(outline);
+    told
 }
 
 // Of 4,938 conditions most have the facts of others.

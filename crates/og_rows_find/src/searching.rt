@@ -2,7 +2,7 @@
 
 ghost use Rattle.std.specs.Prelude.{◌<◌, ◌≤◌, ◌^◌, length};
 
-use crate::sources::{LARGE, NO_FACTS, NOT_EVEN, deep, many, multiplied};
+use crate::sources::{LARGE, NO_FACTS, NOT_EVEN, deep, different, many, multiplied};
 use og_cert_text::{CertFile, write_certs};
 use og_cond::{Condition, conditions};
 use og_find::{Missing, Verdict, examine, find};
@@ -170,6 +170,19 @@ fn made_sources(rt: HostRuntime) -> Result<(), Fail> {
     expect_made(&rt, alloc, multiplied(alloc, 5)?, "toott")?;
     expect_made(&rt, alloc, many(alloc)?, "tftttt")?;
     expect_made(&rt, alloc, deep(alloc)?, "tttftt")
+}
+
+// Numbers that are all different have no values where there is one value less, and else have some.
+#[test]
+fn different_numbers(rt: HostRuntime) -> Result<(), Fail> {
+    let alloc = rt.alloc();
+    for values in 1..8 {
+        expect_made(&rt, alloc, different(alloc, values + 1, values)?, "tttt")?;
+    }
+    for values in 1..7 {
+        expect_made(&rt, alloc, different(alloc, values, values)?, "tftt")?;
+    }
+    Ok(())
 }
 
 // How many conditions there are, and whether all are certified.

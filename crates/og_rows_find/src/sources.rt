@@ -60,3 +60,40 @@ pub(crate) fn deep(alloc: Global) -> Result<String, AllocError> {
     ]
     .concat(alloc)
 }
+
+// Adds a number from 1 to a value that differs from those before it: its name, and what is said of
+// it.
+fn put_number(
+    alloc: Global,
+    names: &mut String,
+    facts: &mut String,
+    number: usize,
+    values: usize,
+) -> Result<(), AllocError> {
+    let (comma, and) = match number {
+        0 => ("var ", ""),
+        _ => (", ", " and "),
+    };
+    names.push_str(format!(in alloc; "{comma}v{number}")?.as_str())?;
+    facts.push_str(format!(in alloc; "{and}v{number} >= 1 and v{number} <= {values}")?.as_str())?;
+    for other in 0..number {
+        facts.push_str(format!(in alloc; " and v{number} <> v{other}")?.as_str())?;
+    }
+    Ok(())
+}
+
+// So many numbers from 1 to a value that are all different, and then false.
+pub(crate) fn different(
+    alloc: Global,
+    numbers: usize,
+    values: usize,
+) -> Result<String, AllocError> {
+    let mut names = String::new(alloc);
+    let mut facts = String::new(alloc);
+    for number in 0..numbers {
+        put_number(alloc, &mut names, &mut facts, number, values)?;
+    }
+    let begin = ";\n{false}\ncobegin\n{";
+    let end = "} skip {false}\ncoend\n{false}\n";
+    [names.as_str(), begin, facts.as_str(), end].concat(alloc)
+}

@@ -15,6 +15,6 @@ returns-clause-gathered g c =
     let count = c.len-lead.ensures in
     let whole = c.args.shapes.leaders.ok.0 in
     let len : c.len-lead.result ≡ length leaders = omega (arith, count, whole) in
-    let tried = subst (λ vs. AreTried cs vs c.deref-3.result.now own) c.deref-2.ensures.value c.in_ok-own.ensures.answers.1 in
-    let all = subst (λ fs. AreTried cs verdicts fs own) c.deref-3.ensures.value tried in
-    c.in_ok-gathered.ensures cs (of_leaders cs leaders verdicts c.len-lead.result searched len) (subst (λ fs. AreTried cs verdicts fs own) (sym c.deref-4.ensures.value) all)
+    let tried = subst (λ vs. AreTried cs vs c.deref-4.result.now own) c.deref-3.ensures.value c.in_ok-own.ensures.answers.1 in
+    let all = subst (λ fs. AreTried cs verdicts fs own) c.deref-4.ensures.value tried in
+    c.in_ok-gathered.ensures cs (of_leaders cs leaders verdicts c.len-lead.result searched len) (subst (λ fs. AreTried cs verdicts fs own) (sym c.deref-5.ensures.value) all)

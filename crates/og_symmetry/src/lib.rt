@@ -1,0 +1,15 @@
+//! Certificates that are carried over to facts in which variables are exchanged.
+//!
+//! In an outline of like processes the facts of a condition are often those of another one with two
+//! processes exchanged, in another order. No contract promises anything of what is carried over: it
+//! is safe and ends, and `og_find` replays it before it hands it out.
+#![tactic(auto)]
+
+mod carrying;
+mod comparing;
+mod lost;
+mod marks;
+mod places;
+mod renaming;
+
+pub use carrying::carried;
