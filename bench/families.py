@@ -8,9 +8,10 @@ Runs `PROGRAM find` by one worker on outlines of rising sizes, one family after 
 other, made in FOLDER (a temporary one by default), and prints a table: the conditions, how many have
 a certificate, processor seconds of `find`, the bytes of its certificates in version 2 for each
 condition, those of `check`, and the processor seconds of z3 (by default the one on the path)
-on the same facts, with how many times as long that is as either. A family ends after `find` or z3 took longer than SECONDS (60 by
-default). The second form prints one outline. PROGRAM is crates/og/out/og after `rt run` in
-crates/og.
+on the same facts, with how many times as long that is as either. Each time is the least of three
+runs, or that of one run of 3 seconds or more. A family ends after `find` or z3 took longer than
+SECONDS (60 by default). The second form prints one outline. PROGRAM is crates/og/out/og after
+`rt run` in crates/og.
 """
 
 import argparse
@@ -172,19 +173,28 @@ def run(words):
     return usage.ru_utime + usage.ru_stime, text
 
 
+def least(words):
+    """The least processor seconds of three runs, or of one that takes 3 seconds or more, and what it printed."""
+    seconds, text = run(words)
+    for _ in range(2):
+        if seconds < 3:
+            seconds = min(seconds, run(words)[0])
+    return seconds, text
+
+
 def measure(program, z3, folder, name, path):
     """Prints the row of one outline. The longer of both times."""
     listing = run([program, "conditions", path])[1]
     count = listing.count("cond ")
-    ours, found = run([program, "find", path, "--workers", "1"])
+    ours, found = least([program, "find", path, "--workers", "1"])
     certs = write(folder, "made.cert", found)
     short = run([program, "migrate", certs])[1]
-    checking = run([program, "check", path, certs])[0]
+    checking = least([program, "check", path, certs])[0]
     row = [name, str(count), str(headers(found)), "%.2f s" % ours, "%.0f" % (len(short) / count),
            "%.2f s" % checking]
     theirs = 0.0
     if z3:
-        theirs, answers = run([z3, write(folder, "asked.smt2", text_for_z3(listing))])
+        theirs, answers = least([z3, write(folder, "asked.smt2", text_for_z3(listing))])
         row += [str(answers.split().count("unsat")), "%.2f s" % theirs,
                 "%.0f" % (theirs / max(ours, 0.001)), "%.0f" % (theirs / max(checking, 0.001))]
     print("| %s |" % " | ".join(row), flush=True)
