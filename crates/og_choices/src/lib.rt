@@ -5,6 +5,7 @@
 
 mod chains;
 mod clash;
+mod denial;
 mod index;
 mod likeness;
 mod open;
@@ -12,6 +13,7 @@ mod part;
 
 pub use chains::Chains;
 pub use clash::{Against, Clash, Facts, Reach};
+pub use denial::{Denials, denied_choice, is_denied, refuted_by};
 pub use index::Index;
 pub use open::{Candidate, Common, Open, View, all_hold, common_to_choice, forced, weight};
 pub use part::{Atom, Choice, Part};

@@ -65,7 +65,7 @@ fn direction_of_row(form: &Inequality) -> Option<u128> {
 
 impl Atom {
     /// Whether the terms of the two are opposite, and their sum is above 0.
-    pub(crate) fn is_at_odds(&self, other: &Atom) -> bool {
+    pub fn is_at_odds(&self, other: &Atom) -> bool {
         let sum = self.form.constant.checked_add(other.form.constant);
         matches!(sum, Some(sum) if sum > 0) && self.form.is_opposite(&other.form)
     }

@@ -1,5 +1,5 @@
 -- The text of the certificates that are found.
-use Rattle.std.specs.Prelude.{◌≡◌, ℕ, zero, suc, ◌+◌, List, [], ◌∷◌, ◌++◌, length, true, Option, Some, None, slice_get}
+use Rattle.std.specs.Prelude.{◌≡◌, ℕ, zero, suc, ◌+◌, List, [], ◌∷◌, ◌++◌, length, Option, Some, None, slice_get}
 use Rattle.std.specs.Global.{Vec}
 use Rattle.og_cert_text.specs.Tree.{Cert}
 use Rattle.og_cert_text.specs.Plain.{plain_cert}

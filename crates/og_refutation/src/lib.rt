@@ -4,12 +4,14 @@
 //! No contract promises anything of them: `og_find` checks a certificate before it hands it out.
 #![tactic(auto)]
 
+mod denying;
 mod fault;
 mod leaves;
 mod numbering;
 mod proof;
 mod sight;
 
+pub use denying::{Placed, denial};
 pub use fault::Unwritten;
 pub use leaves::leaf;
 pub use numbering::certificate;

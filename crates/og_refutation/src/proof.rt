@@ -189,6 +189,19 @@ impl Tree {
         Ok(forms)
     }
 
+    /// The size of all leaves.
+    #[cycle(leaves)]
+    pub fn size_of_leaves(&self) -> u64 {
+        match self {
+            Tree::Leaf { .. } => self.size(),
+            Tree::Split { cases, .. } => size_of_cases(cases),
+            Tree::Branch(sides) => {
+                let first = sides.first.size_of_leaves();
+                first.saturating_add(sides.second.size_of_leaves())
+            }
+        }
+    }
+
     /// The size of a leaf: its lines and multiples, and four for itself; 0 for other trees.
     pub fn size(&self) -> u64 {
         match self {
@@ -198,4 +211,14 @@ impl Tree {
             _ => 0,
         }
     }
+}
+
+// The size of all leaves of the cases.
+#[cycle(leaves)]
+fn size_of_cases(cases: &[Case]) -> u64 {
+    let mut size = 0u64;
+    for case in cases {
+        size = size.saturating_add(case.tree.size_of_leaves());
+    }
+    size
 }

@@ -2,13 +2,13 @@
 
 use crate::stop::{Halt, Stop};
 use og_choices::{
-    Against, Atom, Chains, Choice, Clash, Facts, Index, Open, Part, Reach, View, all_hold,
-    common_to_choice, forced, weight,
+    Against, Atom, Chains, Choice, Clash, Denials, Facts, Index, Open, Part, Reach, View, all_hold,
+    common_to_choice, forced, refuted_by, weight,
 };
 use og_elimination::{Gap, Outcome, Problem, Ranges, close_within, eliminate, narrow, note_bound};
 use og_inequalities::{Added, Bounds, Inequality, Levels, Model, Place, Rows, TOP, Term};
 use og_pigeons::{Crowd, Move, look, weight_of_pairs};
-use og_refutation::{Case, Lifted, Proof, Sides, Tree, closing, leaf};
+use og_refutation::{Case, Lifted, Placed, Proof, Sides, Tree, closing, denial, leaf};
 use std::alloc::{AllocError, Global};
 
 /// Below this level a choice is taken only where it is false of the values.
@@ -27,8 +27,14 @@ const LIFT_LEVEL: u32 = 130;
 /// so that levels are left to refute them.
 const CROWD_LEVEL: u32 = 100;
 
+/// The most facts of a part that is held against the choices of the condition.
+const DENIAL_LIMIT: usize = 64;
+
+/// The lowest level at which one is.
+const DENIAL_LEVEL: u32 = 180;
+
 /// The greatest size of a refutation, over all its leaves: more takes too much memory.
-const MOST: u64 = 1_200_000;
+const MOST: u64 = 2_400_000;
 
 // The facts with which a level begins.
 #[derive(Drop)]
@@ -81,6 +87,7 @@ pub(crate) struct Search<'a> {
     // The facts of the condition, and the numbers of its inequalities by their directions.
     facts: &'a Part,
     directions: Chains,
+    denials: Denials,
     // The place of an own fact that closed a part, the last one of several in order.
     near: usize,
     // The choice to be taken next, whatever the values.
@@ -138,6 +145,7 @@ impl<'a> Search<'a> {
             model: Model::new(alloc, variables as usize)?,
             facts,
             directions: facts.directions()?,
+            denials: Denials::new(alloc, &facts.choices)?,
             near: 0,
             next: None,
             lifted: Vec::new(alloc),
@@ -612,11 +620,43 @@ impl<'a> Search<'a> {
         }))
     }
 
+    // The choice of the condition each of whose parts is at odds with the facts of a part, by
+    // themselves: most often the same conjunct of a hypothesis.
+    fn denying(&mut self, part: &Part) -> Result<Option<&'a Choice>, Stop> {
+        let choices = &self.facts.choices;
+        if let Some(choice) = self.denials.opposite(choices, part) {
+            return Ok(Some(choice));
+        }
+        let pairs = choices.len().saturating_mul(part.size());
+        self.rows.spend((pairs / 10_000) as u64)?;
+        Ok(refuted_by(choices, part))
+    }
+
+    // The refutation of a part at this level by such a choice.
+    fn deny(&mut self, part: &Part, level: u32) -> Result<Option<Proof>, Stop> {
+        if level < DENIAL_LEVEL || part.size() > DENIAL_LIMIT {
+            return Ok(None);
+        }
+        let Some(choice) = self.denying(part)? else {
+            return Ok(None);
+        };
+        let Some(proof) = denial(self.alloc, choice, Placed { part, level })? else {
+            return Ok(None);
+        };
+        self.rows.spend(1)?;
+        let room = self.room.checked_sub(proof.tree.size_of_leaves());
+        self.room = room.ok_or(Stop::Size)?;
+        Ok(Some(proof))
+    }
+
     // Refutes a part: at once, or by a level of its own.
     #[cycle(search)]
     fn refute_part(&mut self, part: &'a Part, level: u32, bounds: &Bounds) -> Result<Proof, Stop> {
         let reach = Reach::of_level(level.saturating_add(1));
         if let Some(proof) = self.at_once(part, level, bounds, reach)? {
+            return Ok(proof);
+        }
+        if let Some(proof) = self.deny(part, level)? {
             return Ok(proof);
         }
         self.at_level(level, Entry::Part(part), bounds)

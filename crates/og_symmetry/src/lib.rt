@@ -6,7 +6,9 @@
 #![tactic(auto)]
 
 mod carrying;
+mod colors;
 mod comparing;
+mod counterparts;
 mod lost;
 mod marks;
 mod places;

@@ -1,5 +1,6 @@
 //! Variables that stand for others.
 
+use crate::marks::mixed;
 use og_linear::Form;
 use std::alloc::{AllocError, Global};
 
@@ -33,6 +34,15 @@ fn at(list: &[u32], var: u32) -> u32 {
 }
 
 impl Renaming {
+    /// A label for each variable, and for those that stand for others the labels of these.
+    pub(crate) fn labels(&self, alloc: Global) -> Result<Vec<u128>, AllocError> {
+        let mut labels = Vec::with_capacity(alloc, self.names.len())?;
+        for name in &self.names {
+            labels.push(mixed(0, u128::from(*name)))?;
+        }
+        Ok(labels)
+    }
+
     /// Each of so many variables stands for itself.
     pub(crate) fn none(alloc: Global, variables: u32) -> Result<Renaming, AllocError> {
         Ok(Renaming {

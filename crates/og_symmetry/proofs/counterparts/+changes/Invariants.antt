@@ -1,5 +1,5 @@
 use Rattle.std.proofs.Common.{◌+◌, ◌*◌}
-use Rattle.og_symmetry.proofs.marks.+changes.Given as goal
+use Rattle.og_symmetry.proofs.counterparts.+changes.Given as goal
 
 abbrev pub decreases-changes_fact : goal.decreases-changes_fact
 decreases-changes_fact l = 3 * l.depth

@@ -1,0 +1,159 @@
+//! Variables that are alike: color refinement.
+//!
+//! At first all variables of a list of facts have the same color. Then each gets a new one, some times,
+//! by what stands round it: the facts in which it occurs, with the colors of their variables. A
+//! variable and one of another list that stand for one another have the same color at the end.
+
+use crate::marks::{NESTING_LIMIT, atom_mark, fact_mark, label, mixed, part_mark};
+use crate::renaming::Renaming;
+use og_facts::{Atom, Fact};
+use std::alloc::{AllocError, Global};
+
+/// How often each variable gets a new color: the first time by what is said of it alone, then by the
+/// variables that stand with it.
+const ROUNDS: usize = 2;
+
+/// The first color.
+const FIRST: u128 = 1;
+
+/// New colors of variables, which grow while the facts are gone through.
+#[derive(Drop)]
+struct Refiner<'a> {
+    // The colors before.
+    colors: &'a [u128],
+    next: Vec<u128>,
+}
+
+impl Refiner<'_> {
+    // Adds to the color of a variable.
+    fn add(&mut self, var: u32, more: u128) {
+        if let Some(color) = self.next.get_mut(var as usize) {
+            *color = color.wrapping_add(more);
+        }
+    }
+
+    // Adds to the colors of the variables of an inequality that stands in what has this mark.
+    fn add_atom(&mut self, atom: &Atom, around: u128) {
+        let mark = mixed(around, atom_mark(self.colors, atom));
+        for i in 0..usize::MAX {
+            let Some((var, coefficient)) = atom.term(i) else {
+                break;
+            };
+            self.add(var, mixed(mark, coefficient.cast_unsigned()));
+        }
+    }
+
+    #[cycle(refining)]
+    fn add_fact(&mut self, fact: &Fact, around: u128, depth: u32) {
+        match fact {
+            Fact::Atom(atom) => self.add_atom(atom, around),
+            Fact::Split(parts) => {
+                if let Some(below) = depth.checked_sub(1) {
+                    self.add_parts(parts, around, below);
+                }
+            }
+        }
+    }
+
+    #[cycle(refining)]
+    fn add_parts(&mut self, parts: &[Vec<Fact>], around: u128, depth: u32) {
+        for part in parts {
+            self.add_part(part, around, depth);
+        }
+    }
+
+    #[cycle(refining)]
+    fn add_part(&mut self, part: &[Fact], around: u128, depth: u32) {
+        for fact in part {
+            self.add_fact(fact, around, depth);
+        }
+    }
+
+    // Adds what each of these facts tells.
+    fn add_facts(&mut self, facts: &[Fact]) {
+        for fact in facts {
+            let around = fact_mark(self.colors, fact, NESTING_LIMIT);
+            self.add_fact(fact, around, NESTING_LIMIT);
+        }
+    }
+
+    // Adds what the facts of each part tell together.
+    fn add_each(&mut self, parts: &[Vec<Fact>]) {
+        for part in parts {
+            let around = part_mark(self.colors, part, NESTING_LIMIT);
+            self.add_part(part, around, NESTING_LIMIT);
+        }
+    }
+
+    // Adds what the facts of a list tell, and each part of a choice that is the last one, as that of a
+    // goal is.
+    fn add_list(&mut self, list: &[Fact]) {
+        match list.split_last() {
+            Some((Fact::Split(parts), first)) => {
+                self.add_facts(first);
+                self.add_each(parts);
+            }
+            _ => self.add_facts(list),
+        }
+    }
+}
+
+// The colors after one round more.
+fn refined(alloc: Global, list: &[Fact], colors: &[u128]) -> Result<Vec<u128>, AllocError> {
+    let mut next = Vec::with_capacity(alloc, colors.len())?;
+    for color in colors {
+        next.push(mixed(FIRST, *color))?;
+    }
+    let mut refiner = Refiner { colors, next };
+    refiner.add_list(list);
+    Ok(refiner.next)
+}
+
+// The colors of so many variables in the list.
+fn colors_of(alloc: Global, list: &[Fact], variables: u32) -> Result<Vec<u128>, AllocError> {
+    let mut colors = vec![in alloc; FIRST; variables as usize]?;
+    for _ in 0..ROUNDS {
+        colors = refined(alloc, list, &colors)?;
+    }
+    Ok(colors)
+}
+
+// The variables that do not have the same color in both lists, each behind its color in this one, in
+// order.
+fn by_color(alloc: Global, own: &[u128], other: &[u128]) -> Result<Vec<(u128, u32)>, AllocError> {
+    let mut variables = Vec::new(alloc);
+    for place in 0..own.len() {
+        if let Ok(var) = u32::try_from(place) {
+            if own[place] != label(other, var) {
+                variables.push((own[place], var))?;
+            }
+        }
+    }
+    variables.sort_unstable();
+    Ok(variables)
+}
+
+/// Which variables of one list of facts, of so many, stand for those of another one, by their colors:
+/// those of one color in the order of their numbers.
+///
+/// # Errors
+///
+/// `AllocError` where an allocation was refused.
+pub(crate) fn renamed_by_color(
+    alloc: Global,
+    from: &[Fact],
+    to: &[Fact],
+    variables: u32,
+) -> Result<Renaming, AllocError> {
+    let own = colors_of(alloc, from, variables)?;
+    let other = colors_of(alloc, to, variables)?;
+    let first = by_color(alloc, &own, &other)?;
+    let second = by_color(alloc, &other, &own)?;
+    let mut renaming = Renaming::none(alloc, variables)?;
+    for ((color, var), (same, name)) in first.iter().zip(&second) {
+        if color == same {
+            renaming.note(*var, *name);
+        }
+    }
+    Ok(renaming)
+}
