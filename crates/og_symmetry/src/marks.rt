@@ -9,7 +9,7 @@ pub(crate) const NESTING_LIMIT: u32 = 200;
 /// The mark of nothing.
 const START: u128 = 0x6c62_272e_07bb_0142_62b8_2175_6295_c58d;
 
-/// An odd number with as many zeros as ones.
+/// An odd number, about half of whose bits are ones.
 const MULTIPLIER: u128 = 0x2360_ed05_1fc6_5da4_4385_df64_9fcc_f645;
 
 /// The two numbers mixed, so that sums of such numbers tell what was mixed.
