@@ -23,6 +23,11 @@ fn mark_terms_of(mark: u128, atom: &Atom) -> u128 {
     next_mark(mark, if is_turned { !direction } else { direction })
 }
 
+/// A number that is the same for equal inequalities, wherever they stand.
+pub fn mark_of_atom(atom: &Atom) -> u128 {
+    mark_terms_of(next_mark(2, atom.form.constant.cast_unsigned()), atom)
+}
+
 fn mark_atoms(mark: u128, atoms: &[Atom]) -> u128 {
     let mut next = next_mark(mark, atoms.len() as u128);
     for atom in atoms {

@@ -1,19 +1,22 @@
 //! The choices that are open on the path of a search, and which of them is taken next.
 
-use crate::part::{Atom, Known, Part, some_follows, ways, width};
+use crate::part::{Atom, Choice, Known, Part, some_follows, ways, width};
 use og_inequalities::{Bounds, Inequality, Model, Place, Rows};
 use std::alloc::{AllocError, Global};
 
 /// The most parts of a choice that is looked into.
 const LOOK_LIMIT: usize = 32;
 
-/// A choice among the facts on the path.
+/// A choice among the facts on the path: its parts, and how many facts are looked at in them; the
+/// choice itself, and without what others have too, if it is one of these.
 #[derive(Clone, Copy)]
 pub struct Open<'a> {
     pub place: Place,
     pub parts: &'a [Part],
     pub size: usize,
     pub is_taken: bool,
+    choice: &'a Choice,
+    rest: Option<&'a Choice>,
 }
 
 /// An inequality that all parts of a choice imply, and the number of the choice.
@@ -30,12 +33,45 @@ pub struct Candidate {
     pub ways: usize,
 }
 
-impl Open<'_> {
+impl<'a> Open<'a> {
+    /// A choice that is not taken, at this place.
+    pub fn new(place: Place, choice: &'a Choice, rest: Option<&'a Choice>) -> Open<'a> {
+        Open {
+            place,
+            parts: &choice.parts,
+            size: choice.size,
+            is_taken: false,
+            choice,
+            rest,
+        }
+    }
+
+    /// Whether it has facts in common with others.
+    pub fn is_sharing(&self) -> bool {
+        self.rest.is_some()
+    }
+
+    /// From now on its facts in common with others are looked at or not.
+    pub fn set_whole(&mut self, is_whole: bool) {
+        let choice = if is_whole {
+            self.choice
+        } else {
+            self.rest.unwrap_or(self.choice)
+        };
+        self.parts = &choice.parts;
+        self.size = choice.size;
+    }
+
+    // Whether all facts of some part are true by what is known.
+    fn follows(&self, known: Known) -> bool {
+        some_follows(&self.choice.parts, known)
+    }
+
     // Whether the choice is open, and not true of the values if there are some.
     fn is_wanted(&self, model: Option<&Model>) -> bool {
         match model {
             _ if self.is_taken => false,
-            Some(model) => !some_follows(self.parts, Known::Values(model)),
+            Some(model) => !self.follows(Known::Values(model)),
             None => true,
         }
     }
@@ -70,7 +106,7 @@ pub fn forced(open: &[Open], bounds: &Bounds, model: Option<&Model>) -> Option<u
             return Some(i);
         }
         if left == 1 && single.is_none() {
-            let is_known = model.is_none() && some_follows(one.parts, Known::Bounds(bounds));
+            let is_known = model.is_none() && one.follows(Known::Bounds(bounds));
             if !is_known {
                 single = Some(i);
             }

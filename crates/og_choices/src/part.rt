@@ -146,6 +146,25 @@ impl Part {
         size
     }
 
+    /// How many facts it holds, with those in the parts of choices.
+    pub fn size_of_facts(&self) -> usize {
+        let mut size = self.atoms.len();
+        for choice in &self.choices {
+            size = size.saturating_add(choice.size).saturating_add(1);
+        }
+        size
+    }
+
+    /// A part of as many facts, of which it holds these.
+    pub fn with_facts(&self, atoms: Vec<Atom>, choices: Vec<Choice>) -> Part {
+        Part {
+            alloc: self.alloc,
+            atoms,
+            choices,
+            count: self.count,
+        }
+    }
+
     /// Whether one of its inequalities is at odds with this one.
     pub(crate) fn is_at_odds(&self, atom: &Atom) -> bool {
         self.atoms.iter().any(|own| own.is_at_odds(atom))

@@ -6,6 +6,7 @@ ghost use Rattle.og_cond.specs.Seen.{seen};
 ghost use Rattle.og_cert_text.specs.Plain.{plain_cert};
 ghost use Rattle.og_find.specs.Found.{Certifies, Closes, IsFollowed, IsFollowedOn, IsModel, IsVerdict, IsVerdictOn};
 
+use crate::leaders::{Leader, Leaders};
 use crate::reading::part_of;
 use crate::truth::{NESTING_LIMIT, all_true};
 use crate::verdict::{Followed, Verdict};
@@ -14,7 +15,6 @@ use og_cond::Condition;
 use og_facts::{FactList, FactsError, facts};
 use og_linear::State;
 use og_search::{Claim, Model, Part, search_among};
-use og_symmetry::carried;
 use og_values::Values;
 use std::alloc::{AllocError, Global};
 
@@ -120,22 +120,17 @@ pub fn examine(alloc: Global, condition: &Condition, budget: u64) -> Result<Verd
     }
 }
 
-// The certificate of a condition of which another one differs in the names of variables, carried over
-// to the facts of that other one, if it closes them.
-fn carried_over(
+// The certificate of the leader of a condition with these facts, carried over to them, if it closes
+// them.
+fn carried_over<'c>(
     alloc: Global,
     list: &FactList,
-    leader: &Condition,
-    cert: &Cert,
+    leader: Leader<'_, 'c>,
+    leaders: &mut Leaders<'c>,
 ) -> Result<Option<Cert>, AllocError>
     ensures { IfOk result (λ some. IfSome some (λ own. Closes list.now (plain_cert own))) }
 {
-    let from = match facts(alloc, leader) {
-        Ok(from) => from,
-        Err(FactsError::Memory) => return Err(AllocError),
-        Err(FactsError::Fault(_)) => return Ok(None),
-    };
-    match carried(alloc, cert, &from, list)? {
+    match leaders.carried(alloc, leader, list)? {
         Some(own) => {
             if is_closing(alloc, list, &own)? {
                 return Ok(Some(own));
@@ -147,19 +142,19 @@ fn carried_over(
 }
 
 // What is told of a condition with these facts after the certificate of its leader.
-fn follow_facts(
+fn follow_facts<'c>(
     alloc: Global,
     list: &FactList,
-    leader: &Condition,
-    cert: &Cert,
+    leader: Leader<'_, 'c>,
+    leaders: &mut Leaders<'c>,
     budget: u64,
 ) -> Result<Followed, AllocError>
-    ensures { IfOk result (IsFollowedOn list.now (plain_cert cert.now)) }
+    ensures { IfOk result (IsFollowedOn list.now (plain_cert leader.entry.cert.now)) }
 {
-    if is_closing(alloc, list, cert)? {
+    if is_closing(alloc, list, leader.cert)? {
         return Ok(Followed::Shares);
     }
-    if let Some(own) = carried_over(alloc, list, leader, cert)? {
+    if let Some(own) = carried_over(alloc, list, leader, leaders)? {
         return Ok(Followed::Own(Verdict::True(own)));
     }
     let part = part_of(alloc, list)?;
@@ -169,23 +164,25 @@ fn follow_facts(
 /// What is told of a condition after the certificate of its leader, another condition, from which it
 /// may differ in the names of variables alone: whether the same certificate is one of its own, and
 /// else its verdict, by that certificate with variables exchanged, or by a search within the budget.
+/// The facts of the leader are made where they are not among those of `leaders`, which has those of
+/// other leaders under other numbers.
 ///
 /// The answer is the same each time.
 ///
 /// # Errors
 ///
 /// `AllocError` where an allocation was refused.
-pub fn follow(
+pub fn follow<'c>(
     alloc: Global,
     condition: &Condition,
-    leader: &Condition,
-    cert: &Cert,
+    leader: Leader<'_, 'c>,
+    leaders: &mut Leaders<'c>,
     budget: u64,
 ) -> Result<Followed, AllocError>
-    ensures { IfOk result (IsFollowed (seen condition.now) (plain_cert cert.now)) }
+    ensures { IfOk result (IsFollowed (seen condition.now) (plain_cert leader.entry.cert.now)) }
 {
     match facts(alloc, condition) {
-        Ok(list) => follow_facts(alloc, &list, leader, cert, budget),
+        Ok(list) => follow_facts(alloc, &list, leader, leaders, budget),
         Err(FactsError::Memory) => Err(AllocError),
         Err(FactsError::Fault(_)) => Ok(Followed::Own(Verdict::Open)),
     }

@@ -7,6 +7,7 @@
 mod counting;
 mod finding;
 mod kinds;
+mod leaders;
 mod marking;
 mod reading;
 mod truth;
@@ -15,6 +16,7 @@ mod verdict;
 pub use counting::Missing;
 pub use finding::{examine, find, follow, is_verdict};
 pub use kinds::kind;
+pub use leaders::{Leader, Leaders};
 pub use marking::{Marks, mark};
 pub use og_cert::Cert;
 pub use reading::has_equal_facts;

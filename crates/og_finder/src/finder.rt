@@ -13,7 +13,7 @@ use crate::findings::Findings;
 use crate::following::{Following, Trial};
 use crate::gathering::Gathered;
 use crate::groups::grouped;
-use crate::leading::{Shapes, by_shape};
+use crate::leading::{Follower, Shapes, by_shape};
 use crate::marking::Marking;
 use crate::searching::Searching;
 use og_cert_text::CertFile;
@@ -34,23 +34,19 @@ struct Search<'a, 'c, G> {
 }
 
 impl<'a, 'c, G: Gate> Search<'a, 'c, G> {
-    // What is found of the leaders, and then of the others for which that does not hold.
-    fn gathered<R: Threads + Wait + Sync>(
+    // What is found of the leaders.
+    fn led<R: Threads + Wait + Sync>(
         &self,
         rt: &R,
         alloc: Global,
-        shapes: Shapes,
+        leaders: Vec<usize>,
+        places: Vec<Option<usize>>,
     ) -> Result<Gathered, PoolFault>
         requires workers { (0 < self.now.workers) × (self.now.workers ≤ 64) }
-        requires few { vec_len shapes.leaders + vec_len shapes.followers < 2 ^ 32 }
+        requires few { vec_len leaders < 2 ^ 32 }
         ensures gathered { IfOk result (λ g. AreKnown (map seen self.now.conditions.now) g.verdicts.items g.known.items) }
         ensures spawn { IfErr result (λ e. e ≡ Spawn → 1 < self.now.workers) }
     {
-        let Shapes {
-            leaders,
-            followers,
-            places,
-        } = shapes;
         let searching = Searching {
             conditions: self.conditions,
             indices: &leaders,
@@ -59,22 +55,70 @@ impl<'a, 'c, G: Gate> Search<'a, 'c, G> {
         };
         let lead = leaders.len() as u32;
         let verdicts = answers(rt, alloc, &searching, lead, self.workers)?;
+        let count = self.conditions.len();
+        let gathered = Gathered::new(alloc, count, leaders, verdicts, places)?;
+        Ok(gathered)
+    }
+
+    // What is found of followers after what was found of their leaders. So many were looked at before.
+    fn follow<R: Threads + Wait + Sync>(
+        &self,
+        rt: &R,
+        alloc: Global,
+        leaders: Gathered,
+        followers: &[Follower],
+        before: u32,
+    ) -> Result<Gathered, PoolFault>
+        requires workers { (0 < self.now.workers) × (self.now.workers ≤ 64) }
+        requires few { length followers.now < 2 ^ 32 }
+        ensures gathered { IfOk result (λ g. AreKnown (map seen self.now.conditions.now) leaders.verdicts.items leaders.known.items
+            → AreKnown (map seen self.now.conditions.now) g.verdicts.items g.known.items) }
+        ensures spawn { IfErr result (λ e. e ≡ Spawn → 1 < self.now.workers) }
+    {
+        let mut gathered = leaders;
         let trial = Trial {
             conditions: self.conditions,
-            leaders: &leaders,
-            verdicts: &verdicts,
+            leaders: &gathered.firsts,
+            verdicts: &gathered.verdicts,
             budget: self.budget,
         };
         let following = Following {
+            alloc,
             trial,
-            followers: &followers,
-            leaders: lead,
+            followers,
+            before,
             gate: self.gate,
         };
-        let follow = followers.len() as u32;
-        let own = answers(rt, alloc, &following, follow, self.workers)?;
-        let count = self.conditions.len();
-        let gathered = Gathered::new(alloc, count, leaders, verdicts, &followers, own, places)?;
+        let count = followers.len() as u32;
+        let own = answers(rt, alloc, &following, count, self.workers)?;
+        gathered.follow(followers, own)?;
+        Ok(gathered)
+    }
+
+    // What is found of the leaders of kinds, then of those of the other shapes, and then of all others.
+    fn gathered<R: Threads + Wait + Sync>(
+        &self,
+        rt: &R,
+        alloc: Global,
+        shapes: Shapes,
+    ) -> Result<Gathered, PoolFault>
+        requires workers { (0 < self.now.workers) × (self.now.workers ≤ 64) }
+        requires few { vec_len shapes.leaders + vec_len shapes.heirs + vec_len shapes.others < 2 ^ 32 }
+        ensures gathered { IfOk result (λ g. AreKnown (map seen self.now.conditions.now) g.verdicts.items g.known.items) }
+        ensures spawn { IfErr result (λ e. e ≡ Spawn → 1 < self.now.workers) }
+    {
+        let Shapes {
+            leaders,
+            heirs,
+            others,
+            places,
+        } = shapes;
+        let lead = leaders.len() as u32;
+        let first = lead.saturating_add(heirs.len() as u32);
+        let led = self.led(rt, alloc, leaders, places)?;
+        let inherited = self.follow(rt, alloc, led, &heirs, lead)?;
+        let followers = inherited.placed(alloc, &others)?;
+        let gathered = self.follow(rt, alloc, inherited, &followers, first)?;
         Ok(gathered)
     }
 }

@@ -8,7 +8,7 @@ ghost use Rattle.og_finder.specs.Findings.{IsTried, IsOwnOrLed};
 use crate::leading::Follower;
 use og_cond::Condition;
 use og_draws::Numbered;
-use og_find::{Cert, Followed, Verdict, examine, follow};
+use og_find::{Followed, Leader, Leaders, Verdict, examine, follow};
 use og_pool::Gate;
 use std::alloc::{AllocError, Global};
 
@@ -23,14 +23,18 @@ pub(crate) struct Trial<'a, 'c> {
     pub(crate) budget: u64,
 }
 
-impl Trial<'_, '_> {
-    // The leader at this place, with its certificate, if it has one.
-    fn leader(&self, place: Option<usize>) -> Option<(&Condition<'_>, &Cert)>
-        ensures { IfSome result (λ leader. IsSomeAnd place (λ p. slice_get self.now.verdicts.now p ≡ Some (verdicts.True leader.1.now))) }
+impl<'c> Trial<'_, 'c> {
+    // The leader at this place, if it has a certificate.
+    fn leader(&self, place: Option<usize>) -> Option<Leader<'_, 'c>>
+        ensures { IfSome result (λ leader. IsSomeAnd place (λ p. slice_get self.now.verdicts.now p ≡ Some (verdicts.True leader.cert.now))) }
     {
-        let place = place?;
-        match self.verdicts.get(place)? {
-            Verdict::True(cert) => Some((self.conditions.get(*self.leaders.get(place)?)?, cert)),
+        let number = place?;
+        match self.verdicts.get(number)? {
+            Verdict::True(cert) => Some(Leader {
+                number,
+                condition: self.conditions.get(*self.leaders.get(number)?)?,
+                cert,
+            }),
             _ => None,
         }
     }
@@ -41,50 +45,58 @@ impl Trial<'_, '_> {
         alloc: Global,
         condition: &Condition,
         place: Option<usize>,
+        leaders: &mut Leaders<'c>,
     ) -> Result<Option<Verdict>, AllocError>
         ensures { IfOk result (λ own. IsOwnOrLed (seen condition.now) self.now.verdicts.now place own) }
     {
-        let Some((leader, cert)) = self.leader(place) else {
+        let Some(leader) = self.leader(place) else {
             return Ok(Some(examine(alloc, condition, self.budget)?));
         };
-        match follow(alloc, condition, leader, cert, self.budget)? {
+        match follow(alloc, condition, leader, leaders, self.budget)? {
             Followed::Shares => Ok(None),
             Followed::Own(own) => Ok(Some(own)),
         }
     }
 
     // The verdict of the follower's own, where it does not share that of its leader.
-    fn own(&self, alloc: Global, follower: Follower) -> Result<Option<Box<Verdict>>, AllocError>
+    fn own(
+        &self,
+        alloc: Global,
+        follower: Follower,
+        leaders: &mut Leaders<'c>,
+    ) -> Result<Option<Box<Verdict>>, AllocError>
         ensures { IfOk result (IsTried (map seen self.now.conditions.now) self.now.verdicts.now follower) }
     {
         let Some(condition) = self.conditions.get(follower.index) else {
             return Ok(Some(Box::new(alloc, Verdict::Open)?));
         };
-        match self.own_of(alloc, condition, follower.leader)? {
+        match self.own_of(alloc, condition, follower.leader, leaders)? {
             Some(own) => Ok(Some(Box::new(alloc, own)?)),
             None => Ok(None),
         }
     }
 }
 
-/// A trial for each follower. A gate is told of each, by its number after those of the leaders.
+/// A trial for each follower. A gate is told of each, by its number after those of others. A worker keeps
+/// the facts of leaders.
 #[derive(Clone, Copy)]
-pub(crate) struct Following<'a, 'c, G> {
+pub(crate) struct Following<'a, 'f, 'c, G> {
+    pub(crate) alloc: Global,
     pub(crate) trial: Trial<'a, 'c>,
-    pub(crate) followers: &'a [Follower],
-    // How many leaders there are.
-    pub(crate) leaders: u32,
+    pub(crate) followers: &'f [Follower],
+    // How many others were looked at before.
+    pub(crate) before: u32,
     pub(crate) gate: &'a G,
 }
 
-impl<'a, 'c, G: Gate> Numbered for Following<'a, 'c, G> {
+impl<'a, 'f, 'c, G: Gate> Numbered for Following<'a, 'f, 'c, G> {
     ghost use Rattle.std.specs.Prelude.{length, map, ⊤};
     ghost use Rattle.og_cond.specs.Seen.{seen};
     ghost use Rattle.og_finder.specs.Findings.{IsTriedOf};
 
     type Answer = Option<Box<Verdict>>;
 
-    type Kept = ();
+    type Kept = Leaders<'c>;
 
     ghost count = { λ f. length f.followers.now };
 
@@ -92,20 +104,22 @@ impl<'a, 'c, G: Gate> Numbered for Following<'a, 'c, G> {
 
     ghost keeps = { λ _ _. ⊤ };
 
-    fn kept(&self) {}
+    fn kept(&self) -> Leaders<'c> {
+        Leaders::new(self.alloc)
+    }
 
     fn answer(
         &self,
         alloc: Global,
         number: u32,
-        _kept: &mut (),
+        leaders: &mut Leaders<'c>,
     ) -> Result<Option<Box<Verdict>>, AllocError> {
         let Some(follower) = self.followers.get(number as usize - 1) else {
             return Ok(None);
         };
-        let task = self.leaders.saturating_add(number);
+        let task = self.before.saturating_add(number);
         self.gate.before(task);
-        let own = self.trial.own(alloc, *follower)?;
+        let own = self.trial.own(alloc, *follower, leaders)?;
         self.gate.after(task);
         Ok(own)
     }

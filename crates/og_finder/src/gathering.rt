@@ -1,12 +1,12 @@
 //! What was found of leaders and of followers, together.
 
-ghost use Rattle.std.specs.Prelude.{◌≡◌, ◌≢◌, ◌<◌, ℕ, List, Option, Some, length, slice_get, OnOk, IfOk};
+ghost use Rattle.std.specs.Prelude.{◌≡◌, ◌≢◌, ◌<◌, ℕ, List, Option, Some, length, slice_get, vec_len, OnOk, IfOk};
 ghost use Rattle.std.specs.Global.{Box};
 ghost use Rattle.og_cond.specs.Condition.{Condition};
 ghost use Rattle.og_find.specs.declared.verdict.Verdict.{Verdict};
 ghost use Rattle.og_finder.specs.Findings.{AreKnown, AreOfFirsts, AreTried, IsKnownAt, IsVerdictAt};
 
-use crate::leading::Follower;
+use crate::leading::{Follower, Waiting};
 use og_find::Verdict;
 use std::alloc::{AllocError, Global};
 
@@ -25,6 +25,15 @@ pub(crate) struct Gathered {
 fn put(places: &mut [Option<usize>], group: usize, place: usize) {
     if let Some(its) = places.get_mut(group) {
         *its = Some(place);
+    }
+}
+
+// Writes the place of its leader for the group of each follower.
+fn put_led(places: &mut [Option<usize>], followers: &[Follower]) {
+    for follower in followers {
+        if let Some(leader) = follower.leader {
+            put(places, follower.group, leader);
+        }
     }
 }
 
@@ -150,31 +159,64 @@ impl Gathered {
         Ok(())
     }
 
-    /// What was found of so many conditions: the verdicts of the leaders, those of the followers' own
-    /// searches, and for each group the place of its leader, which is that of its own verdict where it
-    /// has one.
+    /// What was found of the leaders, of so many conditions; for each group its place among them, if it is
+    /// one.
     pub(crate) fn new(
         alloc: Global,
         count: usize,
         leaders: Vec<usize>,
         verdicts: Vec<Verdict>,
-        followers: &[Follower],
-        own: Vec<Option<Box<Verdict>>>,
         places: Vec<Option<usize>>,
     ) -> Result<Gathered, AllocError>
-        ensures { IfOk result (λ g. (cs : List Condition) → AreOfFirsts cs leaders.items verdicts.items → AreTried cs verdicts.items followers.now own.items
-            → AreKnown cs g.verdicts.items g.known.items) }
+        ensures { IfOk result (λ g. (cs : List Condition) → AreOfFirsts cs leaders.items verdicts.items → AreKnown cs g.verdicts.items g.known.items) }
     {
-        let mut known = known_leaders(alloc, count, &leaders)?;
-        note_led(&mut known, followers, &own);
-        let mut gathered = Gathered {
+        let known = known_leaders(alloc, count, &leaders)?;
+        Ok(Gathered {
             firsts: leaders,
             verdicts,
             places,
             known,
-        };
-        gathered.add_all(followers, own)?;
-        Ok(gathered)
+        })
+    }
+
+    /// Adds what was found of followers after these verdicts: the group of each has the place of its
+    /// leader, or that of its own verdict where it has one.
+    pub(crate) fn follow(
+        &mut self,
+        followers: &[Follower],
+        own: Vec<Option<Box<Verdict>>>,
+    ) -> Result<(), AllocError>
+        ensures { OnOk result ((cs : List Condition) → AreTried cs self.old.verdicts.items followers.now own.items
+            → AreKnown cs self.old.verdicts.items self.old.known.items → AreKnown cs self.new.verdicts.items self.new.known.items) }
+    {
+        put_led(&mut self.places, followers);
+        note_led(&mut self.known, followers, &own);
+        self.add_all(followers, own)?;
+        Ok(())
+    }
+
+    /// Those that waited for the leaders of their shapes, with the places of these.
+    pub(crate) fn placed(
+        &self,
+        alloc: Global,
+        others: &[Waiting],
+    ) -> Result<Vec<Follower>, AllocError>
+        ensures { IfOk result (λ followers. vec_len followers ≡ length others.now) }
+    {
+        let mut followers = Vec::with_capacity(alloc, others.len())?;
+        for place in 0..others.len() {
+            let other = others[place];
+            let leader = match other.leader {
+                Some(group) => self.places.get(group).copied().flatten(),
+                None => None,
+            };
+            followers.push(Follower {
+                index: other.index,
+                group: other.group,
+                leader,
+            })?;
+        }
+        Ok(followers)
     }
 
     /// The place of each condition's verdict, by the group of the condition.

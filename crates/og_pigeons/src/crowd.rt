@@ -1,6 +1,6 @@
 //! Numbers that are all different and one more than they have values, with the facts that say so.
 
-use og_inequalities::{Levels, Place};
+use og_inequalities::{Levels, Place, Side};
 use std::alloc::{AllocError, Global};
 
 /// A number, and the facts that say that it is not below the least value and not above the greatest.
@@ -31,24 +31,41 @@ pub(crate) struct Order {
     pub is_less_first: bool,
 }
 
+/// A fact that is not on the path, and is made above the refutation of the numbers.
+#[derive(Clone, Copy)]
+pub(crate) enum Lack {
+    /// The choice of the orders of two numbers: it stands alone in this part of an open choice, whose
+    /// other parts are false within the bounds.
+    Order { choice: usize, part: usize },
+    /// That the variable is not beyond its values on this side, which the bounds say.
+    Bound { var: u32, side: Side },
+}
+
 /// Numbers that are all different and one more than there are values between the least one and the
-/// greatest.
+/// greatest, and the level below which they are refuted.
 #[derive(Drop)]
 pub struct Crowd {
+    level: u32,
+    least: i128,
+    most: i128,
     members: Vec<Member>,
     // The orders of each number and those before it.
     orders: Vec<Vec<Order>>,
-    least: i128,
+    lacks: Vec<Lack>,
     used: Levels,
 }
 
 impl Crowd {
-    /// No numbers yet. The least value is this one.
-    pub(crate) fn new(alloc: Global, least: i128) -> Crowd {
+    /// No numbers yet. They are refuted below this level, and these are the least value and the
+    /// greatest.
+    pub(crate) fn new(alloc: Global, level: u32, least: i128, most: i128) -> Crowd {
         Crowd {
+            level,
+            least,
+            most,
             members: Vec::new(alloc),
             orders: Vec::new(alloc),
-            least,
+            lacks: Vec::new(alloc),
             used: Levels::NONE,
         }
     }
@@ -68,9 +85,35 @@ impl Crowd {
         self.least
     }
 
-    /// The levels of the facts that say so.
+    /// The greatest value.
+    pub(crate) fn most(&self) -> i128 {
+        self.most
+    }
+
+    /// The facts that are made, in their order.
+    pub(crate) fn lacks(&self) -> &[Lack] {
+        &self.lacks
+    }
+
+    /// The levels of the facts that say so, those that are made among them.
     pub(crate) fn used(&self) -> Levels {
         self.used
+    }
+
+    /// The level at which the fact is made that has this place among them; that below which the numbers
+    /// are refuted, where it is behind the last one. None where there are too few levels.
+    pub(crate) fn level_of(&self, lack: usize) -> Option<u32> {
+        let lack = u32::try_from(lack).ok()?;
+        self.level.checked_sub(lack)?.checked_sub(1)
+    }
+
+    /// Adds a fact to those that are made. Tells where it stands then.
+    pub(crate) fn lack(&mut self, lack: Lack) -> Result<Option<Place>, AllocError> {
+        let Some(level) = self.level_of(self.lacks.len()) else {
+            return Ok(None);
+        };
+        self.lacks.push(lack)?;
+        Ok(Some(Place { level, index: 0 }))
     }
 
     // Notes that a fact at the place is used.

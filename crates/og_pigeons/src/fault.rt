@@ -1,6 +1,7 @@
 //! Why a crowd is not refuted.
 
 use og_inequalities::RowError;
+use og_refutation::Unshown;
 use std::alloc::{AllocError, AllocFailed};
 
 /// Why a crowd is not refuted.
@@ -12,7 +13,7 @@ pub enum Unrefuted {
     Budget,
     /// The refutation is too large.
     Size,
-    /// There are too few levels.
+    /// There are too few levels, or a number is too large.
     Levels,
 }
 
@@ -33,6 +34,16 @@ impl From<RowError> for Unrefuted {
         match error {
             RowError::Memory => Unrefuted::Memory,
             RowError::Budget => Unrefuted::Budget,
+        }
+    }
+}
+
+impl From<Unshown> for Unrefuted {
+    fn from(unshown: Unshown) -> Unrefuted {
+        match unshown {
+            Unshown::Memory => Unrefuted::Memory,
+            Unshown::Budget => Unrefuted::Budget,
+            Unshown::TooLarge => Unrefuted::Levels,
         }
     }
 }

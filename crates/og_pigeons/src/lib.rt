@@ -7,11 +7,12 @@
 mod crowd;
 mod fault;
 mod looking;
+mod making;
 mod numbers;
 mod pairs;
 mod refuter;
 
 pub use crowd::Crowd;
 pub use fault::Unrefuted;
-pub use looking::{Move, look};
+pub use looking::look;
 pub use pairs::weight_of_pairs;

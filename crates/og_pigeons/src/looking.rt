@@ -1,27 +1,14 @@
-//! What is done about a crowd: first its choices and bounds are made facts.
+//! The facts that make up a crowd, those that are on the path and those that it lacks.
 
-use crate::crowd::{Crowd, Member, Order};
+use crate::crowd::{Crowd, Lack, Member, Order};
 use crate::numbers::{Crowded, smallest_crowd};
 use crate::pairs::{Pair, pairs};
 use og_choices::View;
-use og_inequalities::{Inequality, Limit, Origin, Place, Side, Term};
+use og_inequalities::{Inequality, Limit, Origin, Place, Side};
 use std::alloc::{AllocError, Global};
 
 /// The fewest pairs of a crowd.
 const FEWEST: usize = 6;
-
-/// What is done about numbers that are all different and have too few values.
-#[derive(Drop)]
-pub enum Move {
-    /// The search goes into the parts of this choice: one of them is left, and it says that two of
-    /// the numbers differ.
-    Split(usize),
-    /// The search goes into both sides of this form: the first one contradicts a bound of a number,
-    /// which the second makes a fact.
-    Branch(Inequality),
-    /// There is nothing else to be done before they are refuted.
-    Refute(Crowd),
-}
 
 /// A variable, and the facts that say that it is not below the least value and not above the
 /// greatest, as far as there are some.
@@ -32,22 +19,16 @@ struct Bounded {
     most: Option<Place>,
 }
 
-// The first of these pairs that is plain and of the two variables.
-fn plain(pairs: &[Pair], var: u32, other: u32) -> Option<Pair> {
-    let mut both = pairs.iter().filter(|pair| pair.is_of(var, other));
-    both.find(|pair| pair.is_plain).copied()
-}
-
-// The choice of the first of these pairs that is not plain and of two of the variables that have no
-// plain one.
-fn hidden(pairs: &[Pair], variables: &[u32]) -> Option<usize> {
-    for pair in pairs {
-        let is_within = variables.contains(&pair.first) && variables.contains(&pair.second);
-        if is_within && plain(pairs, pair.first, pair.second).is_none() {
-            return Some(pair.choice);
+// The first of these pairs that is plain and of the two variables, else the first that is of them.
+fn pair_of(pairs: &[Pair], var: u32, other: u32) -> Option<Pair> {
+    let mut hidden = None;
+    for pair in pairs.iter().filter(|pair| pair.is_of(var, other)) {
+        if pair.is_plain() {
+            return Some(*pair);
         }
+        hidden = hidden.or(Some(*pair));
     }
-    None
+    hidden
 }
 
 impl Bounded {
@@ -60,22 +41,30 @@ impl Bounded {
         }
     }
 
-    // A side on which there is no fact.
-    fn bare_side(&self) -> Option<Side> {
-        match (self.least, self.most) {
-            (None, _) => Some(Side::Lower),
-            (_, None) => Some(Side::Upper),
-            _ => None,
+    // The fact on this side, which is made if there is none.
+    fn fact(&self, side: Side, crowd: &mut Crowd) -> Result<Option<Place>, AllocError> {
+        let known = match side {
+            Side::Lower => self.least,
+            Side::Upper => self.most,
+        };
+        match known {
+            Some(place) => Ok(Some(place)),
+            None => crowd.lack(Lack::Bound {
+                var: self.var,
+                side,
+            }),
         }
     }
 
     // The number with its facts.
-    fn member(&self) -> Option<Member> {
-        Some(Member {
-            var: self.var,
-            least: self.least?,
-            most: self.most?,
-        })
+    fn member(&self, crowd: &mut Crowd) -> Result<Option<Member>, AllocError> {
+        let least = self.fact(Side::Lower, crowd)?;
+        let most = self.fact(Side::Upper, crowd)?;
+        let var = self.var;
+        match (least, most) {
+            (Some(least), Some(most)) => Ok(Some(Member { var, least, most })),
+            _ => Ok(None),
+        }
     }
 }
 
@@ -113,56 +102,49 @@ fn with_facts(alloc: Global, view: View, crowd: &Crowded) -> Result<Vec<Bounded>
     Ok(bounded)
 }
 
-// The first variable that is not bounded by a fact, and on which side.
-fn bare(bounded: &[Bounded]) -> Option<(u32, Side)> {
-    for one in bounded {
-        if let Some(side) = one.bare_side() {
-            return Some((one.var, side));
-        }
-    }
-    None
-}
-
-// The form that is at most 0 where the variable is beyond the bound on this side.
-fn beyond(
-    alloc: Global,
-    var: u32,
-    side: Side,
-    crowd: &Crowded,
-) -> Result<Option<Inequality>, AllocError> {
-    let (coefficient, constant) = match side {
-        Side::Lower => (1, 1i128.checked_sub(crowd.least)),
-        Side::Upper => (-1, crowd.most.checked_add(1)),
-    };
-    match constant {
-        Some(constant) => {
-            let form = Inequality::single(alloc, Term { var, coefficient }, constant)?;
-            Ok(Some(form))
-        }
-        None => Ok(None),
+// The place of the choice of the two orders, which is made if it is hidden.
+fn place_of(view: View, pair: Pair, crowd: &mut Crowd) -> Result<Option<Place>, AllocError> {
+    let choice = pair.choice;
+    match (pair.left, view.open.get(choice)) {
+        (Some(part), _) => crowd.lack(Lack::Order { choice, part }),
+        (None, Some(open)) => Ok(Some(open.place)),
+        (None, None) => Ok(None),
     }
 }
 
 // The choice that says that the two differ.
-fn order_of(view: View, pairs: &[Pair], var: u32, other: u32) -> Option<Order> {
-    let pair = plain(pairs, var, other)?;
-    Some(Order {
-        choice: view.open.get(pair.choice)?.place,
-        is_less_first: pair.first == var,
-    })
+fn order_of(
+    view: View,
+    pairs: &[Pair],
+    crowd: &mut Crowd,
+    var: u32,
+    other: u32,
+) -> Result<Option<Order>, AllocError> {
+    let Some(pair) = pair_of(pairs, var, other) else {
+        return Ok(None);
+    };
+    let Some(choice) = place_of(view, pair, crowd)? else {
+        return Ok(None);
+    };
+    let is_less_first = pair.first == var;
+    Ok(Some(Order {
+        choice,
+        is_less_first,
+    }))
 }
 
-// The choices that say that a variable differs from others.
+// The choices that say that a variable differs from each number of the crowd.
 fn orders_with(
     alloc: Global,
     view: View,
     pairs: &[Pair],
+    crowd: &mut Crowd,
     var: u32,
-    others: &[Member],
 ) -> Result<Option<Vec<Order>>, AllocError> {
+    let others = crowd.copied_members()?;
     let mut orders = Vec::with_capacity(alloc, others.len())?;
-    for other in others {
-        match order_of(view, pairs, var, other.var) {
+    for other in &others {
+        match order_of(view, pairs, crowd, var, other.var)? {
             Some(order) => orders.push(order)?,
             None => return Ok(None),
         }
@@ -170,18 +152,18 @@ fn orders_with(
     Ok(Some(orders))
 }
 
-// The crowd, with its facts and choices.
+// The numbers with their facts and choices, below this level.
 fn gathered(
     alloc: Global,
     view: View,
     pairs: &[Pair],
-    bounded: &[Bounded],
-    least: i128,
+    crowded: &Crowded,
+    level: u32,
 ) -> Result<Option<Crowd>, AllocError> {
-    let mut crowd = Crowd::new(alloc, least);
-    for one in bounded {
-        let orders = orders_with(alloc, view, pairs, one.var, crowd.members())?;
-        match (one.member(), orders) {
+    let mut crowd = Crowd::new(alloc, level, crowded.least, crowded.most);
+    for one in &with_facts(alloc, view, crowded)? {
+        let orders = orders_with(alloc, view, pairs, &mut crowd, one.var)?;
+        match (one.member(&mut crowd)?, orders) {
             (Some(member), Some(orders)) => crowd.add(member, orders)?,
             _ => return Ok(None),
         }
@@ -189,38 +171,20 @@ fn gathered(
     Ok(Some(crowd))
 }
 
-// What is done about a crowd.
-fn move_for(
-    alloc: Global,
-    view: View,
-    pairs: &[Pair],
-    crowd: &Crowded,
-) -> Result<Option<Move>, AllocError> {
-    if let Some(choice) = hidden(pairs, &crowd.variables) {
-        return Ok(Some(Move::Split(choice)));
-    }
-    let bounded = with_facts(alloc, view, crowd)?;
-    if let Some((var, side)) = bare(&bounded) {
-        let form = beyond(alloc, var, side, crowd)?;
-        return Ok(form.map(Move::Branch));
-    }
-    let crowd = gathered(alloc, view, pairs, &bounded, crowd.least)?;
-    Ok(crowd.map(Move::Refute))
-}
-
-/// What is done about the smallest crowd: numbers that are all different, by open choices, and one
-/// more than they have values within the bounds. None where there is no crowd of 4 to 10 numbers.
+/// The smallest crowd, to be refuted below this level: numbers that are all different, by open choices,
+/// and one more than they have values within the bounds. None where there is no crowd of 4 to 10
+/// numbers, or there are too few levels.
 ///
 /// # Errors
 ///
 /// `AllocError` where an allocation was refused.
-pub fn look(alloc: Global, view: View) -> Result<Option<Move>, AllocError> {
+pub fn look(alloc: Global, view: View, level: u32) -> Result<Option<Crowd>, AllocError> {
     let pairs = pairs(alloc, view.open, view.bounds)?;
     if pairs.len() < FEWEST {
         return Ok(None);
     }
     match smallest_crowd(alloc, &pairs, view.bounds)? {
-        Some(crowd) => move_for(alloc, view, &pairs, &crowd),
+        Some(crowded) => gathered(alloc, view, &pairs, &crowded, level),
         None => Ok(None),
     }
 }

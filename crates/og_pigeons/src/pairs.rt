@@ -16,12 +16,17 @@ pub(crate) struct Pair {
     pub second: u32,
     /// The number of the choice.
     pub choice: usize,
-    /// Whether its parts are the two orders. Else they are those of a choice in the only part that is
-    /// left.
-    pub is_plain: bool,
+    /// Which of its parts is left, where this part is the choice of the two orders. Else its parts are
+    /// the two orders.
+    pub left: Option<usize>,
 }
 
 impl Pair {
+    /// Whether its parts are the two orders.
+    pub(crate) fn is_plain(&self) -> bool {
+        self.left.is_none()
+    }
+
     /// Whether these are the two variables.
     pub(crate) fn is_of(&self, var: u32, other: u32) -> bool {
         self.first == var && self.second == other || self.first == other && self.second == var
@@ -85,8 +90,8 @@ fn is_barred(part: &Part, bounds: &Bounds) -> bool {
     part.atoms.iter().any(|atom| bounds.exclude(&atom.form))
 }
 
-// The variables of such a part, if no other part is left.
-fn left(parts: &[Part], bounds: &Bounds) -> Option<(u32, u32)> {
+// The place of such a part, and its variables, if no other part is left.
+fn left(parts: &[Part], bounds: &Bounds) -> Option<(usize, (u32, u32))> {
     if parts.len() > PARTS_LIMIT {
         return None;
     }
@@ -96,7 +101,7 @@ fn left(parts: &[Part], bounds: &Bounds) -> Option<(u32, u32)> {
             return None;
         }
     }
-    Some(variables)
+    Some((own, variables))
 }
 
 // The variables of which a choice says that they differ.
@@ -109,15 +114,15 @@ fn pair_of(choice: usize, one: &Open, bounds: &Bounds) -> Option<Pair> {
             first,
             second,
             choice,
-            is_plain: true,
+            left: None,
         });
     }
-    let (first, second) = left(one.parts, bounds)?;
+    let (left, (first, second)) = left(one.parts, bounds)?;
     Some(Pair {
         first,
         second,
         choice,
-        is_plain: false,
+        left: Some(left),
     })
 }
 

@@ -6,12 +6,17 @@
 
 use crate::crowd::{Crowd, Member, Order};
 use crate::fault::Unrefuted;
-use og_inequalities::{Inequality, Place, Rows, Term};
+use crate::making::Known;
+use og_choices::Open;
+use og_inequalities::{Bounds, Inequality, Place, Rows, Term};
 use og_refutation::{Case, Multiple, Name, Proof, Sides, Tree};
 use std::alloc::{AllocError, Global};
 
 /// The most numbers that are put in order.
 const ORDER_LIMIT: usize = 4;
+
+/// How many leaves cost a step of the budget.
+const LEAVES_A_STEP: u64 = 16;
 
 /// A number in a chain, and the fact that the one before it in the chain is less, if there is one.
 #[derive(Clone, Copy)]
@@ -49,7 +54,8 @@ struct Refuter<'a> {
     alloc: Global,
     crowd: &'a Crowd,
     rows: &'a mut Rows,
-    // How much larger the leaves may grow.
+    // How many leaves there are, and how much larger they may grow.
+    leaves: u64,
     room: u64,
     // The numbers, each with its tightest bounds.
     members: Vec<Member>,
@@ -156,8 +162,18 @@ fn once(place: Place) -> Multiple {
 }
 
 impl Refuter<'_> {
+    // Counts a leaf. The first one and each that completes so many more cost a step.
+    fn count(&mut self) -> Result<(), Unrefuted> {
+        if self.leaves.is_multiple_of(LEAVES_A_STEP) {
+            self.rows.spend(1)?;
+        }
+        self.leaves = self.leaves.saturating_add(1);
+        Ok(())
+    }
+
     // The leaf with this sum.
     fn close(&mut self, end: Vec<Multiple>) -> Result<Tree, Unrefuted> {
+        self.count()?;
         let lines = Vec::new(self.alloc);
         let tree = Tree::Leaf { lines, end };
         let room = self.room.checked_sub(tree.size());
@@ -254,7 +270,6 @@ impl Refuter<'_> {
             let mut sorting = Sorting::new(self.alloc, list, least)?;
             return self.halve(level, &mut sorting);
         }
-        self.rows.spend(list.len() as u64)?;
         let chain: &[Link] = &[];
         let next = 0;
         self.grow(level, Ordering { list, next, chain })
@@ -338,20 +353,12 @@ impl Refuter<'_> {
 }
 
 impl Crowd {
-    /// Refutes the crowd below this level. Each number that is put in order costs a step of the budget of
-    /// the rows, and the size of the leaves is taken from the room.
-    ///
-    /// # Errors
-    ///
-    /// `Memory`, `Budget`, `Size` where the room is too small, and `Levels`; then the room is as it was.
-    pub fn refute(
-        &self,
-        alloc: Global,
-        level: u32,
-        rows: &mut Rows,
-        room: &mut u64,
-    ) -> Result<Proof, Unrefuted> {
+    // The refutation below all facts that are made.
+    fn below_all(&self, rows: &mut Rows, room: &mut u64) -> Result<Proof, Unrefuted> {
+        let alloc = rows.alloc();
         let count = self.members().len();
+        let level = self.level_of(self.lacks().len());
+        let level = level.ok_or(Unrefuted::Levels)?.saturating_add(1);
         let mut list = Vec::with_capacity(alloc, count)?;
         for place in 0..count {
             list.push(place)?;
@@ -360,6 +367,7 @@ impl Crowd {
             alloc,
             crowd: self,
             rows,
+            leaves: 0,
             room: *room,
             members: self.copied_members()?,
         };
@@ -367,5 +375,23 @@ impl Crowd {
         *room = refuter.room;
         let used = self.used();
         Ok(Proof { used, tree })
+    }
+
+    /// Refutes the crowd below its level, where these are the choices and the bounds with which it was
+    /// found. Each 16 leaves cost a step of the budget of the rows, and each fact that is made one and what
+    /// its own sums cost; the size of the leaves is taken from the room.
+    ///
+    /// # Errors
+    ///
+    /// `Memory`, `Budget`, `Size` where the room is too small, and `Levels`.
+    pub fn refute(
+        &self,
+        rows: &mut Rows,
+        open: &[Open],
+        bounds: &Bounds,
+        room: &mut u64,
+    ) -> Result<Proof, Unrefuted> {
+        let proof = self.below_all(rows, room)?;
+        self.above_all(proof, &mut Known { rows, open, bounds })
     }
 }

@@ -1,6 +1,7 @@
 //! Refutations of a part by a choice each of whose parts is at odds with its facts, by themselves.
 
-use crate::proof::{Case, Multiple, Name, Proof, Tree};
+use crate::joined::Cases;
+use crate::proof::{Multiple, Name, Proof, Tree};
 use og_choices::{Choice, Part, denied_choice, is_denied};
 use og_inequalities::{Levels, Place, TOP};
 use std::alloc::{AllocError, Global};
@@ -78,21 +79,14 @@ fn split(
     let Some(level) = below.checked_sub(1) else {
         return Ok(None);
     };
-    let mut used = Levels::one(choice.level);
-    let mut cases = Vec::with_capacity(alloc, parts.len())?;
+    let mut cases = Cases::new(alloc, choice, parts.len())?;
     for part in parts {
         let Some(proof) = denied(alloc, Placed { part, level }, by, level)? else {
             return Ok(None);
         };
-        used = used.union(proof.used.without(level));
-        cases.push(Case {
-            level,
-            count: part.count,
-            tree: proof.tree,
-        })?;
+        cases.add(level, part.count, proof)?;
     }
-    let tree = Tree::Split { choice, cases };
-    Ok(Some(Proof { used, tree }))
+    Ok(Some(cases.into_proof()))
 }
 
 // The refutation of two parts that are at odds.
@@ -121,21 +115,13 @@ pub fn denial(alloc: Global, choice: &Choice, part: Placed) -> Result<Option<Pro
         level: TOP,
         index: choice.index,
     };
-    let mut used = Levels::one(TOP);
-    let mut cases = Vec::with_capacity(alloc, choice.parts.len())?;
+    let mut cases = Cases::new(alloc, place, choice.parts.len())?;
     for own in &choice.parts {
         let placed = Placed { part: own, level };
         let Some(proof) = opposed(alloc, placed, part, level)? else {
             return Ok(None);
         };
-        used = used.union(proof.used.without(level));
-        cases.push(Case {
-            level,
-            count: own.count,
-            tree: proof.tree,
-        })?;
+        cases.add(level, own.count, proof)?;
     }
-    let choice = place;
-    let tree = Tree::Split { choice, cases };
-    Ok(Some(Proof { used, tree }))
+    Ok(Some(cases.into_proof()))
 }

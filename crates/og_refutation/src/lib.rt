@@ -6,14 +6,16 @@
 
 mod denying;
 mod fault;
+mod joined;
 mod leaves;
 mod numbering;
 mod proof;
 mod sight;
 
 pub use denying::{Placed, denial};
-pub use fault::Unwritten;
+pub use fault::{Unshown, Unwritten};
+pub use joined::{Cases, both_sides};
 pub use leaves::leaf;
 pub use numbering::certificate;
 pub use proof::{Case, Lifted, Line, Multiple, Name, Proof, Sides, Tree};
-pub use sight::closing;
+pub use sight::refute_clash;

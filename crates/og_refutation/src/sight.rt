@@ -1,8 +1,13 @@
-//! The sums that close parts at sight, where they need no rows but facts and the range of `i64`.
+//! The leaves of inequalities that are at odds with what is known: at sight, where they need no rows
+//! but facts and the range of `i64`, and else by rows.
 
+use crate::fault::Unshown;
+use crate::leaves::leaf;
 use crate::proof::{Multiple, Name, Proof, Tree};
 use og_choices::{Against, Clash};
-use og_inequalities::{Bounds, Inequality, Levels, Origin, Place, Rows, Side, TOP, Term};
+use og_inequalities::{
+    AddError, Added, Bounds, Inequality, Levels, Origin, Place, Rows, Side, TOP, Term,
+};
 use std::alloc::AllocError;
 
 // What the rows of a sum are taken from.
@@ -101,8 +106,8 @@ impl Ending {
     }
 }
 
-/// The leaf of a clash at this place, where it needs no rows but facts, and no number is too large.
-pub fn closing(
+// The leaf of a clash at this place, where it needs no rows but facts, and no number is too large.
+fn closing(
     rows: &Rows,
     bounds: &Bounds,
     clash: Clash,
@@ -121,4 +126,52 @@ pub fn closing(
     let lines = Vec::new(alloc);
     let tree = Tree::Leaf { lines, end };
     Ok(Some(Proof { used, tree }))
+}
+
+// Adds the inequality of a clash at this place, and the sum that shows it.
+fn meet(rows: &mut Rows, bounds: &Bounds, clash: Clash, place: Place) -> Result<(), AddError> {
+    let form = clash.atom.form.copy()?;
+    if let Added::Row(row) = rows.add_fact(form, place)? {
+        match clash.against {
+            Against::Fact(_) | Against::Bounds => rows.add_with_bounds(row, None, bounds)?,
+            Against::Row(other) => rows.add_pair(other, row, bounds)?,
+        };
+    }
+    Ok(())
+}
+
+// The leaf of a clash at this place by rows, if its sum is a contradiction. The rows stay.
+fn by_rows(
+    rows: &mut Rows,
+    bounds: &Bounds,
+    clash: Clash,
+    place: Place,
+) -> Result<Option<Proof>, Unshown> {
+    match meet(rows, bounds, clash, place) {
+        Ok(()) => Ok(None),
+        Err(AddError::Contradiction(row)) => Ok(Some(leaf(rows, row)?)),
+        Err(AddError::Memory) => Err(Unshown::Memory),
+        Err(AddError::Budget) => Err(Unshown::Budget),
+    }
+}
+
+/// The leaf of a clash at this place, if its sum is a contradiction and no number is too large. The rows
+/// are as they were, but for what is spent.
+///
+/// # Errors
+///
+/// `Memory`, `Budget`, and `TooLarge` where a number of the leaf is; then there may be rows more.
+pub fn refute_clash(
+    rows: &mut Rows,
+    bounds: &Bounds,
+    clash: Clash,
+    place: Place,
+) -> Result<Option<Proof>, Unshown> {
+    if let Some(proof) = closing(rows, bounds, clash, place)? {
+        return Ok(Some(proof));
+    }
+    let mark = rows.len();
+    let proof = by_rows(rows, bounds, clash, place)?;
+    rows.forget(mark);
+    Ok(proof)
 }

@@ -1,5 +1,6 @@
 //! What a search claims.
 
+use crate::rests::Rests;
 use crate::search::Search;
 use crate::stop::Stop;
 use og_cert_text::Cert;
@@ -39,7 +40,8 @@ pub fn search_among(
     variables: u32,
     budget: u64,
 ) -> Result<Claim, AllocError> {
-    let mut search = Search::new(alloc, part, variables, budget)?;
+    let rests = Rests::new(alloc, &part.choices)?;
+    let mut search = Search::new(alloc, part, &rests, variables, budget)?;
     match certified(alloc, &mut search, part.count) {
         Ok(cert) => Ok(Claim::Closed(cert)),
         Err(Stop::Memory) => Err(AllocError),

@@ -5,6 +5,7 @@
 #![tactic(auto)]
 
 mod claim;
+mod rests;
 mod search;
 mod stop;
 

@@ -1,14 +1,15 @@
 //! The search: it takes in facts, closes or picks a choice, and goes into each part.
 
+use crate::rests::Rests;
 use crate::stop::{Halt, Stop};
 use og_choices::{
     Against, Atom, Chains, Choice, Clash, Denials, Facts, Index, Open, Part, Reach, View, all_hold,
     common_to_choice, forced, refuted_by, weight,
 };
 use og_elimination::{Gap, Outcome, Problem, Ranges, close_within, eliminate, narrow, note_bound};
-use og_inequalities::{Added, Bounds, Inequality, Levels, Model, Place, Rows, TOP, Term};
-use og_pigeons::{Crowd, Move, look, weight_of_pairs};
-use og_refutation::{Case, Lifted, Placed, Proof, Sides, Tree, closing, denial, leaf};
+use og_inequalities::{Added, Bounds, Inequality, Model, Place, Rows, TOP, Term};
+use og_pigeons::{Crowd, look, weight_of_pairs};
+use og_refutation::{Cases, Lifted, Placed, Proof, both_sides, denial, leaf, refute_clash};
 use std::alloc::{AllocError, Global};
 
 /// Below this level a choice is taken only where it is false of the values.
@@ -88,31 +89,21 @@ pub(crate) struct Search<'a> {
     facts: &'a Part,
     directions: Chains,
     denials: Denials,
+    // The choices that have facts in common, and whether these are known.
+    rests: &'a Rests,
+    is_shared: bool,
     // The place of an own fact that closed a part, the last one of several in order.
     near: usize,
     // The choice to be taken next, whatever the values.
     next: Option<usize>,
     // The forms to be branched on next, the last one first, before any choice.
     lifted: Vec<Lifted>,
-    // Whether there are numbers on the path that are all different and have too few values, by what was
-    // done last.
-    is_crowded: bool,
     // The lowest level above which there are first sides of branches alone, and how often forms may
     // still be lifted to it.
     trunk: u32,
     lifts: u32,
     // How much larger the leaves may grow, those that were dropped again included.
     room: u64,
-}
-
-// Whether these are the levels of the condition's own facts alone.
-fn rests_on_own_facts(used: Levels) -> bool {
-    for level in 0..TOP {
-        if used.has(level) {
-            return false;
-        }
-    }
-    true
 }
 
 // How many of the choices, the last ones, are of this level.
@@ -131,6 +122,7 @@ impl<'a> Search<'a> {
     pub(crate) fn new(
         alloc: Global,
         facts: &'a Part,
+        rests: &'a Rests,
         variables: u32,
         budget: u64,
     ) -> Result<Search<'a>, AllocError> {
@@ -146,10 +138,11 @@ impl<'a> Search<'a> {
             facts,
             directions: facts.directions()?,
             denials: Denials::new(alloc, &facts.choices)?,
+            rests,
+            is_shared: false,
             near: 0,
             next: None,
             lifted: Vec::new(alloc),
-            is_crowded: false,
             trunk: TOP,
             lifts: MOST_LIFTS,
             room: MOST,
@@ -258,16 +251,17 @@ impl<'a> Search<'a> {
     // Takes in the choices of a part that are not on the path. Tells how many.
     fn take_choices(&mut self, part: &'a Part, level: u32) -> Result<usize, AllocError> {
         let mut taken = 0usize;
-        for choice in &part.choices {
+        for (number, choice) in part.choices.iter().enumerate() {
             if !self.is_open(choice) {
                 let index = choice.index;
                 self.marks.put(choice.mark, index)?;
-                self.open.push(Open {
-                    place: Place { level, index },
-                    parts: &choice.parts,
-                    size: choice.size,
-                    is_taken: false,
-                })?;
+                let rest = if level == TOP {
+                    self.rests.of(number)
+                } else {
+                    None
+                };
+                let place = Place { level, index };
+                self.open.push(Open::new(place, choice, rest))?;
                 taken = taken.saturating_add(1);
             }
         }
@@ -312,7 +306,8 @@ impl<'a> Search<'a> {
 
     // Takes a step for each fact of a part that was taken in, and for each 16 others.
     fn spend_facts(&mut self, part: &Part, taken: usize) -> Result<(), Stop> {
-        let others = part.count.saturating_sub(taken) / 16;
+        let all = part.atoms.len().saturating_add(part.choices.len());
+        let others = all.saturating_sub(taken) / 16;
         self.rows.spend(taken.saturating_add(others) as u64)?;
         Ok(())
     }
@@ -384,23 +379,15 @@ impl<'a> Search<'a> {
         }
     }
 
-    // What is done about numbers that are all different and have too few values, if there are some.
-    // Takes a step for each 1,000 facts that are looked through.
-    fn crowd(&mut self, bounds: &Bounds) -> Result<Option<Decision>, Stop> {
-        self.is_crowded = false;
+    // Numbers that are all different and have too few values, if there are some, to be refuted below
+    // this level. Takes a step for each 1,000 facts that are looked through.
+    fn crowd(&mut self, level: u32, bounds: &Bounds) -> Result<Option<Crowd>, Stop> {
+        if level < CROWD_LEVEL {
+            return Ok(None);
+        }
         self.rows
             .spend((weight_of_pairs(&self.open) / 1000) as u64)?;
-        let Some(found) = look(self.alloc, self.view(bounds))? else {
-            return Ok(None);
-        };
-        let next = None;
-        let decision = match found {
-            Move::Split(i) => Decision::Split(i),
-            Move::Branch(form) => Decision::Branch { form, next },
-            Move::Refute(crowd) => return Ok(Some(Decision::Refute(crowd))),
-        };
-        self.is_crowded = true;
-        Ok(Some(decision))
+        Ok(look(self.alloc, self.view(bounds), level)?)
     }
 
     // What is done where all rows hold of these values.
@@ -409,10 +396,8 @@ impl<'a> Search<'a> {
         if all_hold(&self.open, &self.model) {
             return Err(Stop::Model);
         }
-        if level >= CROWD_LEVEL {
-            if let Some(decision) = self.crowd(bounds)? {
-                return Ok(decision);
-            }
+        if let Some(crowd) = self.crowd(level, bounds)? {
+            return Ok(Decision::Refute(crowd));
         }
         if let Some(i) = forced(&self.open, bounds, Some(&self.model)) {
             return Ok(Decision::Split(i));
@@ -458,11 +443,6 @@ impl<'a> Search<'a> {
         }
         if let Some(Lifted { form, next }) = self.lifted.pop() {
             return Ok(Decision::Branch { form, next });
-        }
-        if self.is_crowded {
-            if let Some(decision) = self.crowd(bounds)? {
-                return Ok(decision);
-            }
         }
         self.spend_choices()?;
         let reach = Reach::of_level(level);
@@ -517,22 +497,6 @@ impl<'a> Search<'a> {
         }
     }
 
-    // Adds the inequality of a clash, and the sum that shows it.
-    fn meet(&mut self, clash: Clash, level: u32, bounds: &Bounds) -> Result<(), Halt> {
-        let index = clash.atom.index;
-        let form = clash.atom.form.copy()?;
-        let added = self.rows.add_fact(form, Place { level, index })?;
-        if let Added::Row(row) = added {
-            match clash.against {
-                Against::Fact(_) | Against::Bounds => {
-                    self.rows.add_with_bounds(row, None, bounds)?
-                }
-                Against::Row(other) => self.rows.add_pair(other, row, bounds)?,
-            };
-        }
-        Ok(())
-    }
-
     // Notes the place of an own fact that closes a part, if it is among the next ones: so parts that
     // stand in the order of an assertion are closed by the facts of that one assertion.
     fn go_near(&mut self, index: usize, bounds: &Bounds) {
@@ -549,21 +513,15 @@ impl<'a> Search<'a> {
         bounds: &Bounds,
     ) -> Result<Option<Proof>, Stop> {
         let index = clash.atom.index;
-        if let Some(proof) = closing(&self.rows, bounds, clash, Place { level, index })? {
-            self.rows.spend(1)?;
-            if let Against::Fact(index) = clash.against {
-                self.go_near(index, bounds);
-            }
-            return Ok(Some(self.keep(proof)?));
-        }
-        let mark = self.rows.len();
-        let met = self.meet(clash, level, bounds);
-        let proof = match met {
-            Ok(()) => None,
-            Err(halt) => Some(self.halted(halt)?),
+        let place = Place { level, index };
+        let Some(proof) = refute_clash(&mut self.rows, bounds, clash, place)? else {
+            return Ok(None);
         };
-        self.rows.forget(mark);
-        Ok(proof)
+        self.rows.spend(1)?;
+        if let Against::Fact(index) = clash.against {
+            self.go_near(index, bounds);
+        }
+        Ok(Some(self.keep(proof)?))
     }
 
     // The refutation of a part that is at odds with what is known, or a choice of which is.
@@ -598,26 +556,14 @@ impl<'a> Search<'a> {
     ) -> Result<Option<Proof>, Stop> {
         let index = choice.index;
         let below = level.checked_sub(1).ok_or(Stop::Stuck)?;
-        let mut used = Levels::one(level);
-        let mut cases = Vec::with_capacity(self.alloc, choice.parts.len())?;
+        let mut cases = Cases::new(self.alloc, Place { level, index }, choice.parts.len())?;
         for part in &choice.parts {
             let Some(proof) = self.at_once(part, below, bounds, reach)? else {
                 return Ok(None);
             };
-            used = used.union(proof.used.without(below));
-            cases.push(Case {
-                level: below,
-                count: part.count,
-                tree: proof.tree,
-            })?;
+            cases.add(below, part.count, proof)?;
         }
-        Ok(Some(Proof {
-            used,
-            tree: Tree::Split {
-                choice: Place { level, index },
-                cases,
-            },
-        }))
+        Ok(Some(cases.into_proof()))
     }
 
     // The choice of the condition each of whose parts is at odds with the facts of a part, by
@@ -649,15 +595,24 @@ impl<'a> Search<'a> {
         Ok(Some(proof))
     }
 
-    // Refutes a part: at once, or by a level of its own.
+    // Refutes a part: by a choice of the condition or at once, in which order is shorter, or by a level
+    // of its own.
     #[cycle(search)]
     fn refute_part(&mut self, part: &'a Part, level: u32, bounds: &Bounds) -> Result<Proof, Stop> {
         let reach = Reach::of_level(level.saturating_add(1));
+        let is_plain = part.choices.is_empty();
+        if !is_plain {
+            if let Some(proof) = self.deny(part, level)? {
+                return Ok(proof);
+            }
+        }
         if let Some(proof) = self.at_once(part, level, bounds, reach)? {
             return Ok(proof);
         }
-        if let Some(proof) = self.deny(part, level)? {
-            return Ok(proof);
+        if is_plain {
+            if let Some(proof) = self.deny(part, level)? {
+                return Ok(proof);
+            }
         }
         self.at_level(level, Entry::Part(part), bounds)
     }
@@ -687,13 +642,13 @@ impl<'a> Search<'a> {
         match decision {
             Decision::Split(i) => self.split_at(below, i, &own),
             Decision::Branch { form, next } => self.branch(below, form, next, &own),
-            Decision::Refute(crowd) => self.refute_crowd(below, &crowd),
+            Decision::Refute(crowd) => self.refute_crowd(&crowd, &own),
         }
     }
 
     // Refutes numbers that are all different and have too few values.
-    fn refute_crowd(&mut self, below: u32, crowd: &Crowd) -> Result<Proof, Stop> {
-        let proof = crowd.refute(self.alloc, below, &mut self.rows, &mut self.room)?;
+    fn refute_crowd(&mut self, crowd: &Crowd, bounds: &Bounds) -> Result<Proof, Stop> {
+        let proof = crowd.refute(&mut self.rows, &self.open, bounds, &mut self.room)?;
         Ok(proof)
     }
 
@@ -716,39 +671,47 @@ impl<'a> Search<'a> {
         self.lifts > 0 && level >= LIFT_LEVEL && level.saturating_add(1) == self.trunk
     }
 
+    // From now on the facts that choices have in common are known, or not.
+    fn set_shared(&mut self, is_shared: bool) {
+        self.is_shared = is_shared;
+        for one in &mut self.open {
+            one.set_whole(!is_shared);
+        }
+    }
+
+    // Notes that a choice is no longer taken, the first one of those with facts in common or another.
+    fn leave(&mut self, i: usize, is_first: bool) {
+        self.set_taken(i, false);
+        if is_first {
+            self.set_shared(false);
+        }
+    }
+
     // Goes into the parts of a choice. A refutation that needs no fact of its part stands for all.
     #[cycle(search)]
     fn split(&mut self, below: u32, i: usize, bounds: &Bounds) -> Result<Parts, Stop> {
         let choice = self.set_taken(i, true).ok_or(Stop::Stuck)?;
-        let mut used = Levels::one(choice.place.level);
-        let mut cases = Vec::with_capacity(self.alloc, choice.parts.len())?;
+        let is_first = choice.is_sharing() && !self.is_shared;
+        if is_first {
+            self.set_shared(true);
+        }
+        let mut cases = Cases::new(self.alloc, choice.place, choice.parts.len())?;
         self.near = 0;
         for part in choice.parts {
             let proof = self.refute_part(part, below, bounds)?;
             if !proof.used.has(below) {
-                self.set_taken(i, false);
+                self.leave(i, is_first);
                 return Ok(Parts::Refuted(proof));
             }
             let is_early = cases.len() < choice.parts.len() / 2;
             if is_early && self.may_lift(below) && proof.tree.is_lifting() {
-                self.set_taken(i, false);
+                self.leave(i, is_first);
                 return Ok(Parts::Lifted(proof.tree.into_lifted(self.alloc)?));
             }
-            used = used.union(proof.used.without(below));
-            cases.push(Case {
-                level: below,
-                count: part.count,
-                tree: proof.tree,
-            })?;
+            cases.add(below, part.count, proof)?;
         }
-        self.set_taken(i, false);
-        Ok(Parts::Refuted(Proof {
-            used,
-            tree: Tree::Split {
-                choice: choice.place,
-                cases,
-            },
-        }))
+        self.leave(i, is_first);
+        Ok(Parts::Refuted(cases.into_proof()))
     }
 
     // Goes into both sides of a form.
@@ -775,19 +738,7 @@ impl<'a> Search<'a> {
         if !second.used.has(below) {
             return Ok(second);
         }
-        let used = first.used.union(second.used).without(below);
-        let sides = Sides {
-            level: below,
-            form,
-            first: first.tree,
-            is_general: rests_on_own_facts(second.used.without(below)),
-            second: second.tree,
-            next,
-        };
-        Ok(Proof {
-            used,
-            tree: Tree::Branch(Box::new(self.alloc, sides)?),
-        })
+        Ok(both_sides(self.alloc, below, form, next, first, second)?)
     }
 
     /// A refutation of the facts, if the search finds one.

@@ -2,7 +2,7 @@
 
 use og_inequalities::{AddError, RowError};
 use og_pigeons::Unrefuted;
-use og_refutation::Unwritten;
+use og_refutation::{Unshown, Unwritten};
 use std::alloc::{AllocError, AllocFailed};
 
 /// Why a search ends.
@@ -46,6 +46,16 @@ impl From<Unwritten> for Stop {
         match unwritten {
             Unwritten::Memory => Stop::Memory,
             Unwritten::TooLarge => Stop::Stuck,
+        }
+    }
+}
+
+impl From<Unshown> for Stop {
+    fn from(unshown: Unshown) -> Stop {
+        match unshown {
+            Unshown::Memory => Stop::Memory,
+            Unshown::Budget => Stop::Budget,
+            Unshown::TooLarge => Stop::Stuck,
         }
     }
 }

@@ -1,6 +1,6 @@
 //! A certificate for facts in which variables are exchanged.
 
-use crate::colors::renamed_by_color;
+use crate::colors::{colors_of, renamed_by_color};
 use crate::comparing::compare_facts;
 use crate::counterparts::{Marks, Sides};
 use crate::lost::Lost;
@@ -294,29 +294,74 @@ fn by_places(alloc: Global, from: &FactList, to: &FactList) -> Result<Renaming, 
     Ok(renaming)
 }
 
-/// A certificate for the facts of `to`, made of one for those of `from`: the variables in which the two
-/// lists differ stand for one another, those at the same places, or else those of the same color. None
-/// where they differ in none, or where something that it uses has no counterpart.
-///
-/// # Errors
-///
-/// `AllocError` where an allocation was refused.
-pub fn carried(
+// That certificate, if nothing that it uses lacks a counterpart.
+fn tried(
     alloc: Global,
     cert: &Cert,
     from: &FactList,
     to: &FactList,
+    renaming: &Renaming,
 ) -> Result<Option<Cert>, AllocError> {
-    let renaming = by_places(alloc, from, to)?;
-    match carry(alloc, cert, from, to, &renaming) {
-        Ok(cert) => return Ok(Some(cert)),
-        Err(Lost::Counterpart) => {}
-        Err(Lost::Memory) => return Err(AllocError),
-    }
-    let renaming = renamed_by_color(alloc, from.as_slice(), to.as_slice(), from.variables())?;
-    match carry(alloc, cert, from, to, &renaming) {
+    match carry(alloc, cert, from, to, renaming) {
         Ok(cert) => Ok(Some(cert)),
         Err(Lost::Counterpart) => Ok(None),
         Err(Lost::Memory) => Err(AllocError),
+    }
+}
+
+/// A list of facts from which certificates are carried over to others.
+#[derive(Drop)]
+pub struct Original<'f> {
+    facts: FactList<'f>,
+    // The colors of its variables, once they were needed.
+    colors: Option<Vec<u128>>,
+}
+
+impl<'f> Original<'f> {
+    /// This list.
+    pub fn new(facts: FactList<'f>) -> Original<'f> {
+        Original {
+            facts,
+            colors: None,
+        }
+    }
+
+    // The variables that have the same color in both lists stand for one another.
+    fn by_colors(&mut self, alloc: Global, to: &FactList) -> Result<Renaming, AllocError> {
+        let variables = self.facts.variables();
+        let own = match self.colors.take() {
+            Some(own) => own,
+            None => colors_of(alloc, self.facts.as_slice(), variables)?,
+        };
+        let renaming = renamed_by_color(alloc, &own, to.as_slice(), variables)?;
+        self.colors = Some(own);
+        Ok(renaming)
+    }
+
+    /// A certificate for the facts of `to`, made of one for those of this list: the variables in which the
+    /// two differ stand for one another, those at the same places, or those of the same color, which come
+    /// first where places say different things of a variable. None where the lists differ in none, or
+    /// where something that the certificate uses has no counterpart.
+    ///
+    /// # Errors
+    ///
+    /// `AllocError` where an allocation was refused.
+    pub fn carried(
+        &mut self,
+        alloc: Global,
+        cert: &Cert,
+        to: &FactList,
+    ) -> Result<Option<Cert>, AllocError> {
+        let placed = by_places(alloc, &self.facts, to)?;
+        if !placed.is_denied() {
+            if let Some(own) = tried(alloc, cert, &self.facts, to, &placed)? {
+                return Ok(Some(own));
+            }
+        }
+        let colored = self.by_colors(alloc, to)?;
+        match tried(alloc, cert, &self.facts, to, &colored)? {
+            None if placed.is_denied() => tried(alloc, cert, &self.facts, to, &placed),
+            own => Ok(own),
+        }
     }
 }

@@ -4,7 +4,7 @@
 //! by what stands round it: the facts in which it occurs, with the colors of their variables. A
 //! variable and one of another list that stand for one another have the same color at the end.
 
-use crate::marks::{NESTING_LIMIT, atom_mark, fact_mark, label, mixed, part_mark};
+use crate::marks::{NESTING_LIMIT, fact_mark, label, mixed, part_mark};
 use crate::renaming::Renaming;
 use og_facts::{Atom, Fact};
 use std::alloc::{AllocError, Global};
@@ -32,9 +32,10 @@ impl Refiner<'_> {
         }
     }
 
-    // Adds to the colors of the variables of an inequality that stands in what has this mark.
+    // Adds to the colors of the variables of an inequality that stands in what has this mark: which
+    // coefficient each has, and the constant.
     fn add_atom(&mut self, atom: &Atom, around: u128) {
-        let mark = mixed(around, atom_mark(self.colors, atom));
+        let mark = mixed(around, atom.offset().cast_unsigned());
         for i in 0..usize::MAX {
             let Some((var, coefficient)) = atom.term(i) else {
                 break;
@@ -109,8 +110,16 @@ fn refined(alloc: Global, list: &[Fact], colors: &[u128]) -> Result<Vec<u128>, A
     Ok(refiner.next)
 }
 
-// The colors of so many variables in the list.
-fn colors_of(alloc: Global, list: &[Fact], variables: u32) -> Result<Vec<u128>, AllocError> {
+/// The colors of so many variables in the list.
+///
+/// # Errors
+///
+/// `AllocError` where an allocation was refused.
+pub(crate) fn colors_of(
+    alloc: Global,
+    list: &[Fact],
+    variables: u32,
+) -> Result<Vec<u128>, AllocError> {
     let mut colors = vec![in alloc; FIRST; variables as usize]?;
     for _ in 0..ROUNDS {
         colors = refined(alloc, list, &colors)?;
@@ -133,22 +142,21 @@ fn by_color(alloc: Global, own: &[u128], other: &[u128]) -> Result<Vec<(u128, u3
     Ok(variables)
 }
 
-/// Which variables of one list of facts, of so many, stand for those of another one, by their colors:
-/// those of one color in the order of their numbers.
+/// Which variables of a list with these colors stand for those of another list, of so many variables, by
+/// the colors of these: those of one color in the order of their numbers.
 ///
 /// # Errors
 ///
 /// `AllocError` where an allocation was refused.
 pub(crate) fn renamed_by_color(
     alloc: Global,
-    from: &[Fact],
+    own: &[u128],
     to: &[Fact],
     variables: u32,
 ) -> Result<Renaming, AllocError> {
-    let own = colors_of(alloc, from, variables)?;
     let other = colors_of(alloc, to, variables)?;
-    let first = by_color(alloc, &own, &other)?;
-    let second = by_color(alloc, &other, &own)?;
+    let first = by_color(alloc, own, &other)?;
+    let second = by_color(alloc, &other, own)?;
     let mut renaming = Renaming::none(alloc, variables)?;
     for ((color, var), (same, name)) in first.iter().zip(&second) {
         if color == same {

@@ -14,4 +14,4 @@ mod marks;
 mod places;
 mod renaming;
 
-pub use carrying::carried;
+pub use carrying::Original;

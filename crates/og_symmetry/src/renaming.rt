@@ -14,6 +14,8 @@ pub(crate) struct Renaming {
     // Those of which something was said.
     told: Vec<bool>,
     is_changed: bool,
+    // Whether something else was said of one later.
+    is_denied: bool,
 }
 
 // Each of so many variables.
@@ -50,6 +52,7 @@ impl Renaming {
             origins: each(alloc, variables)?,
             told: vec![in alloc; false; variables as usize]?,
             is_changed: false,
+            is_denied: false,
         })
     }
 
@@ -80,6 +83,11 @@ impl Renaming {
         !self.is_changed
     }
 
+    /// Whether something else was said of a variable than what holds.
+    pub(crate) fn is_denied(&self) -> bool {
+        self.is_denied
+    }
+
     fn is_told(&self, var: u32) -> bool {
         matches!(self.told.get(var as usize), Some(true))
     }
@@ -99,6 +107,7 @@ impl Renaming {
     pub(crate) fn note(&mut self, var: u32, name: u32) {
         let other = at(&self.origins, name);
         if self.is_told(var) || self.is_told(other) {
+            self.is_denied |= self.name(var) != name;
             return;
         }
         let free = self.name(var);

@@ -7,7 +7,7 @@ use Rattle.og_find.proofs.finding.follow.Goals as goal
 pub returns-in-Ok : goal.returns-in-Ok
 returns-in-Ok c =
     let condition = seen c.args.condition.now in
-    let proof = plain_cert c.args.cert.now in
+    let proof = plain_cert c.args.leader.cert.now in
     let list = c.in-Ok.list in
     if_ok c.follow_facts.result (IsFollowedOn list proof) (IsFollowed condition proof)
     (λ f h. followed_on condition list proof f c.in-Ok.ensures.0 c.in-Ok.ensures.1 h)

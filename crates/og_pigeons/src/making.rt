@@ -1,0 +1,119 @@
+//! The facts that a crowd lacks: what refutes the other parts of a choice, or the other side of a bound.
+
+use crate::crowd::{Crowd, Lack};
+use crate::fault::Unrefuted;
+use og_choices::{Against, Atom, Clash, Open, Part};
+use og_inequalities::{Bounds, Inequality, Place, Rows, Side, Term};
+use og_refutation::{Cases, Proof, both_sides, refute_clash};
+
+/// What is known on the path: the rows, the choices and the bounds.
+#[derive(Drop)]
+pub(crate) struct Known<'k, 'a> {
+    pub rows: &'k mut Rows,
+    pub open: &'k [Open<'a>],
+    pub bounds: &'k Bounds,
+}
+
+impl Known<'_, '_> {
+    // What refutes a part whose facts stand at this level, by an inequality that is false within the
+    // bounds.
+    fn barred(&mut self, part: &Part, level: u32) -> Result<Option<Proof>, Unrefuted> {
+        let mut atoms = part.atoms.iter();
+        let Some(atom) = atoms.find(|atom| self.bounds.exclude(&atom.form)) else {
+            return Ok(None);
+        };
+        self.beyond(atom, level)
+    }
+
+    // What refutes an inequality at this level that is false within the bounds.
+    fn beyond(&mut self, atom: &Atom, level: u32) -> Result<Option<Proof>, Unrefuted> {
+        let index = atom.index;
+        let against = Against::Bounds;
+        let clash = Clash { atom, against };
+        Ok(refute_clash(self.rows, self.bounds, clash, Place { level, index })?)
+    }
+
+    // The refutation of an open choice, where this is the one of the part that is left.
+    fn with_order(
+        &mut self,
+        choice: Open,
+        left: usize,
+        level: u32,
+        proof: Proof,
+    ) -> Result<Proof, Unrefuted> {
+        let mut own = Some(proof);
+        let mut cases = Cases::new(self.rows.alloc(), choice.place, choice.parts.len())?;
+        for (number, part) in choice.parts.iter().enumerate() {
+            let proof = if number == left {
+                own.take()
+            } else {
+                self.barred(part, level)?
+            };
+            cases.add(level, part.count, proof.ok_or(Unrefuted::Levels)?)?;
+        }
+        Ok(cases.into_proof())
+    }
+
+    // The refutation of both sides of a bound, where this is the one of the side on which the variable
+    // is not beyond it.
+    fn with_bound(
+        &mut self,
+        form: Inequality,
+        level: u32,
+        proof: Proof,
+    ) -> Result<Proof, Unrefuted> {
+        let alloc = self.rows.alloc();
+        let atom = Atom {
+            index: 0,
+            form,
+            direction: None,
+        };
+        let first = self.beyond(&atom, level)?.ok_or(Unrefuted::Levels)?;
+        Ok(both_sides(alloc, level, atom.form, None, first, proof)?)
+    }
+}
+
+impl Crowd {
+    // The form that is at most 0 where the variable is beyond its values on this side.
+    fn beyond(&self, known: &Known, var: u32, side: Side) -> Result<Inequality, Unrefuted> {
+        let (coefficient, constant) = match side {
+            Side::Lower => (1, 1i128.checked_sub(self.least())),
+            Side::Upper => (-1, self.most().checked_add(1)),
+        };
+        let constant = constant.ok_or(Unrefuted::Levels)?;
+        let term = Term { var, coefficient };
+        Ok(Inequality::single(known.rows.alloc(), term, constant)?)
+    }
+
+    // The refutation above a fact that is made at this level, where this is the one below it.
+    fn above(
+        &self,
+        lack: Lack,
+        level: u32,
+        proof: Proof,
+        known: &mut Known,
+    ) -> Result<Proof, Unrefuted> {
+        known.rows.spend(1)?;
+        match lack {
+            Lack::Order { choice, part } => {
+                let choice = known.open.get(choice).copied().ok_or(Unrefuted::Levels)?;
+                known.with_order(choice, part, level, proof)
+            }
+            Lack::Bound { var, side } => {
+                let form = self.beyond(known, var, side)?;
+                known.with_bound(form, level, proof)
+            }
+        }
+    }
+
+    /// The refutation above all facts that are made, where this is the one below them. Each costs a step
+    /// of the budget of the rows, and what its own sums cost.
+    pub(crate) fn above_all(&self, proof: Proof, known: &mut Known) -> Result<Proof, Unrefuted> {
+        let mut whole = proof;
+        for (number, lack) in self.lacks().iter().enumerate().rev() {
+            let level = self.level_of(number).ok_or(Unrefuted::Levels)?;
+            whole = self.above(*lack, level, whole, known)?;
+        }
+        Ok(whole)
+    }
+}
