@@ -129,9 +129,10 @@ impl<'a, 'c, G: Gate> Search<'a, 'c, G> {
 /// Conditions with equal facts are searched once, and share what was found. Of conditions that differ
 /// in the names of variables alone, but for those that their action assigns, one leads: where
 /// it has a certificate, that is tried for the others, and those whose facts it closes share it; for
-/// those where it does not, the same with variables exchanged is tried. A condition from which no other
-/// differs so is searched together with those others, so that no worker waits for it. The gate is told
-/// how many different conditions there are, and before and after each.
+/// those where it does not, the same with variables exchanged is tried. Leaders in which the same stands
+/// but for names and order follow one of them in the same way. A condition from which no other differs so
+/// is searched together with those others, so that no worker waits for it. The gate is told how many
+/// different conditions there are, and before and after each.
 ///
 /// # Errors
 ///

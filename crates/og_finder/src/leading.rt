@@ -142,6 +142,14 @@ struct Numbering {
 }
 
 impl Numbering {
+    // Of no groups yet, with room for so many.
+    fn new(alloc: Global, groups: usize) -> Result<Numbering, AllocError> {
+        Ok(Numbering {
+            shapes: Vec::new(alloc),
+            places: Vec::with_capacity(alloc, groups)?,
+        })
+    }
+
     // Counts a group to the shape with this place, or to a new one.
     fn count(&mut self, group: usize, place: usize) -> Result<(), AllocError> {
         match self.shapes.get_mut(place) {
@@ -243,10 +251,7 @@ fn numbered(
     marks: &[Option<Marks>],
     firsts: &[usize],
 ) -> Result<Numbering, AllocError> {
-    let mut numbering = Numbering {
-        shapes: Vec::new(alloc),
-        places: Vec::with_capacity(alloc, firsts.len())?,
-    };
+    let mut numbering = Numbering::new(alloc, firsts.len())?;
     let mut known = BTreeMap::new(alloc);
     for index in firsts {
         let mark = match marks.get(*index) {
@@ -283,10 +288,7 @@ fn kinds_of(
     conditions: &[Condition],
     firsts: &[usize],
 ) -> Result<Numbering, AllocError> {
-    let mut kinds = Numbering {
-        shapes: Vec::new(alloc),
-        places: Vec::with_capacity(alloc, firsts.len())?,
-    };
+    let mut kinds = Numbering::new(alloc, firsts.len())?;
     let mut known = BTreeMap::new(alloc);
     for group in 0..firsts.len() {
         match conditions.get(firsts[group]) {
