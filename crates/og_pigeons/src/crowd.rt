@@ -5,7 +5,7 @@ use std::alloc::{AllocError, Global};
 
 /// A number, and the facts that say that it is not below the least value and not above the greatest.
 #[derive(Clone, Copy)]
-pub(crate) struct Member {
+pub struct Member {
     pub var: u32,
     pub least: Place,
     pub most: Place,
@@ -26,7 +26,7 @@ impl Member {
 /// The choice of the two orders of a number and another, and whether the number is less in the first
 /// part.
 #[derive(Clone, Copy)]
-pub(crate) struct Order {
+pub struct Order {
     pub choice: Place,
     pub is_less_first: bool,
 }
@@ -58,7 +58,7 @@ pub struct Crowd {
 impl Crowd {
     /// No numbers yet. They are refuted below this level, and these are the least value and the
     /// greatest.
-    pub(crate) fn new(alloc: Global, level: u32, least: i128, most: i128) -> Crowd {
+    pub fn new(alloc: Global, level: u32, least: i128, most: i128) -> Crowd {
         Crowd {
             level,
             least,
@@ -121,8 +121,8 @@ impl Crowd {
         self.used = self.used.union(Levels::one(place.level));
     }
 
-    /// Adds a number, with its orders with those before it.
-    pub(crate) fn add(&mut self, member: Member, orders: Vec<Order>) -> Result<(), AllocError> {
+    /// Adds a number, with its orders with those before it. `AllocError` where an allocation was refused.
+    pub fn add(&mut self, member: Member, orders: Vec<Order>) -> Result<(), AllocError> {
         self.note(member.least);
         self.note(member.most);
         for order in &orders {

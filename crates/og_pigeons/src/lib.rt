@@ -6,13 +6,16 @@
 
 mod crowd;
 mod fault;
+mod leaves;
 mod looking;
 mod making;
 mod numbers;
 mod pairs;
 mod refuter;
 
-pub use crowd::Crowd;
+pub use crowd::{Crowd, Member, Order};
 pub use fault::Unrefuted;
+pub use leaves::{Leaves, once};
 pub use looking::look;
-pub use pairs::weight_of_pairs;
+pub use making::{Known, beyond};
+pub use pairs::{PARTS_LIMIT, hidden, is_barred, orders, weight_of_pairs};

@@ -5,10 +5,11 @@ use crate::fault::Unrefuted;
 use og_choices::{Against, Atom, Clash, Open, Part};
 use og_inequalities::{Bounds, Inequality, Place, Rows, Side, Term};
 use og_refutation::{Cases, Proof, both_sides, refute_clash};
+use std::alloc::Global;
 
 /// What is known on the path: the rows, the choices and the bounds.
 #[derive(Drop)]
-pub(crate) struct Known<'k, 'a> {
+pub struct Known<'k, 'a> {
     pub rows: &'k mut Rows,
     pub open: &'k [Open<'a>],
     pub bounds: &'k Bounds,
@@ -54,9 +55,13 @@ impl Known<'_, '_> {
         Ok(cases.into_proof())
     }
 
-    // The refutation of both sides of a bound, where this is the one of the side on which the variable
-    // is not beyond it.
-    fn with_bound(
+    /// The refutation of both sides of a form, where this is the one of the side on which it is above 0,
+    /// and the other side is false within the bounds.
+    ///
+    /// # Errors
+    ///
+    /// `Memory`, `Budget`, and `Levels` where the other side is not false.
+    pub fn with_bound(
         &mut self,
         form: Inequality,
         level: u32,
@@ -73,18 +78,21 @@ impl Known<'_, '_> {
     }
 }
 
-impl Crowd {
-    // The form that is at most 0 where the variable is beyond its values on this side.
-    fn beyond(&self, known: &Known, var: u32, side: Side) -> Result<Inequality, Unrefuted> {
-        let (coefficient, constant) = match side {
-            Side::Lower => (1, 1i128.checked_sub(self.least())),
-            Side::Upper => (-1, self.most().checked_add(1)),
-        };
-        let constant = constant.ok_or(Unrefuted::Levels)?;
-        let term = Term { var, coefficient };
-        Ok(Inequality::single(known.rows.alloc(), term, constant)?)
-    }
+/// The form that is at most 0 where the variable is below the value, for the lower side, or above it.
+///
+/// # Errors
+///
+/// `Levels` where the constant does not fit, `Memory` where an allocation was refused.
+pub fn beyond(alloc: Global, var: u32, side: Side, value: i128) -> Result<Inequality, Unrefuted> {
+    let (coefficient, constant) = match side {
+        Side::Lower => (1, 1i128.checked_sub(value)),
+        Side::Upper => (-1, value.checked_add(1)),
+    };
+    let constant = constant.ok_or(Unrefuted::Levels)?;
+    Ok(Inequality::single(alloc, Term { var, coefficient }, constant)?)
+}
 
+impl Crowd {
     // The refutation above a fact that is made at this level, where this is the one below it.
     fn above(
         &self,
@@ -100,7 +108,11 @@ impl Crowd {
                 known.with_order(choice, part, level, proof)
             }
             Lack::Bound { var, side } => {
-                let form = self.beyond(known, var, side)?;
+                let value = match side {
+                    Side::Lower => self.least(),
+                    Side::Upper => self.most(),
+                };
+                let form = beyond(known.rows.alloc(), var, side, value)?;
                 known.with_bound(form, level, proof)
             }
         }

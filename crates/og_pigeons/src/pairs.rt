@@ -5,7 +5,7 @@ use og_inequalities::{Bounds, Inequality};
 use std::alloc::{AllocError, Global};
 
 /// The most parts of a choice that is looked into.
-const PARTS_LIMIT: usize = 8;
+pub const PARTS_LIMIT: usize = 8;
 
 /// Two variables, of which a choice says that they differ.
 #[derive(Clone, Copy)]
@@ -54,8 +54,8 @@ fn less_in(part: &Part) -> Option<(u32, u32)> {
     less(&part.atoms.first()?.form)
 }
 
-// The variables of which these parts are the two orders, the one that is less in the first part first.
-fn orders(parts: &[Part]) -> Option<(u32, u32)> {
+/// The variables of which these parts are the two orders, the one that is less in the first part first.
+pub fn orders(parts: &[Part]) -> Option<(u32, u32)> {
     if parts.len() != 2 {
         return None;
     }
@@ -75,8 +75,9 @@ fn orders_in(part: &Part) -> Option<(u32, u32)> {
     orders(&part.choices.first()?.parts)
 }
 
-// The first part that is such a choice: its place, and the variables.
-fn hidden(parts: &[Part]) -> Option<(usize, (u32, u32))> {
+/// The first part that is a choice of the two orders of two variables and nothing else: its place, and the
+/// variables, the one that is less in the first part first.
+pub fn hidden(parts: &[Part]) -> Option<(usize, (u32, u32))> {
     for (place, part) in parts.iter().enumerate() {
         if let Some(variables) = orders_in(part) {
             return Some((place, variables));
@@ -85,8 +86,8 @@ fn hidden(parts: &[Part]) -> Option<(usize, (u32, u32))> {
     None
 }
 
-// Whether an inequality of the part is false within the bounds.
-fn is_barred(part: &Part, bounds: &Bounds) -> bool {
+/// Whether an inequality of the part is false within the bounds.
+pub fn is_barred(part: &Part, bounds: &Bounds) -> bool {
     part.atoms.iter().any(|atom| bounds.exclude(&atom.form))
 }
 

@@ -6,17 +6,15 @@
 
 use crate::crowd::{Crowd, Member, Order};
 use crate::fault::Unrefuted;
+use crate::leaves::{Leaves, once};
 use crate::making::Known;
 use og_choices::Open;
 use og_inequalities::{Bounds, Inequality, Place, Rows, Term};
-use og_refutation::{Case, Multiple, Name, Proof, Sides, Tree};
+use og_refutation::{Case, Proof, Sides, Tree};
 use std::alloc::{AllocError, Global};
 
 /// The most numbers that are put in order.
 const ORDER_LIMIT: usize = 4;
-
-/// How many leaves cost a step of the budget.
-const LEAVES_A_STEP: u64 = 16;
 
 /// A number in a chain, and the fact that the one before it in the chain is less, if there is one.
 #[derive(Clone, Copy)]
@@ -50,13 +48,10 @@ struct Sorting<'v> {
 
 /// What is known of the numbers on the path of a refutation.
 #[derive(Drop)]
-struct Refuter<'a> {
+struct Refuter<'a, 'r> {
     alloc: Global,
     crowd: &'a Crowd,
-    rows: &'a mut Rows,
-    // How many leaves there are, and how much larger they may grow.
-    leaves: u64,
-    room: u64,
+    leaves: &'a mut Leaves<'r>,
     // The numbers, each with its tightest bounds.
     members: Vec<Member>,
 }
@@ -153,34 +148,7 @@ fn told_at(level: u32) -> Place {
     Place { level, index: 0 }
 }
 
-// The fact at this place, once.
-fn once(place: Place) -> Multiple {
-    Multiple {
-        times: 1,
-        name: Name::Given(place),
-    }
-}
-
-impl Refuter<'_> {
-    // Counts a leaf. The first one and each that completes so many more cost a step.
-    fn count(&mut self) -> Result<(), Unrefuted> {
-        if self.leaves.is_multiple_of(LEAVES_A_STEP) {
-            self.rows.spend(1)?;
-        }
-        self.leaves = self.leaves.saturating_add(1);
-        Ok(())
-    }
-
-    // The leaf with this sum.
-    fn close(&mut self, end: Vec<Multiple>) -> Result<Tree, Unrefuted> {
-        self.count()?;
-        let lines = Vec::new(self.alloc);
-        let tree = Tree::Leaf { lines, end };
-        let room = self.room.checked_sub(tree.size());
-        self.room = room.ok_or(Unrefuted::Size)?;
-        Ok(tree)
-    }
-
+impl Refuter<'_, '_> {
     fn member(&self, place: usize) -> Result<Member, Unrefuted> {
         self.members.get(place).copied().ok_or(Unrefuted::Levels)
     }
@@ -197,7 +165,7 @@ impl Refuter<'_> {
             }
         }
         end.push(once(self.member(last.member)?.most))?;
-        self.close(end)
+        self.leaves.close(end)
     }
 
     // Puts the next number of the list into the chain, if there is one.
@@ -353,9 +321,13 @@ impl Refuter<'_> {
 }
 
 impl Crowd {
-    // The refutation below all facts that are made.
-    fn below_all(&self, rows: &mut Rows, room: &mut u64) -> Result<Proof, Unrefuted> {
-        let alloc = rows.alloc();
+    /// What refutes the numbers below all facts that are made.
+    ///
+    /// # Errors
+    ///
+    /// `Memory`, `Budget`, `Size` where the room of the leaves is too small, and `Levels`.
+    pub fn tree(&self, leaves: &mut Leaves) -> Result<Tree, Unrefuted> {
+        let alloc = leaves.alloc();
         let count = self.members().len();
         let level = self.level_of(self.lacks().len());
         let level = level.ok_or(Unrefuted::Levels)?.saturating_add(1);
@@ -366,15 +338,10 @@ impl Crowd {
         let mut refuter = Refuter {
             alloc,
             crowd: self,
-            rows,
-            leaves: 0,
-            room: *room,
+            leaves,
             members: self.copied_members()?,
         };
-        let tree = refuter.refute(level, &list, self.least())?;
-        *room = refuter.room;
-        let used = self.used();
-        Ok(Proof { used, tree })
+        refuter.refute(level, &list, self.least())
     }
 
     /// Refutes the crowd below its level, where these are the choices and the bounds with which it was
@@ -391,7 +358,10 @@ impl Crowd {
         bounds: &Bounds,
         room: &mut u64,
     ) -> Result<Proof, Unrefuted> {
-        let proof = self.below_all(rows, room)?;
-        self.above_all(proof, &mut Known { rows, open, bounds })
+        let mut leaves = Leaves::new(rows, *room);
+        let tree = self.tree(&mut leaves)?;
+        *room = leaves.room();
+        let used = self.used();
+        self.above_all(Proof { used, tree }, &mut Known { rows, open, bounds })
     }
 }

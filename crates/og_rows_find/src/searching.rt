@@ -2,7 +2,7 @@
 
 ghost use Rattle.std.specs.Prelude.{◌<◌, ◌≤◌, ◌^◌, length};
 
-use crate::sources::{LARGE, NO_FACTS, NOT_EVEN, deep, different, many, multiplied};
+use crate::sources::{LARGE, NO_FACTS, NOT_EVEN, deep, different, many, multiplied, queue};
 use og_cert_text::{CertFile, write_certs};
 use og_cond::{Condition, conditions};
 use og_find::{Missing, Verdict, examine, find};
@@ -181,6 +181,19 @@ fn different_numbers(rt: HostRuntime) -> Result<(), Fail> {
     }
     for values in 1..7 {
         expect_made(&rt, alloc, different(alloc, values, values)?, "tftt")?;
+    }
+    Ok(())
+}
+
+// As many entries as values of the counter leave no number for one that waits, and one number more does.
+#[test]
+fn queues(rt: HostRuntime) -> Result<(), Fail> {
+    let alloc = rt.alloc();
+    for entries in 2..9 {
+        expect_made(&rt, alloc, queue(alloc, entries, entries)?, "tttt")?;
+    }
+    for entries in 1..8 {
+        expect_made(&rt, alloc, queue(alloc, entries, entries + 1)?, "tftt")?;
     }
     Ok(())
 }

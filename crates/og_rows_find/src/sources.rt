@@ -97,3 +97,54 @@ pub(crate) fn different(
     let end = "} skip {false}\ncoend\n{false}\n";
     [names.as_str(), begin, facts.as_str(), end].concat(alloc)
 }
+
+// Adds an entry of a queue: its names, and what is said of it. Either it is through, or it waits with a number
+// above the counter and below the end that differs from those of the entries before it.
+fn put_entry(
+    alloc: Global,
+    names: &mut String,
+    facts: &mut String,
+    number: usize,
+) -> Result<(), AllocError> {
+    let n = number;
+    names.push_str(format!(in alloc; ", v{n}, d{n}")?.as_str())?;
+    facts.push_str(format!(in alloc; " and d{n} >= 0 and d{n} <= 1")?.as_str())?;
+    facts.push_str(format!(in alloc; " and (d{n} = 1 or d{n} = 0 and v{n} <> s)")?.as_str())?;
+    facts.push_str(format!(in alloc; " and (d{n} = 1 or s <= v{n} and v{n} < e)")?.as_str())?;
+    for other in 0..number {
+        let pair = format!(in alloc; " and (d{n} = 1 or d{other} = 1 or v{n} <> v{other})")?;
+        facts.push_str(pair.as_str())?;
+    }
+    Ok(())
+}
+
+// The sum of so many flags.
+fn sum_of_flags(alloc: Global, entries: usize) -> Result<String, AllocError> {
+    let mut sum = String::new(alloc);
+    for n in 0..entries {
+        sum.push_str(format!(in alloc; " + d{n}")?.as_str())?;
+    }
+    Ok(sum)
+}
+
+// A queue of so many entries, not all through, whose numbers are below the end, and then false.
+pub(crate) fn queue(alloc: Global, entries: usize, end: usize) -> Result<String, AllocError> {
+    let mut names = String::new(alloc);
+    let mut facts = String::new(alloc);
+    for number in 0..entries {
+        put_entry(alloc, &mut names, &mut facts, number)?;
+    }
+    let sum = sum_of_flags(alloc, entries)?;
+    let count = format!(in alloc; "s = 0{sum} and s < {entries} and e <= {end}")?;
+    let begin = ";\n{false}\ncobegin\n{";
+    let last = "} skip {false}\ncoend\n{false}\n";
+    [
+        "var s, e",
+        names.as_str(),
+        begin,
+        count.as_str(),
+        facts.as_str(),
+        last,
+    ]
+    .concat(alloc)
+}

@@ -9,6 +9,7 @@ use og_choices::{
 use og_elimination::{Gap, Outcome, Problem, Ranges, close_within, eliminate, narrow, note_bound};
 use og_inequalities::{Added, Bounds, Inequality, Model, Place, Rows, TOP, Term};
 use og_pigeons::{Crowd, look, weight_of_pairs};
+use og_queues::{Queue, Sight, look as look_for_queue};
 use og_refutation::{Cases, Lifted, Placed, Proof, both_sides, denial, leaf, refute_clash};
 use std::alloc::{AllocError, Global};
 
@@ -35,7 +36,7 @@ const DENIAL_LIMIT: usize = 64;
 const DENIAL_LEVEL: u32 = 180;
 
 /// The greatest size of a refutation, over all its leaves: more takes too much memory.
-const MOST: u64 = 2_400_000;
+const MOST: u64 = 3_600_000;
 
 // The facts with which a level begins.
 #[derive(Drop)]
@@ -58,6 +59,8 @@ enum Decision {
     },
     // It refutes these numbers.
     Refute(Crowd),
+    // It refutes this queue.
+    Queue(Queue),
 }
 
 // What comes of going into the parts of a choice.
@@ -390,6 +393,14 @@ impl<'a> Search<'a> {
         Ok(look(self.alloc, self.view(bounds), level)?)
     }
 
+    // A queue that leaves no place free, if there is one, to be refuted below this level. Takes a step for each
+    // 10,000 looks at a fact on the path.
+    fn queue(&mut self, level: u32, bounds: &Bounds) -> Result<Sight, Stop> {
+        let seen = look_for_queue(self.alloc, self.view(bounds), level)?;
+        self.rows.spend((seen.looks / 10_000) as u64)?;
+        Ok(seen.sight)
+    }
+
     // What is done where all rows hold of these values.
     fn decide_at(&mut self, model: Model, level: u32, bounds: &Bounds) -> Result<Decision, Stop> {
         self.model = model;
@@ -398,6 +409,11 @@ impl<'a> Search<'a> {
         }
         if let Some(crowd) = self.crowd(level, bounds)? {
             return Ok(Decision::Refute(crowd));
+        }
+        match self.queue(level, bounds)? {
+            Sight::Queue(queue) => return Ok(Decision::Queue(queue)),
+            Sight::Bound(form) => return Ok(Decision::Branch { form, next: None }),
+            Sight::Nothing => {}
         }
         if let Some(i) = forced(&self.open, bounds, Some(&self.model)) {
             return Ok(Decision::Split(i));
@@ -595,8 +611,8 @@ impl<'a> Search<'a> {
         Ok(Some(proof))
     }
 
-    // Refutes a part: by a choice of the condition or at once, in which order is shorter, or by a level
-    // of its own.
+    // Refutes a part: by a choice of the condition or at once, of which that goes first which is mostly
+    // shorter, or by a level of its own.
     #[cycle(search)]
     fn refute_part(&mut self, part: &'a Part, level: u32, bounds: &Bounds) -> Result<Proof, Stop> {
         let reach = Reach::of_level(level.saturating_add(1));
@@ -643,7 +659,14 @@ impl<'a> Search<'a> {
             Decision::Split(i) => self.split_at(below, i, &own),
             Decision::Branch { form, next } => self.branch(below, form, next, &own),
             Decision::Refute(crowd) => self.refute_crowd(&crowd, &own),
+            Decision::Queue(queue) => self.refute_queue(&queue, &own),
         }
+    }
+
+    // Refutes a queue that leaves no place free.
+    fn refute_queue(&mut self, queue: &Queue, bounds: &Bounds) -> Result<Proof, Stop> {
+        let proof = queue.refute(&mut self.rows, &self.open, bounds, &mut self.room)?;
+        Ok(proof)
     }
 
     // Refutes numbers that are all different and have too few values.
