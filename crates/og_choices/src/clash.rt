@@ -2,9 +2,9 @@
 
 use crate::chains::Chains;
 use crate::index::Index;
-use crate::open::Open;
+use crate::open::{News, Open};
 use crate::part::{Atom, Part};
-use og_inequalities::{Bounds, Inequality, Rows, TOP};
+use og_inequalities::{Bounds, Inequality, Rows, TOP, Term, Variables};
 
 /// The most parts of a choice that are held against each row.
 const PAIRS_LIMIT: usize = 8;
@@ -87,6 +87,27 @@ impl Few {
     }
 }
 
+// The variables of all these choices.
+fn all_variables(open: &[Open]) -> Variables {
+    let mut all = Variables::NONE;
+    for one in open {
+        all = all.union(one.variables());
+    }
+    all
+}
+
+// Whether a variable has coefficients of different signs in the two lists of terms: else their sum
+// is no greater, at its least, than what the two are by themselves.
+fn may_cancel(a: &[Term], b: &[Term]) -> bool {
+    a.iter().any(|x| has_opposite(b, *x))
+}
+
+// Whether the variable has a coefficient of the other sign among the terms.
+fn has_opposite(terms: &[Term], own: Term) -> bool {
+    let is_above = own.coefficient > 0;
+    terms.iter().any(|term| term.var == own.var && (term.coefficient > 0) != is_above)
+}
+
 impl Facts<'_> {
     // The place of the own fact with the opposite terms with which the inequality is at odds: the
     // first one that stands near, else the first.
@@ -124,35 +145,51 @@ impl Facts<'_> {
     // The row with the opposite terms, if the two are at odds.
     fn opposite(self, atom: &Atom) -> Option<usize> {
         let form = &atom.form;
-        if form.terms.len() < 2 {
-            return None;
-        }
         let row = self.index.opposite(self.rows, form, atom.direction?)?;
         let sum = form.constant.checked_add(self.rows.form(row).constant)?;
         if sum > 0 { Some(row) } else { None }
     }
 
-    // What the inequality is at odds with, by a look at its own terms.
-    fn against(self, atom: &Atom) -> Option<Against> {
-        if let Some(index) = self.own_opposite(atom) {
-            return Some(Against::Fact(index));
+    // What an inequality of one variable at most is at odds with. The bounds tell all that facts
+    // say of one variable.
+    fn against_bounds(self, atom: &Atom) -> Option<Against> {
+        if !self.bounds.exclude(&atom.form) {
+            return None;
         }
-        if let Some(row) = self.opposite(atom) {
-            return Some(Against::Row(row));
+        match self.own_opposite(atom) {
+            Some(index) => Some(Against::Fact(index)),
+            None => Some(Against::Bounds),
         }
-        if self.bounds.exclude(&atom.form) {
-            return Some(Against::Bounds);
-        }
-        None
     }
 
-    // The first row with which the inequality is at odds within the bounds.
+    // What the inequality is at odds with, by a look at its own terms. Where it is at odds with an
+    // own fact of several variables, so it is with the tightest row with the same terms.
+    fn against(self, atom: &Atom) -> Option<Against> {
+        if atom.form.terms.len() < 2 {
+            return self.against_bounds(atom);
+        }
+        let Some(row) = self.opposite(atom) else {
+            return if self.bounds.exclude(&atom.form) {
+                Some(Against::Bounds)
+            } else {
+                None
+            };
+        };
+        match self.own_opposite(atom) {
+            Some(index) => Some(Against::Fact(index)),
+            None => Some(Against::Row(row)),
+        }
+    }
+
+    // The first row with which the inequality is at odds within the bounds, where neither is so by
+    // itself.
     fn against_row(self, atom: &Atom) -> Option<Against> {
         atom.direction?;
         let form = &atom.form;
         for row in self.base {
             let other = self.rows.form(*row);
-            if other.terms.len() > 1 && self.bounds.exclude_sum(form, other) {
+            let is_worth_it = other.terms.len() > 1 && may_cancel(&form.terms, &other.terms);
+            if is_worth_it && self.bounds.exclude_sum(form, other) {
                 return Some(Against::Row(*row));
             }
         }
@@ -223,8 +260,8 @@ impl Facts<'_> {
         true
     }
 
-    // The places of the parts that are not at odds with what is known, by a look at their terms; none
-    // where there are more than so many.
+    // The places of the parts that are not at odds with what is known, by a look at their terms;
+    // none where there are more than so many.
     fn open_parts(self, parts: &[Part], most: usize) -> Option<Few> {
         let mut open = Few {
             places: [0; PAIRS_LIMIT],
@@ -267,7 +304,8 @@ impl Facts<'_> {
         }
     }
 
-    // Whether the facts of the part leave one of these choices no way.
+    // Whether the facts of the part leave one of these choices no way, of which none has no way
+    // without them.
     fn shuts_one(self, part: &Part, open: &[Open]) -> bool {
         let with = Facts {
             rows: self.rows,
@@ -280,10 +318,15 @@ impl Facts<'_> {
             assumed: Some(part),
         };
         let mut open = open.iter();
-        open.any(|one| !one.is_taken && with.are_shut(one.parts, Reach::Sight))
+        open.any(|one| {
+            !one.is_taken
+                && one.variables().may_meet(part.variables)
+                && with.are_shut(one.parts, Reach::Sight)
+        })
     }
 
-    // Whether each of the parts is at odds with what is known, or leaves one of these choices no way.
+    // Whether each of the parts is at odds with what is known, or leaves one of these choices no
+    // way.
     fn all_shut_one(self, parts: &[Part], open: &[Open]) -> bool {
         for part in parts {
             if !self.is_shut(part, Reach::Sight) && !self.shuts_one(part, open) {
@@ -293,13 +336,16 @@ impl Facts<'_> {
         true
     }
 
-    // The first choice with the fewest parts, among those that are open and each of whose parts is at
-    // odds with what is known, or leaves one of the others no way.
+    // The first choice with the fewest parts, among those that are open and each of whose parts is
+    // at odds with what is known, or leaves one of the others no way.
     fn shutting(self, open: &[Open], others: &[Open]) -> Option<usize> {
         let mut best = None;
         let mut least = usize::MAX;
+        let shared = all_variables(others);
         for (i, one) in open.iter().enumerate() {
-            if !one.is_taken && one.parts.len() < least && self.all_shut_one(one.parts, others) {
+            let is_shorter = !one.is_taken && one.parts.len() < least;
+            let may_shut = is_shorter && one.variables().may_meet(shared);
+            if may_shut && self.all_shut_one(one.parts, others) {
                 least = one.parts.len();
                 best = Some(i);
             }
@@ -312,9 +358,9 @@ impl Facts<'_> {
         self.open_parts(parts, 1).is_some()
     }
 
-    /// A choice each of whose parts is at odds with what is known, or leaves one of the last choices
-    /// no way, which stand from a place on; if there is one, and all parts but one of one of the last
-    /// choices are at odds with what is known, that one.
+    /// A choice each of whose parts is at odds with what is known, or leaves one of the last
+    /// choices no way, which stand from a place on; if there is one, and all parts but one of one
+    /// of the last choices are at odds with what is known, that one.
     pub fn denied(self, open: &[Open], from: usize) -> Option<usize> {
         let (first, last) = (open.get(..from)?, open.get(from..)?);
         let shutting = self.shutting(first, last)?;
@@ -325,13 +371,14 @@ impl Facts<'_> {
         }
     }
 
-    /// The first choice with the fewest parts, among those that are open and each of whose parts is
-    /// at odds with what is known.
-    pub fn refuted(self, open: &[Open], reach: Reach) -> Option<usize> {
+    /// The first choice with the fewest parts, among those that are open, that the news concern,
+    /// and each of whose parts is at odds with what is known.
+    pub fn refuted(self, open: &[Open], reach: Reach, news: News) -> Option<usize> {
         let mut best = None;
         let mut least = usize::MAX;
         for (i, one) in open.iter().enumerate() {
-            if !one.is_taken && one.parts.len() < least && self.is_refuted(one.parts, reach) {
+            let is_shorter = !one.is_taken && one.parts.len() < least && news.concern(i, one);
+            if is_shorter && self.is_refuted(one.parts, reach) {
                 least = one.parts.len();
                 best = Some(i);
             }

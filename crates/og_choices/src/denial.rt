@@ -1,4 +1,5 @@
-//! Choices each of whose parts is at odds with the facts of a part of another choice, by themselves.
+//! Choices each of whose parts is at odds with the facts of a part of another choice, by
+//! themselves.
 
 use crate::chains::Chains;
 use crate::part::{Atom, Choice, Part};
@@ -14,8 +15,8 @@ const SIZE_LIMIT: usize = 64;
 /// The most facts of a choice that is looked at whatever its key, and of the part.
 const SMALL: usize = 24;
 
-/// Whether an inequality of a part is at odds with one of the other, or so is each part of one of its
-/// choices.
+/// Whether an inequality of a part is at odds with one of the other, or so is each part of one of
+/// its choices.
 #[cycle(denying)]
 pub fn is_denied(part: &Part, by: &Part) -> bool {
     if part.atoms.iter().any(|atom| by.is_at_odds(atom)) {
@@ -124,7 +125,8 @@ pub fn refuted_by<'c>(choices: &'c [Choice], part: &Part) -> Option<&'c Choice> 
             Some(best) => choice.parts.len() < best.parts.len(),
             None => true,
         };
-        if is_shorter && choice.size <= SMALL && is_refuted(choice, part) {
+        let is_small = choice.size <= SMALL && choice.variables.may_meet(part.variables);
+        if is_shorter && is_small && is_refuted(choice, part) {
             best = Some(choice);
         }
     }

@@ -1,7 +1,7 @@
 //! The choices that are open on the path of a search, and which of them is taken next.
 
 use crate::part::{Atom, Choice, Known, Part, some_follows, ways, width};
-use og_inequalities::{Bounds, Inequality, Model, Place, Rows};
+use og_inequalities::{Bounds, Inequality, Model, Place, Rows, Variables};
 use std::alloc::{AllocError, Global};
 
 /// The most parts of a choice that is looked into.
@@ -26,6 +26,44 @@ pub struct Common {
     pub form: Inequality,
 }
 
+/// What changed since the choices on the path were last all looked at in vain: something became
+/// known of these variables, and the choices from a number on are new.
+#[derive(Clone, Copy)]
+pub struct News {
+    variables: Variables,
+    from: usize,
+}
+
+impl News {
+    /// All is new.
+    pub const ALL: News = News {
+        variables: Variables::ALL,
+        from: 0,
+    };
+
+    /// Nothing is new, where there are so many choices on the path.
+    pub fn none(choices: usize) -> News {
+        News {
+            variables: Variables::NONE,
+            from: choices,
+        }
+    }
+
+    /// With news of these variables too.
+    pub fn with(self, variables: Variables) -> News {
+        News {
+            variables: self.variables.union(variables),
+            from: self.from,
+        }
+    }
+
+    /// Whether the choice with this number is new, or something may have become known of one of its
+    /// variables.
+    pub fn concern(self, number: usize, choice: &Open) -> bool {
+        number >= self.from || choice.variables().may_meet(self.variables)
+    }
+}
+
 /// The number of a choice, and how many ways it has.
 #[derive(Clone, Copy)]
 pub struct Candidate {
@@ -44,6 +82,11 @@ impl<'a> Open<'a> {
             choice,
             rest,
         }
+    }
+
+    /// The variables that occur in it.
+    pub fn variables(&self) -> Variables {
+        self.choice.variables
     }
 
     /// Whether it has facts in common with others.
@@ -94,11 +137,12 @@ pub fn all_hold(open: &[Open], model: &Model) -> bool {
 }
 
 /// The first choice that has no way left, else the first that has one: among those that are false
-/// of the values; or without values, among those with no part that is known.
-pub fn forced(open: &[Open], bounds: &Bounds, model: Option<&Model>) -> Option<usize> {
+/// of the values; or without values, among those with no part that is known. Only choices that the
+/// news concern are looked at.
+pub fn forced(open: &[Open], bounds: &Bounds, model: Option<&Model>, news: News) -> Option<usize> {
     let mut single = None;
     for (i, one) in open.iter().enumerate() {
-        if !one.is_wanted(model) {
+        if !news.concern(i, one) || !one.is_wanted(model) {
             continue;
         }
         let left = ways(one.parts, bounds, 2);
@@ -262,8 +306,8 @@ fn weakest(parts: &[&Part], form: &Inequality) -> Option<i128> {
     Some(weakest)
 }
 
-// An inequality that each part that has a way implies, and that is false of the values, where several
-// have one.
+// An inequality that each part that has a way implies, and that is false of the values, where
+// several have one.
 fn common_row(
     alloc: Global,
     parts: &[Part],
@@ -290,7 +334,7 @@ fn common_row(
 }
 
 /// The first open choice with an inequality that all its parts imply, and that is false of the
-/// values.
+/// values: so the choice is false of them too.
 pub fn common_to_choice(
     alloc: Global,
     open: &[Open],
@@ -298,7 +342,7 @@ pub fn common_to_choice(
     model: &Model,
 ) -> Result<Option<Common>, AllocError> {
     for (choice, one) in open.iter().enumerate() {
-        if !one.is_taken {
+        if one.is_wanted(Some(model)) {
             if let Some(form) = common_row(alloc, one.parts, bounds, model)? {
                 return Ok(Some(Common { choice, form }));
             }

@@ -2,8 +2,7 @@
 
 use crate::chains::Chains;
 use crate::likeness::mark_parts;
-use og_inequalities::{Bounds, Inequality, Model};
-use og_linear::Form;
+use og_inequalities::{Bounds, Inequality, Model, Variables};
 use std::alloc::{AllocError, Global};
 
 /// An inequality and its place among the facts that it stands with, from 0; and the direction of
@@ -23,10 +22,12 @@ pub struct Part {
     pub atoms: Vec<Atom>,
     pub choices: Vec<Choice>,
     pub count: usize,
+    pub variables: Variables,
 }
 
 /// A choice of parts, its place among the facts that it stands with, from 0, how many facts there
-/// are in its parts, in all, and a number that is the same for equal parts.
+/// are in its parts, in all, a number that is the same for equal parts, and the variables that
+/// occur.
 #[cycle(part)]
 #[derive(Drop)]
 pub struct Choice {
@@ -34,6 +35,7 @@ pub struct Choice {
     pub parts: Vec<Part>,
     pub size: usize,
     pub mark: u128,
+    pub variables: Variables,
 }
 
 /// What is known of the variables.
@@ -91,6 +93,7 @@ impl Part {
             atoms: Vec::with_capacity(alloc, room)?,
             choices: Vec::new(alloc),
             count: 0,
+            variables: Variables::NONE,
         })
     }
 
@@ -101,11 +104,11 @@ impl Part {
         place
     }
 
-    /// Adds the fact that the form is at most 0. `AllocError` where an allocation was refused.
-    pub fn add_form(&mut self, form: &Form) -> Result<(), AllocError> {
-        let form = Inequality::of_form(self.alloc, form)?;
+    /// Adds the fact that the inequality holds. `AllocError` where an allocation was refused.
+    pub fn add_inequality(&mut self, form: Inequality) -> Result<(), AllocError> {
         let index = self.next_place();
         let direction = direction_of_row(&form);
+        self.variables = self.variables.union(Variables::of(&form.terms));
         self.atoms.push(Atom {
             index,
             form,
@@ -118,16 +121,20 @@ impl Part {
     /// was refused.
     pub fn add_choice(&mut self, parts: Vec<Part>) -> Result<(), AllocError> {
         let mut size = 0usize;
+        let mut variables = Variables::NONE;
         for part in &parts {
             size = size.saturating_add(part.size());
+            variables = variables.union(part.variables);
         }
         let index = self.next_place();
         let mark = mark_parts(&parts);
+        self.variables = self.variables.union(variables);
         self.choices.push(Choice {
             index,
             parts,
             size,
             mark,
+            variables,
         })?;
         Ok(())
     }
@@ -155,13 +162,14 @@ impl Part {
         size
     }
 
-    /// A part of as many facts, of which it holds these.
+    /// A part of as many facts, of which it holds these, which are some of its own.
     pub fn with_facts(&self, atoms: Vec<Atom>, choices: Vec<Choice>) -> Part {
         Part {
             alloc: self.alloc,
             atoms,
             choices,
             count: self.count,
+            variables: self.variables,
         }
     }
 
@@ -170,8 +178,8 @@ impl Part {
         self.atoms.iter().any(|own| own.is_at_odds(atom))
     }
 
-    // Whether some inequality is false within the bounds.
-    fn is_barred(&self, bounds: &Bounds) -> bool {
+    /// Whether some inequality is false within the bounds.
+    pub fn is_barred(&self, bounds: &Bounds) -> bool {
         self.atoms.iter().any(|atom| bounds.exclude(&atom.form))
     }
 

@@ -6,6 +6,7 @@ ghost use Rattle.og_inequalities.specs.Rows.{Extends, ShowsContradiction};
 ghost use Rattle.og_elimination.specs.Outcome.{IsTrueOutcome};
 
 use crate::counts::Counts;
+use crate::disturbed::disturbed;
 use crate::plan::next_plan;
 use crate::values::{Gap, Misfit, set_values};
 use crate::working::{Eliminated, Working};
@@ -143,7 +144,19 @@ fn run(rows: &mut Rows, problem: &Problem) -> Result<Progress, AddError>
     eliminate_all(&mut working, rows, problem)
 }
 
-/// Eliminates all variables. Values that hold already are the answer.
+// The kept values, each of them within the bounds of its variable.
+fn values_within(problem: &Problem) -> Result<Model, AllocError> {
+    let mut values = problem.kept.copy()?;
+    for var in 0..problem.variables {
+        let low = problem.bounds.get(var, Side::Lower).value;
+        let high = problem.bounds.get(var, Side::Upper).value;
+        values.set(var, values.value(var).max(low).min(high));
+    }
+    Ok(values)
+}
+
+/// Eliminates the variables of the rows that have to do with one that is false of the kept values.
+/// Where all rows hold of these, or of the nearest ones within the bounds, they are the answer.
 ///
 /// # Errors
 ///
@@ -157,8 +170,20 @@ pub fn eliminate(rows: &mut Rows, problem: &Problem) -> Result<Outcome, AddError
     if rows.all_hold(problem.base, problem.kept) {
         return Ok(Outcome::Model(problem.kept.copy()?));
     }
-    rows.spend(steps_for(problem.base.len()))?;
-    match run(rows, problem)? {
+    let values = values_within(problem)?;
+    if rows.all_hold(problem.base, &values) {
+        return Ok(Outcome::Model(values));
+    }
+    let base = disturbed(rows, problem.base, problem.kept, problem.variables)?;
+    rows.spend(steps_for(base.len()))?;
+    let disturbed = Problem {
+        base: &base,
+        bounds: problem.bounds,
+        kept: problem.kept,
+        variables: problem.variables,
+        ranges: problem.ranges,
+    };
+    match run(rows, &disturbed)? {
         Progress::Complete(gone) => Ok(model_of(rows, problem, &gone)?),
         Progress::TooManyRows => Ok(Outcome::Unknown),
     }

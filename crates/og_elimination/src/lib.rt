@@ -5,6 +5,7 @@
 #![tactic(auto)]
 
 mod counts;
+mod disturbed;
 mod elimination;
 mod narrowing;
 mod plan;

@@ -3,7 +3,7 @@
 ghost use Rattle.std.specs.Prelude.{IfErr};
 ghost use Rattle.og_inequalities.specs.Rows.{Extends, ShowsContradiction};
 
-use og_inequalities::{AddError, Added, Bounds, Limit, Rows, Side, Summand, Term};
+use og_inequalities::{AddError, Added, Bounds, Limit, Rows, Side, Summand, Term, Variables};
 
 /// Takes note of a row of one variable. Ends with a contradiction where no value
 /// is left.
@@ -89,6 +89,12 @@ fn is_better(bounds: &Bounds, term: Term, least: i128) -> bool {
     }
 }
 
+// Whether that gives one of the open variables of the row a better bound.
+fn has_better(rows: &Rows, row: usize, bounds: &Bounds, open: Open, least: i128) -> bool {
+    let mut terms = rows.form(row).terms.iter();
+    terms.any(|term| open.has(term.var) && is_better(bounds, *term, least))
+}
+
 // Adds the bound of one variable that follows from the row and the bounds of the others.
 fn narrow_one(rows: &mut Rows, row: usize, var: u32, bounds: &mut Bounds) -> Result<(), AddError>
     ensures extends { Extends rows.old.rows rows.new.rows }
@@ -105,11 +111,16 @@ fn narrow_by(rows: &mut Rows, row: usize, bounds: &mut Bounds) -> Result<(), Add
     ensures extends { Extends rows.old.rows rows.new.rows }
     ensures contradiction { IfErr result (ShowsContradiction rows.new.rows) }
 {
-    close_within(rows, row, bounds)?;
     let Some(least) = bounds.least(rows.form(row)) else {
         return Ok(());
     };
+    if least > 0 {
+        rows.add_with_bounds(row, None, bounds)?;
+    }
     let open = open_variables(rows, row, bounds);
+    if !has_better(rows, row, bounds, open, least) {
+        return Ok(());
+    }
     let terms = rows.form(row).terms.clone()?;
     for term in &terms {
         if open.has(term.var) && is_better(bounds, *term, least) {
@@ -119,14 +130,25 @@ fn narrow_by(rows: &mut Rows, row: usize, bounds: &mut Bounds) -> Result<(), Add
     Ok(())
 }
 
-/// Adds the bounds that follow from the rows of several variables, each row once and in order.
-/// Ends with a contradiction where no value of a variable is left.
-pub fn narrow(rows: &mut Rows, base: &[usize], bounds: &mut Bounds) -> Result<(), AddError>
+/// Adds the bounds that follow from rows of several variables, each row once and in order: from the
+/// rows from a place on, and before it from those that may have a variable that is among these, or
+/// that got a better bound since `bounds` was made. Ends with a contradiction where no value of a
+/// variable is left.
+pub fn narrow(
+    rows: &mut Rows,
+    base: &[usize],
+    from: usize,
+    late: Variables,
+    bounds: &mut Bounds,
+) -> Result<(), AddError>
     ensures extends { Extends rows.old.rows rows.new.rows }
     ensures contradiction { IfErr result (ShowsContradiction rows.new.rows) }
 {
-    for row in base {
-        if rows.form(*row).terms.len() > 1 {
+    for (place, row) in base.iter().enumerate() {
+        let terms = &rows.form(*row).terms;
+        let known = late.union(bounds.changed());
+        let is_due = place >= from || Variables::of(terms).may_meet(known);
+        if terms.len() > 1 && is_due {
             narrow_by(rows, *row, bounds)?;
         }
     }

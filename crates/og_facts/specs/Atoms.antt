@@ -1,10 +1,11 @@
 -- The terms of an inequality, which are borrowed, as they are or negated, or owned.
-use Rattle.std.specs.Prelude.{◌≡◌, negsuc, true}
+use Rattle.std.specs.Prelude.{◌≡◌, negsuc, true, if◌then◌else◌}
 use Rattle.og_linear.specs.Linear.{Terms}
 use Rattle.og_linear.specs.Tidy.{IsTidy}
 use Rattle.og_linear.specs.Arith.{scale_terms}
 use Rattle.og_linear.specs.Bounded.{fits_terms}
 use Rattle.og_facts.specs.declared.atom.Base.{Base}
+use Rattle.og_facts.specs.declared.atom.Signed.{Signed}
 use Rattle.og_facts.specs.declared.atom.Base.TheVariants as base
 
 abbrev pub terms_in : Base → Terms
@@ -15,3 +16,7 @@ terms_in (base.Own form) = form.value.terms
 -- they rise, none is 0, and each number fits
 abbrev pub AreTerms : Base → Type 0
 AreTerms b = IsTidy (terms_in b) × (fits_terms (terms_in b) ≡ true)
+
+-- the terms of a form as they are, or each negated
+abbrev pub signed_terms : Signed → Terms
+signed_terms s = if s.is_negated then scale_terms (negsuc 0) s.form.now.terms else s.form.now.terms

@@ -8,6 +8,7 @@ ghost use Rattle.og_linear.specs.Bounded.{fits_terms, fits_form};
 ghost use Rattle.og_linear.specs.Answer.{IsAnswer, OnMemory, checked, checked_int};
 ghost use Rattle.og_linear.specs.declared.fault.FormFault.TheVariants as faults;
 ghost use Rattle.og_facts.specs.Facts as plain;
+ghost use Rattle.og_facts.specs.Atoms.{signed_terms};
 
 use og_linear::{Form, FormError, FormFault};
 use std::alloc::{AllocError, Global};
@@ -43,6 +44,13 @@ impl<'a> Model for Atom<'a> {
     ghost view = { λ a. form_value (terms_in a.base) a.constant };
 
     ghost invariant = { λ a. AreTerms a.base };
+}
+
+/// A form whose terms are meant as they are, or each negated.
+#[derive(Clone, Copy)]
+pub struct Signed<'a> {
+    pub form: &'a Form,
+    pub is_negated: bool,
 }
 
 // The one number less the other.
@@ -184,14 +192,23 @@ impl<'a> Atom<'a> {
         }
     }
 
-    /// The form, where it stands in memory as it is. Takes no memory.
-    pub fn as_form(&self) -> Option<&Form>
-        ensures { IfSome result (λ form. form.now ≡ self.now) }
+    /// The form whose terms it has, as they are or each negated. Takes no memory.
+    pub fn signed(&self) -> Signed<'_>
+        ensures { signed_terms result ≡ self.now.terms }
     {
         match &self.base {
-            Base::Lent(form) if form.offset() == self.constant => Some(form),
-            Base::Own(form) if form.offset() == self.constant => Some(form),
-            _ => None,
+            Base::Lent(form) => Signed {
+                form,
+                is_negated: false,
+            },
+            Base::Negated(form) => Signed {
+                form,
+                is_negated: true,
+            },
+            Base::Own(form) => Signed {
+                form,
+                is_negated: false,
+            },
         }
     }
 

@@ -19,7 +19,7 @@ mod moves;
 mod relations;
 mod walking;
 
-pub use atom::Atom;
+pub use atom::{Atom, Signed};
 pub use fact::Fact;
 pub use fault::{FactsError, FactsFault};
 pub use laws::facts_law;

@@ -161,11 +161,11 @@ fn follow_facts<'c>(
     Ok(Followed::Own(examine_facts(alloc, list, &part, budget)?))
 }
 
-/// What is told of a condition after the certificate of its leader, another condition, from which it
-/// may differ in the names of variables alone: whether the same certificate is one of its own, and
-/// else its verdict, by that certificate with variables exchanged, or by a search within the budget.
-/// The facts of the leader are made where they are not among those of `leaders`, which has those of
-/// other leaders under other numbers.
+/// What is told of a condition after the certificate of its leader, another condition, from which
+/// it may differ in the names of variables alone: whether the same certificate is one of its own,
+/// and else its verdict, by that certificate with variables exchanged, or by a search within the
+/// budget. The facts of the leader are made where they are not among those of `leaders`, which has
+/// those of other leaders under other numbers.
 ///
 /// The answer is the same each time.
 ///

@@ -64,8 +64,8 @@ impl<'c> Leaders<'c> {
         }
     }
 
-    /// The certificate of the leader, carried over to these facts; it has to be checked. None where that
-    /// cannot be done.
+    /// The certificate of the leader, carried over to these facts; it has to be checked. None where
+    /// that cannot be done.
     pub(crate) fn carried(
         &mut self,
         alloc: Global,

@@ -11,8 +11,8 @@ use std::alloc::{AllocError, Global};
 /// differs have the same mark only by a chance of the hash.
 #[derive(Debug, Clone, Copy, PartialEq, Eq)]
 pub struct Marks {
-    /// Of its hypotheses, its goal, and the values that its action gives to the variables of the goal:
-    /// where these are the same, the facts are equal.
+    /// Of its hypotheses, its goal, and the values that its action gives to the variables of the
+    /// goal: where these are the same, the facts are equal.
     pub facts: u128,
     /// Of the same, but for the names of the variables that the action does not assign.
     pub shape: u128,

@@ -3,15 +3,21 @@
 use crate::truth::NESTING_LIMIT;
 use og_cond::Condition;
 use og_facts::{Atom, Fact, FactList, FactsError, facts};
+use og_inequalities::Inequality;
 use og_search::Part;
 use std::alloc::{AllocError, Global};
 
-// Adds the inequality.
-fn read_atom(alloc: Global, part: &mut Part, atom: &Atom) -> Result<(), AllocError> {
-    match atom.as_form() {
-        Some(form) => part.add_form(form),
-        None => part.add_form(&atom.form(alloc)?),
+// The inequality as a search takes it.
+fn inequality_of(alloc: Global, atom: &Atom) -> Result<Inequality, AllocError> {
+    let signed = atom.signed();
+    let mut form = Inequality::of_form(alloc, signed.form)?;
+    form.constant = atom.offset();
+    if signed.is_negated {
+        for term in &mut form.terms {
+            term.coefficient = term.coefficient.wrapping_neg();
+        }
     }
+    Ok(form)
 }
 
 #[cycle(reading)]
@@ -19,7 +25,7 @@ fn read_facts(alloc: Global, facts: &[Fact], depth: u32) -> Result<Part, AllocEr
     let mut part = Part::new(alloc, facts.len())?;
     for fact in facts {
         match fact {
-            Fact::Atom(atom) => read_atom(alloc, &mut part, atom)?,
+            Fact::Atom(atom) => part.add_inequality(inequality_of(alloc, atom)?)?,
             Fact::Split(parts) => match depth.checked_sub(1) {
                 Some(below) => part.add_choice(read_parts(alloc, parts, below)?)?,
                 None => part.add_unread(),

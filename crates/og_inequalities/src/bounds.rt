@@ -8,6 +8,7 @@ ghost use Rattle.og_inequalities.specs.Bounds.{whole, bound_at, bounded, Within,
 
 use crate::inequality::{Inequality, Term};
 use crate::number::{ceil_div, floor_div, product};
+use crate::variables::Variables;
 use std::alloc::{AllocError, Global};
 use std::marker;
 
@@ -127,6 +128,8 @@ impl Interval {
 #[derive(Drop)]
 pub struct Bounds {
     intervals: Vec<Interval>,
+    // The variables that got a better bound since it was made.
+    changed: Variables,
 }
 
 impl marker::Model for Bounds {
@@ -145,6 +148,7 @@ impl Bounds {
     {
         Ok(Bounds {
             intervals: vec![in alloc; Interval::whole(); variables]?,
+            changed: Variables::NONE,
         })
     }
 
@@ -154,15 +158,22 @@ impl Bounds {
     {
         Ok(Bounds {
             intervals: self.intervals.clone()?,
+            changed: Variables::NONE,
         })
+    }
+
+    /// The variables that got a better bound since these bounds were made, as a copy of others or
+    /// anew.
+    pub fn changed(&self) -> Variables {
+        self.changed
     }
 
     /// The bound of a variable on a side.
     pub fn get(&self, var: u32, side: Side) -> Bound
         ensures { result ≡ bound_at self.now var side }
     {
-        let interval = self.intervals.get(var as usize).copied();
-        let interval = interval.unwrap_or(Interval::whole());
+        let whole = Interval::whole();
+        let interval = self.intervals.get(var as usize).unwrap_or(&whole);
         match side {
             Side::Lower => interval.lower,
             Side::Upper => interval.upper,
@@ -278,8 +289,8 @@ impl Bounds {
         self.add_least(with_first, &b[j..])
     }
 
-    /// A number that the sum of the two forms is not below at values within the bounds, each term of
-    /// the sum where it is least; none where a number leaves `i128`.
+    /// A number that the sum of the two forms is not below at values within the bounds, each term
+    /// of the sum where it is least; none where a number leaves `i128`.
     pub fn least_of_sum(&self, first: &Inequality, second: &Inequality) -> Option<i128>
         ensures { IfSome result (λ v. (s : List ℤ) → Within self.now s
             → v ≤ℤ (left_side first.now s +ℤ left_side second.now s)) }
@@ -288,8 +299,8 @@ impl Bounds {
         self.add_least_of_sum(start, &first.terms, &second.terms)
     }
 
-    /// Whether the inequality is false at all values within the bounds, as far as sums of the terms'
-    /// least values tell.
+    /// Whether the inequality is false at all values within the bounds, as far as sums of the
+    /// terms' least values tell.
     pub fn exclude(&self, form: &Inequality) -> bool
         ensures { IsTrue result → (s : List ℤ) → Within self.now s → pos 0 <ℤ left_side form.now s }
     {
@@ -299,8 +310,8 @@ impl Bounds {
         }
     }
 
-    /// Whether the sum of the two inequalities is false at all values within the bounds, in the same
-    /// way.
+    /// Whether the sum of the two inequalities is false at all values within the bounds, in the
+    /// same way.
     pub fn exclude_sum(&self, first: &Inequality, second: &Inequality) -> bool
         ensures { IsTrue result → (s : List ℤ) → Within self.now s
             → pos 0 <ℤ (left_side first.now s +ℤ left_side second.now s) }
@@ -345,6 +356,7 @@ impl Bounds {
         requires { var < length self.old }
         ensures { self.new ≡ slice_set self.old var (bounded side bound (get_or self.old var whole)) }
     {
+        self.changed = self.changed.union(Variables::one(var));
         let interval = self.intervals[var as usize];
         self.intervals[var as usize] = match side {
             Side::Lower => Interval {

@@ -9,6 +9,7 @@ mod levels;
 mod model;
 mod number;
 mod rows;
+mod variables;
 
 pub use bounds::{Bound, Bounds, HIGHEST, Interval, LOWEST, Limit, Side};
 pub use error::{AddError, RowError};
@@ -17,3 +18,4 @@ pub use levels::{Levels, Place, TOP};
 pub use model::Model;
 pub use number::common;
 pub use rows::{Added, Origin, Row, Rows, Summand};
+pub use variables::Variables;

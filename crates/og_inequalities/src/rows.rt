@@ -435,8 +435,8 @@ impl Rows {
         }
     }
 
-    /// Adds the sum of two rows and the bounds of the variables that do not cancel out, as `add_sum`
-    /// does.
+    /// Adds the sum of two rows and the bounds of the variables that do not cancel out, as
+    /// `add_sum` does.
     ///
     /// # Errors
     ///

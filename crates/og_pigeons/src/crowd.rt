@@ -3,7 +3,8 @@
 use og_inequalities::{Levels, Place, Side};
 use std::alloc::{AllocError, Global};
 
-/// A number, and the facts that say that it is not below the least value and not above the greatest.
+/// A number, and the facts that say that it is not below the least value and not above the
+/// greatest.
 #[derive(Clone, Copy)]
 pub struct Member {
     pub var: u32,
@@ -23,8 +24,8 @@ impl Member {
     }
 }
 
-/// The choice of the two orders of a number and another, and whether the number is less in the first
-/// part.
+/// The choice of the two orders of a number and another, and whether the number is less in the
+/// first part.
 #[derive(Clone, Copy)]
 pub struct Order {
     pub choice: Place,
@@ -34,8 +35,8 @@ pub struct Order {
 /// A fact that is not on the path, and is made above the refutation of the numbers.
 #[derive(Clone, Copy)]
 pub(crate) enum Lack {
-    /// The choice of the orders of two numbers: it stands alone in this part of an open choice, whose
-    /// other parts are false within the bounds.
+    /// The choice of the orders of two numbers: it stands alone in this part of an open choice,
+    /// whose other parts are false within the bounds.
     Order { choice: usize, part: usize },
     /// That the variable is not beyond its values on this side, which the bounds say.
     Bound { var: u32, side: Side },
@@ -100,8 +101,8 @@ impl Crowd {
         self.used
     }
 
-    /// The level at which the fact is made that has this place among them; that below which the numbers
-    /// are refuted, where it is behind the last one. None where there are too few levels.
+    /// The level at which the fact is made that has this place among them; that below which the
+    /// numbers are refuted, where it is behind the last one. None where there are too few levels.
     pub(crate) fn level_of(&self, lack: usize) -> Option<u32> {
         let lack = u32::try_from(lack).ok()?;
         self.level.checked_sub(lack)?.checked_sub(1)
@@ -121,7 +122,8 @@ impl Crowd {
         self.used = self.used.union(Levels::one(place.level));
     }
 
-    /// Adds a number, with its orders with those before it. `AllocError` where an allocation was refused.
+    /// Adds a number, with its orders with those before it. `AllocError` where an allocation was
+    /// refused.
     pub fn add(&mut self, member: Member, orders: Vec<Order>) -> Result<(), AllocError> {
         self.note(member.least);
         self.note(member.most);

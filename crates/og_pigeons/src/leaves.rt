@@ -16,8 +16,8 @@ pub fn once(place: Place) -> Multiple {
     }
 }
 
-/// The leaves of a refutation: how many there are, the budget that they are taken from, and how much larger
-/// they may grow.
+/// The leaves of a refutation: how many there are, the budget that they are taken from, and how
+/// much larger they may grow.
 #[derive(Drop)]
 pub struct Leaves<'r> {
     alloc: Global,

@@ -18,4 +18,4 @@ pub use fault::Unrefuted;
 pub use leaves::{Leaves, once};
 pub use looking::look;
 pub use making::{Known, beyond};
-pub use pairs::{PARTS_LIMIT, hidden, is_barred, orders, weight_of_pairs};
+pub use pairs::{PARTS_LIMIT, hidden, orders, weight_of_pairs};

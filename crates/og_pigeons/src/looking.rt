@@ -171,9 +171,9 @@ fn gathered(
     Ok(Some(crowd))
 }
 
-/// The smallest crowd, to be refuted below this level: numbers that are all different, by open choices,
-/// and one more than they have values within the bounds. None where there is no crowd of 4 to 10
-/// numbers, or there are too few levels.
+/// The smallest crowd, to be refuted below this level: numbers that are all different, by open
+/// choices, and one more than they have values within the bounds. None where there is no crowd of 4
+/// to 10 numbers, or there are too few levels.
 ///
 /// # Errors
 ///

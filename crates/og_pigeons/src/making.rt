@@ -1,4 +1,5 @@
-//! The facts that a crowd lacks: what refutes the other parts of a choice, or the other side of a bound.
+//! The facts that a crowd lacks: what refutes the other parts of a choice, or the other side of a
+//! bound.
 
 use crate::crowd::{Crowd, Lack};
 use crate::fault::Unrefuted;
@@ -16,8 +17,8 @@ pub struct Known<'k, 'a> {
 }
 
 impl Known<'_, '_> {
-    // What refutes a part whose facts stand at this level, by an inequality that is false within the
-    // bounds.
+    // What refutes a part whose facts stand at this level, by an inequality that is false within
+    // the bounds.
     fn barred(&mut self, part: &Part, level: u32) -> Result<Option<Proof>, Unrefuted> {
         let mut atoms = part.atoms.iter();
         let Some(atom) = atoms.find(|atom| self.bounds.exclude(&atom.form)) else {
@@ -55,8 +56,8 @@ impl Known<'_, '_> {
         Ok(cases.into_proof())
     }
 
-    /// The refutation of both sides of a form, where this is the one of the side on which it is above 0,
-    /// and the other side is false within the bounds.
+    /// The refutation of both sides of a form, where this is the one of the side on which it is
+    /// above 0, and the other side is false within the bounds.
     ///
     /// # Errors
     ///
@@ -78,7 +79,8 @@ impl Known<'_, '_> {
     }
 }
 
-/// The form that is at most 0 where the variable is below the value, for the lower side, or above it.
+/// The form that is at most 0 where the variable is below the value, for the lower side, or above
+/// it.
 ///
 /// # Errors
 ///
@@ -118,8 +120,8 @@ impl Crowd {
         }
     }
 
-    /// The refutation above all facts that are made, where this is the one below them. Each costs a step
-    /// of the budget of the rows, and what its own sums cost.
+    /// The refutation above all facts that are made, where this is the one below them. Each costs a
+    /// step of the budget of the rows, and what its own sums cost.
     pub(crate) fn above_all(&self, proof: Proof, known: &mut Known) -> Result<Proof, Unrefuted> {
         let mut whole = proof;
         for (number, lack) in self.lacks().iter().enumerate().rev() {

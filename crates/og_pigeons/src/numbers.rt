@@ -87,8 +87,8 @@ impl Numbers {
         Ok(())
     }
 
-    // The bits of the first variables within these bounds each of which differs from those before it,
-    // so many at most.
+    // The bits of the first variables within these bounds each of which differs from those before
+    // it, so many at most.
     fn different(&self, least: i128, most: i128, size: usize) -> u64 {
         let mut bits = 0u64;
         for number in &self.numbers {

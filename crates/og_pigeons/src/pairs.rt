@@ -16,8 +16,8 @@ pub(crate) struct Pair {
     pub second: u32,
     /// The number of the choice.
     pub choice: usize,
-    /// Which of its parts is left, where this part is the choice of the two orders. Else its parts are
-    /// the two orders.
+    /// Which of its parts is left, where this part is the choice of the two orders. Else its parts
+    /// are the two orders.
     pub left: Option<usize>,
 }
 
@@ -54,7 +54,8 @@ fn less_in(part: &Part) -> Option<(u32, u32)> {
     less(&part.atoms.first()?.form)
 }
 
-/// The variables of which these parts are the two orders, the one that is less in the first part first.
+/// The variables of which these parts are the two orders, the one that is less in the first part
+/// first.
 pub fn orders(parts: &[Part]) -> Option<(u32, u32)> {
     if parts.len() != 2 {
         return None;
@@ -75,8 +76,8 @@ fn orders_in(part: &Part) -> Option<(u32, u32)> {
     orders(&part.choices.first()?.parts)
 }
 
-/// The first part that is a choice of the two orders of two variables and nothing else: its place, and the
-/// variables, the one that is less in the first part first.
+/// The first part that is a choice of the two orders of two variables and nothing else: its place,
+/// and the variables, the one that is less in the first part first.
 pub fn hidden(parts: &[Part]) -> Option<(usize, (u32, u32))> {
     for (place, part) in parts.iter().enumerate() {
         if let Some(variables) = orders_in(part) {
@@ -86,11 +87,6 @@ pub fn hidden(parts: &[Part]) -> Option<(usize, (u32, u32))> {
     None
 }
 
-/// Whether an inequality of the part is false within the bounds.
-pub fn is_barred(part: &Part, bounds: &Bounds) -> bool {
-    part.atoms.iter().any(|atom| bounds.exclude(&atom.form))
-}
-
 // The place of such a part, and its variables, if no other part is left.
 fn left(parts: &[Part], bounds: &Bounds) -> Option<(usize, (u32, u32))> {
     if parts.len() > PARTS_LIMIT {
@@ -98,7 +94,7 @@ fn left(parts: &[Part], bounds: &Bounds) -> Option<(usize, (u32, u32))> {
     }
     let (own, variables) = hidden(parts)?;
     for (place, part) in parts.iter().enumerate() {
-        if place != own && !is_barred(part, bounds) {
+        if place != own && !part.is_barred(bounds) {
             return None;
         }
     }

@@ -10,7 +10,7 @@ use crate::leaves::{Leaves, once};
 use crate::making::Known;
 use og_choices::Open;
 use og_inequalities::{Bounds, Inequality, Place, Rows, Term};
-use og_refutation::{Case, Proof, Sides, Tree};
+use og_refutation::{Case, Proof, Tree, branch, told_at};
 use std::alloc::{AllocError, Global};
 
 /// The most numbers that are put in order.
@@ -31,8 +31,8 @@ struct Ordering<'v> {
     chain: &'v [Link],
 }
 
-/// Numbers that are one more than there are values from the least one on, and those of the list up to
-/// the next one, by the half of the values in which each is taken to be.
+/// Numbers that are one more than there are values from the least one on, and those of the list up
+/// to the next one, by the half of the values in which each is taken to be.
 #[derive(Drop)]
 struct Sorting<'v> {
     list: &'v [usize],
@@ -123,8 +123,8 @@ fn case(level: u32, tree: Tree) -> Case {
     }
 }
 
-// Both parts of the order of two numbers, where these trees refute that the one is less, and that it
-// is greater.
+// Both parts of the order of two numbers, where these trees refute that the one is less, and that
+// it is greater.
 fn split(
     alloc: Global,
     order: Order,
@@ -141,11 +141,6 @@ fn split(
         choice: order.choice,
         cases: vec![in alloc; case(level, first), case(level, second)]?,
     })
-}
-
-// The only fact of a part or a side at this level.
-fn told_at(level: u32) -> Place {
-    Place { level, index: 0 }
 }
 
 impl Refuter<'_, '_> {
@@ -243,8 +238,8 @@ impl Refuter<'_, '_> {
         self.grow(level, Ordering { list, next, chain })
     }
 
-    // Refutes those of the numbers in a half that are one more than its values, if so many are there;
-    // else takes the next number to be in either half.
+    // Refutes those of the numbers in a half that are one more than its values, if so many are
+    // there; else takes the next number to be in either half.
     #[cycle(halving)]
     fn halve(&mut self, level: u32, sorting: &mut Sorting) -> Result<Tree, Unrefuted> {
         let below = level.checked_sub(1).ok_or(Unrefuted::Levels)?;
@@ -256,7 +251,7 @@ impl Refuter<'_, '_> {
         let form = self.at_most(own.var, sorting.middle)?;
         let first = self.lower(below, number, sorting)?;
         let second = self.raise(below, number, sorting)?;
-        self.branch(below, form, first, second)
+        Ok(branch(self.alloc, below, form, first, second)?)
     }
 
     // Refutes that a number is in the lower half.
@@ -299,25 +294,6 @@ impl Refuter<'_, '_> {
         let coefficient = 1;
         Ok(Inequality::single(self.alloc, Term { var, coefficient }, constant)?)
     }
-
-    // Both sides of a form, where these trees refute them.
-    fn branch(
-        &self,
-        level: u32,
-        form: Inequality,
-        first: Tree,
-        second: Tree,
-    ) -> Result<Tree, Unrefuted> {
-        let sides = Sides {
-            level,
-            form,
-            first,
-            second,
-            is_general: false,
-            next: None,
-        };
-        Ok(Tree::Branch(Box::new(self.alloc, sides)?))
-    }
 }
 
 impl Crowd {
@@ -344,9 +320,9 @@ impl Crowd {
         refuter.refute(level, &list, self.least())
     }
 
-    /// Refutes the crowd below its level, where these are the choices and the bounds with which it was
-    /// found. Each 16 leaves cost a step of the budget of the rows, and each fact that is made one and what
-    /// its own sums cost; the size of the leaves is taken from the room.
+    /// Refutes the crowd below its level, where these are the choices and the bounds with which it
+    /// was found. Each 16 leaves cost a step of the budget of the rows, and each fact that is made
+    /// one and what its own sums cost; the size of the leaves is taken from the room.
     ///
     /// # Errors
     ///

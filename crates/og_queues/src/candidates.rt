@@ -4,10 +4,11 @@ use crate::narrowing::{Own, Source, Stage, fact_of};
 use crate::queue::Var;
 use og_choices::{Open, Part, View};
 use og_inequalities::{Bounds, Place};
-use og_pigeons::{PARTS_LIMIT, hidden, is_barred, orders};
+use og_pigeons::{PARTS_LIMIT, hidden, orders};
 use std::alloc::{AllocError, Global};
 
-/// Two variables, the one that is less in the first part first, of which a part of a choice says that they differ.
+/// Two variables, the one that is less in the first part first, of which a part of a choice says
+/// that they differ.
 #[derive(Clone, Copy)]
 pub(crate) struct Hidden {
     pub choice: usize,
@@ -16,8 +17,8 @@ pub(crate) struct Hidden {
     pub second: Var,
 }
 
-/// The choice that says that a number is not the counter: where it stands, its parts, and the one in which the
-/// number is greater.
+/// The choice that says that a number is not the counter: where it stands, its parts, and the one
+/// in which the number is greater.
 #[derive(Clone, Copy)]
 pub(crate) struct Apart<'a> {
     pub choice: Source,
@@ -34,8 +35,8 @@ pub(crate) struct Ways<'a> {
     pub through: usize,
 }
 
-/// What may be an entry: its number, the counter, the choice of whether it is through, unless it waits by the facts
-/// on the path, and the choice that says that the number is not the counter.
+/// What may be an entry: its number, the counter, the choice of whether it is through, unless it
+/// waits by the facts on the path, and the choice that says that the number is not the counter.
 #[derive(Clone, Copy)]
 pub(crate) struct Candidate<'a> {
     pub number: Var,
@@ -44,7 +45,8 @@ pub(crate) struct Candidate<'a> {
     pub apart: Apart<'a>,
 }
 
-/// The choice of which one part tells the range of a number: that it is not below the counter, and less than the end.
+/// The choice of which one part tells the range of a number: that it is not below the counter, and
+/// less than the end.
 #[derive(Clone, Copy)]
 pub(crate) struct Range<'a> {
     pub place: Place,
@@ -96,8 +98,8 @@ fn is_number(pairs: &[Hidden], var: Var) -> bool {
     pairs.iter().any(|pair| pair.has(var))
 }
 
-// The number and the counter of which the choice with these parts says that they differ, and the part in which the
-// number is greater.
+// The number and the counter of which the choice with these parts says that they differ, and the
+// part in which the number is greater.
 fn number_apart(pairs: &[Hidden], parts: &[Part]) -> Option<(Var, Var, usize)> {
     let (first, second) = orders(parts)?;
     match (is_number(pairs, first), is_number(pairs, second)) {
@@ -122,7 +124,7 @@ fn two_left(parts: &[Part], bounds: &Bounds) -> Option<(usize, usize)> {
     let mut left = parts
         .iter()
         .enumerate()
-        .filter(|(_, part)| !is_barred(part, bounds));
+        .filter(|(_, part)| !part.is_barred(bounds));
     let (first, _) = left.next()?;
     let (second, _) = left.next()?;
     match left.next() {
@@ -131,7 +133,8 @@ fn two_left(parts: &[Part], bounds: &Bounds) -> Option<(usize, usize)> {
     }
 }
 
-// The candidate with this number that may be through, where it waits in the one part and is through in the other.
+// The candidate with this number that may be through, where it waits in the one part and is through
+// in the other.
 fn in_doubt<'a>(
     pairs: &[Hidden],
     one: Open<'a>,
@@ -213,8 +216,8 @@ pub(crate) fn candidates<'a>(
     Ok(found)
 }
 
-// The end of which the part says that the number is less, and the place of the fact, where it also says that the number is
-// not below the counter.
+// The end of which the part says that the number is less, and the place of the fact, where it also
+// says that the number is not below the counter.
 fn end_in(part: &Part, number: Var, counter: Var) -> Option<(Var, usize)> {
     fact_of(part, &[(counter, 1), (number, -1)], 0)?;
     for atom in &part.atoms {

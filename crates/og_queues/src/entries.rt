@@ -14,7 +14,8 @@ struct Seen<'a> {
     part: Option<&'a Part>,
 }
 
-/// What is known of whether an entry is through, its flag, and the fact that this is at most 0 where it waits.
+/// What is known of whether an entry is through, its flag, and the fact that this is at most 0
+/// where it waits.
 #[derive(Drop)]
 struct Flagged {
     state: State,
@@ -22,9 +23,9 @@ struct Flagged {
     high: Source,
 }
 
-/// Makes the entries of candidates, one after the other: the variables among which the flags are, the end that all
-/// numbers are less than, and the choices that hide that two differ; and what was made: the flags, the entries, and for
-/// each of these the pairs with those before it.
+/// Makes the entries of candidates, one after the other: the variables among which the flags are,
+/// the end that all numbers are less than, and the choices that hide that two differ; and what was
+/// made: the flags, the entries, and for each of these the pairs with those before it.
 #[derive(Drop)]
 pub(crate) struct Maker<'a, 'h> {
     alloc: Global,
@@ -71,7 +72,8 @@ impl<'a, 'h> Maker<'a, 'h> {
         }
     }
 
-    // The flag that is 0 where the entry waits and 1 where it is through, with the places of the facts that say so.
+    // The flag that is 0 where the entry waits and 1 where it is through, with the places of the
+    // facts that say so.
     fn flag_of(&self, waits: &Part, through: &Part) -> Option<(Var, usize, usize)> {
         for var in &self.counted {
             let high = fact_of(waits, &[(*var, 1)], 0);
@@ -107,7 +109,8 @@ impl<'a, 'h> Maker<'a, 'h> {
         })
     }
 
-    // What is known of an entry that waits by the facts on the path: its flag is the first one that is at most 0 there.
+    // What is known of an entry that waits by the facts on the path: its flag is the first one that
+    // is at most 0 there.
     fn waiting(&self, ground: &mut Ground) -> Result<Flagged, Missed> {
         for flag in &self.counted {
             if let Some(place) = ground.path_place(&[(*flag, 1)], 0) {

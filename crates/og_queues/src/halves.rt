@@ -1,22 +1,22 @@
 //! The refutation of a queue.
 //!
-//! First the counter is taken to be in the lower half of its values or above it. Where it is above, few entries can
-//! wait, and each is taken to wait or to be through. Where it is not, each entry is taken to wait with a number of the
-//! upper half or not, by a form that is one inequality: so those that do not are not yet told apart. Once there are too
-//! many with such numbers, these alone are refuted; once there are too many others, each of these alone is taken to wait
-//! or to be through.
+//! First the counter is taken to be in the lower half of its values or above it. Where it is above,
+//! few entries can wait, and each is taken to wait or to be through. Where it is not, each entry is
+//! taken to wait with a number of the upper half or not, by a form that is one inequality: so those
+//! that do not are not yet told apart. Once there are too many with such numbers, these alone are
+//! refuted; once there are too many others, each of these alone is taken to wait or to be through.
 
 use crate::queue::{Queue, State};
-use crate::refuter::{Refuter, Standing, Values, WEIGHT, Waiting, levels_behind, lower, told_at};
+use crate::refuter::{Refuter, Standing, Values, WEIGHT, Waiting, levels_behind, lower};
 use crate::sets::{Course, Known, Listed, Sets};
 use og_choices::Open;
 use og_inequalities::{Bounds, Inequality, Place, Rows, Side, Term};
 use og_pigeons::{Known as Path, Leaves, Unrefuted, beyond, once};
-use og_refutation::{Multiple, Name, Proof, Tree};
+use og_refutation::{Multiple, Name, Proof, Tree, branch, told_at};
 use std::alloc::Global;
 
-/// The greatest value of the lower half, and where it stands that the counter is not above it; which entry is next, those
-/// that wait with numbers of the upper half, and those that do not.
+/// The greatest value of the lower half, and where it stands that the counter is not above it;
+/// which entry is next, those that wait with numbers of the upper half, and those that do not.
 #[derive(Drop)]
 struct Halves {
     middle: i128,
@@ -45,8 +45,8 @@ fn form_of(
 }
 
 impl Refuter<'_, '_, '_> {
-    // The form that is at most 0 where the entry waits with a number above the value, and at least 1 where it waits with
-    // another one or is through.
+    // The form that is at most 0 where the entry waits with a number above the value, and at least
+    // 1 where it waits with another one or is through.
     fn above_form(&self, number: usize, value: i128) -> Result<Inequality, Unrefuted> {
         let queue = self.queue;
         let entry = self.entry(number)?;
@@ -84,7 +84,7 @@ impl Refuter<'_, '_, '_> {
         let second = self.refute_halves(below, halves)?;
         halves.low.pop();
         halves.next = number;
-        self.branch(below, form, first, second)
+        Ok(branch(self.alloc, below, form, first, second)?)
     }
 
     // Refutes the entries that do not wait with numbers of the upper half.
@@ -98,7 +98,8 @@ impl Refuter<'_, '_, '_> {
         self.refute_sets(level, sets, &mut Course::new(self.alloc))
     }
 
-    // What refutes that an entry waits with a number of the upper half, which is the fact at this level.
+    // What refutes that an entry waits with a number of the upper half, which is the fact at this
+    // level.
     #[cycle(halves)]
     fn refute_high(
         &mut self,
@@ -188,12 +189,13 @@ impl Refuter<'_, '_, '_> {
         )?;
         let first = self.refute_halves(level, &mut halves)?;
         let second = self.refute_above(level, middle)?;
-        self.branch(level, form, first, second)
+        Ok(branch(self.alloc, level, form, first, second)?)
     }
 }
 
 impl Queue {
-    // What refutes the queue below the facts that the end and the counter are not above their greatest values.
+    // What refutes the queue below the facts that the end and the counter are not above their
+    // greatest values.
     fn tree(&self, leaves: &mut Leaves) -> Result<Tree, Unrefuted> {
         let alloc = leaves.alloc();
         let none = Standing {
@@ -213,9 +215,9 @@ impl Queue {
         refuter.refute(lower(self.level, 3)?)
     }
 
-    /// Refutes the queue below its level, where these are the choices and the bounds with which it was
-    /// found. Each 16 leaves cost a step of the budget of the rows; the size of the leaves is taken from
-    /// the room.
+    /// Refutes the queue below its level, where these are the choices and the bounds with which it
+    /// was found. Each 16 leaves cost a step of the budget of the rows; the size of the leaves is
+    /// taken from the room.
     ///
     /// # Errors
     ///

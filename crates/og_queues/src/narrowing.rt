@@ -5,8 +5,8 @@ use og_choices::{Atom, Part, View};
 use og_inequalities::{Inequality, Levels, Origin, Place};
 use std::alloc::Global;
 
-/// The part of a choice whose facts an entry that waits has: that in which it waits, that which tells the
-/// range of its number, and that in which the number is above the counter.
+/// The part of a choice whose facts an entry that waits has: that in which it waits, that which
+/// tells the range of its number, and that in which the number is above the counter.
 #[derive(Clone, Copy)]
 pub(crate) enum Stage {
     Waiting,
@@ -31,7 +31,8 @@ pub(crate) enum Source {
     Own(Own),
 }
 
-/// What refutes a part: one of its inequalities, with a fact that is known, if it is not false by itself.
+/// What refutes a part: one of its inequalities, with a fact that is known, if it is not false by
+/// itself.
 #[derive(Clone, Copy)]
 pub(crate) struct Closing {
     pub index: usize,
@@ -169,12 +170,13 @@ impl Ground<'_, '_> {
         }
     }
 
-    /// What becomes of the parts of this choice, where the parts of these numbers are left and these facts are
-    /// known.
+    /// What becomes of the parts of this choice, where the parts of these numbers are left and
+    /// these facts are known.
     ///
     /// # Errors
     ///
-    /// `Fact` where another part is not refuted by one fact more. `Memory` where an allocation was refused.
+    /// `Fact` where another part is not refuted by one fact more. `Memory` where an allocation was
+    /// refused.
     pub(crate) fn narrowing(
         &mut self,
         choice: Source,

@@ -85,8 +85,8 @@ fn counted(alloc: Global, count: Count, counter: Var) -> Result<Vec<Var>, AllocE
     Ok(flags)
 }
 
-// The facts that the flags of others than the entries are at least what they are, and the least value of the
-// counter where no entry is through.
+// The facts that the flags of others than the entries are at least what they are, and the least
+// value of the counter where no entry is through.
 fn others(
     ground: &mut Ground,
     count: Count,
@@ -112,7 +112,8 @@ fn is_full(entries: usize, values: Values) -> bool {
     values.least >= 0 && wanted == Some(entries as i128)
 }
 
-// The queue of these candidates, the first of which is this one, with the choices that hide that two numbers differ.
+// The queue of these candidates, the first of which is this one, with the choices that hide that
+// two numbers differ.
 fn gathered<'a>(
     ground: &mut Ground<'_, 'a>,
     candidates: &[Candidate<'a>],

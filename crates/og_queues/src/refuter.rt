@@ -1,21 +1,22 @@
-//! What the refutation of a queue is made of: the choices that are narrowed, the bounds that are shown, and the
-//! entries that wait.
+//! What the refutation of a queue is made of: the choices that are narrowed, the bounds that are
+//! shown, and the entries that wait.
 
 use crate::narrowing::{Closing, Narrowing, Source, Stage};
 use crate::queue::{Entry, Queue, State};
 use og_inequalities::{Inequality, Place, Side};
 use og_pigeons::{Crowd, Leaves, Member, Order, Unrefuted, beyond, once};
-use og_refutation::{Case, Multiple, Name, Sides, Tree};
+use og_refutation::{Case, Multiple, Name, Tree, branch, told_at};
 use std::alloc::Global;
 
 /// How many levels an entry takes that waits, but for those of its orders.
 const LEVELS_OF_ENTRY: usize = 4;
 
-/// What is taken so often of the fact that a flag is 0, or 1, that the number of its entry does not matter.
+/// What is taken so often of the fact that a flag is 0, or 1, that the number of its entry does not
+/// matter.
 pub(crate) const WEIGHT: u64 = i64::MAX as u64;
 
-/// The level of the facts of an entry: those of the part in which it waits, of its range, and that its number is
-/// above the counter. Where it is through the fact that its flag is at least 1.
+/// The level of the facts of an entry: those of the part in which it waits, of its range, and that
+/// its number is above the counter. Where it is through the fact that its flag is at least 1.
 #[derive(Clone, Copy)]
 pub(crate) struct Standing {
     pub waiting: u32,
@@ -24,8 +25,9 @@ pub(crate) struct Standing {
     pub through: Option<Place>,
 }
 
-/// An entry that waits: the facts from which it follows that its number is not below the least value, the fact
-/// that it is not above the greatest, and its orders with those that wait before it.
+/// An entry that waits: the facts from which it follows that its number is not below the least
+/// value, the fact that it is not above the greatest, and its orders with those that wait before
+/// it.
 #[derive(Drop)]
 pub(crate) struct Waiting {
     pub entry: usize,
@@ -51,11 +53,6 @@ pub(crate) struct Refuter<'q, 'l, 'r> {
     pub end: Place,
     pub counter: Place,
     pub standings: Vec<Standing>,
-}
-
-/// The only fact of a part or a side at this level.
-pub(crate) fn told_at(level: u32) -> Place {
-    Place { level, index: 0 }
 }
 
 /// The level so many below this one.
@@ -142,27 +139,8 @@ impl<'q> Refuter<'q, '_, '_> {
         self.split(narrowing, level, left)
     }
 
-    /// Both sides of a form, where these trees refute them.
-    pub(crate) fn branch(
-        &self,
-        level: u32,
-        form: Inequality,
-        first: Tree,
-        second: Tree,
-    ) -> Result<Tree, Unrefuted> {
-        let sides = Sides {
-            level,
-            form,
-            first,
-            second,
-            is_general: false,
-            next: None,
-        };
-        Ok(Tree::Branch(Box::new(self.alloc, sides)?))
-    }
-
-    /// Both sides of a form, where the fact that it is at most 0 is refuted by these facts, and the tree refutes
-    /// that it is above 0.
+    /// Both sides of a form, where the fact that it is at most 0 is refuted by these facts, and the
+    /// tree refutes that it is above 0.
     pub(crate) fn shown(
         &mut self,
         level: u32,
@@ -174,7 +152,7 @@ impl<'q> Refuter<'q, '_, '_> {
         end.push(once(told_at(level)))?;
         end.extend_from_slice(facts)?;
         let first = self.leaves.close(end)?;
-        self.branch(level, form, first, tree)
+        Ok(branch(self.alloc, level, form, first, tree)?)
     }
 
     /// The fact at this place, so often that the number of its entry does not matter.
@@ -204,8 +182,8 @@ impl<'q> Refuter<'q, '_, '_> {
         Ok(orders)
     }
 
-    /// Lets an entry wait behind these, at this level and those below. That its number is not below the least value
-    /// follows from these facts.
+    /// Lets an entry wait behind these, at this level and those below. That its number is not below
+    /// the least value follows from these facts.
     pub(crate) fn stand(
         &mut self,
         level: u32,
@@ -238,7 +216,8 @@ impl<'q> Refuter<'q, '_, '_> {
         Ok(())
     }
 
-    // The choices of the orders of an entry and those before it, where the tree refutes what is below these.
+    // The choices of the orders of an entry and those before it, where the tree refutes what is
+    // below these.
     fn with_orders(
         &mut self,
         level: u32,
@@ -256,8 +235,8 @@ impl<'q> Refuter<'q, '_, '_> {
         Ok(whole)
     }
 
-    /// What refutes the part in which an entry waits, at this level, where the tree refutes what is below its facts, and
-    /// these facts refute that its number is above the value.
+    /// What refutes the part in which an entry waits, at this level, where the tree refutes what is
+    /// below its facts, and these facts refute that its number is above the value.
     pub(crate) fn with_entry(
         &mut self,
         level: u32,
@@ -275,8 +254,8 @@ impl<'q> Refuter<'q, '_, '_> {
         self.split_one(&entry.range, lower(level, 1)?, above)
     }
 
-    /// The choice of whether an entry waits or is through, at this level, where these trees refute either. The second
-    /// one is made only where it may be through.
+    /// The choice of whether an entry waits or is through, at this level, where these trees refute
+    /// either. The second one is made only where it may be through.
     pub(crate) fn with_doubt(
         &mut self,
         level: u32,
@@ -307,7 +286,8 @@ impl<'q> Refuter<'q, '_, '_> {
         Ok(vec![in self.alloc; once(high), once(self.end)]?)
     }
 
-    // The numbers of these entries, which have these values, at this level: the facts that tell so stand above it.
+    // The numbers of these entries, which have these values, at this level: the facts that tell so
+    // stand above it.
     fn crowd(&self, level: u32, group: &[Waiting], values: Values) -> Result<Crowd, Unrefuted> {
         let below = lower(level, group.len())?;
         let mut crowd = Crowd::new(self.alloc, below, values.least, values.most);
@@ -322,8 +302,9 @@ impl<'q> Refuter<'q, '_, '_> {
         Ok(crowd)
     }
 
-    /// What refutes entries that wait and are one more than their numbers have values, below this level. The fact at the
-    /// place belongs to those from which it follows that they are not below the least value.
+    /// What refutes entries that wait and are one more than their numbers have values, below this
+    /// level. The fact at the place belongs to those from which it follows that they are not below
+    /// the least value.
     pub(crate) fn refute_crowd(
         &mut self,
         level: u32,

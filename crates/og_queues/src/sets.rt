@@ -2,13 +2,14 @@
 
 use crate::narrowing::{Own, Source, Stage};
 use crate::queue::State;
-use crate::refuter::{Refuter, Values, Waiting, levels_behind, lower, told_at};
+use crate::refuter::{Refuter, Values, Waiting, levels_behind, lower};
 use og_inequalities::{Place, Side};
 use og_pigeons::{Unrefuted, beyond, once};
-use og_refutation::{Multiple, Tree};
+use og_refutation::{Multiple, Tree, told_at};
 use std::alloc::Global;
 
-/// An entry of a list: the fact that its number is at most the greatest value or it is through, if there is one.
+/// An entry of a list: the fact that its number is at most the greatest value or it is through, if
+/// there is one.
 #[derive(Clone, Copy)]
 pub(crate) struct Listed {
     pub entry: usize,
@@ -22,8 +23,9 @@ pub(crate) struct Known {
     pub place: Place,
 }
 
-/// A list of entries, the least value of the counter, if more is known of it than how many are through, the greatest
-/// value of the counter and of the numbers, and the fact that the counter is not above it.
+/// A list of entries, the least value of the counter, if more is known of it than how many are
+/// through, the greatest value of the counter and of the numbers, and the fact that the counter is
+/// not above it.
 #[derive(Clone, Copy)]
 pub(crate) struct Sets<'s> {
     pub list: &'s [Listed],
@@ -52,7 +54,8 @@ impl Course {
 }
 
 impl Refuter<'_, '_, '_> {
-    // The facts from which it follows that the counter is not below the number of entries that are through.
+    // The facts from which it follows that the counter is not below the number of entries that are
+    // through.
     fn counted(&self) -> Result<Vec<Multiple>, Unrefuted> {
         let mut facts = Vec::new(self.alloc);
         facts.push(once(self.queue.count))?;

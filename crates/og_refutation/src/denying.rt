@@ -105,8 +105,8 @@ fn opposed(
     }
 }
 
-/// The refutation of a part by this choice of the condition, if each part of that is at odds with its
-/// facts, and there are levels enough below it.
+/// The refutation of a part by this choice of the condition, if each part of that is at odds with
+/// its facts, and there are levels enough below it.
 pub fn denial(alloc: Global, choice: &Choice, part: Placed) -> Result<Option<Proof>, AllocError> {
     let Some(level) = part.level.checked_sub(1) else {
         return Ok(None);

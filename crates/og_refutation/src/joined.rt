@@ -49,6 +49,31 @@ impl Cases {
     }
 }
 
+/// The place of the only fact of a part or a side at this level.
+pub fn told_at(level: u32) -> Place {
+    Place { level, index: 0 }
+}
+
+/// Both sides of a form at this level, with what refutes each. `AllocError` where an allocation was
+/// refused.
+pub fn branch(
+    alloc: Global,
+    level: u32,
+    form: Inequality,
+    first: Tree,
+    second: Tree,
+) -> Result<Tree, AllocError> {
+    let sides = Sides {
+        level,
+        form,
+        first,
+        second,
+        is_general: false,
+        next: None,
+    };
+    Ok(Tree::Branch(Box::new(alloc, sides)?))
+}
+
 // Whether these are the levels of the condition's own facts alone.
 fn rests_on_own_facts(used: Levels) -> bool {
     for level in 0..TOP {
@@ -59,9 +84,9 @@ fn rests_on_own_facts(used: Levels) -> bool {
     true
 }
 
-/// The refutation by both sides of a form, each of which is a fact at this level: that it is at most 0,
-/// and that it is at least 1. The second goes into this choice first, if it was told one. `AllocError`
-/// where an allocation was refused.
+/// The refutation by both sides of a form, each of which is a fact at this level: that it is at
+/// most 0, and that it is at least 1. The second goes into this choice first, if it was told one.
+/// `AllocError` where an allocation was refused.
 pub fn both_sides(
     alloc: Global,
     level: u32,

@@ -1,5 +1,6 @@
 //! The leaves of a refutation. Sums of sums become one sum, so there are lines for divided rows
-//! alone; only where a multiplier is too large, there is one for each row that the last row rests on.
+//! alone; only where a multiplier is too large, there is one for each row that the last row rests
+//! on.
 
 use crate::fault::Unwritten;
 use crate::proof::{Line, Multiple, Name, Proof, Tree};

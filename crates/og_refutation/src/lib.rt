@@ -14,7 +14,7 @@ mod sight;
 
 pub use denying::{Placed, denial};
 pub use fault::{Unshown, Unwritten};
-pub use joined::{Cases, both_sides};
+pub use joined::{Cases, both_sides, branch, told_at};
 pub use leaves::leaf;
 pub use numbering::certificate;
 pub use proof::{Case, Lifted, Line, Multiple, Name, Proof, Sides, Tree};

@@ -1,5 +1,5 @@
-//! The leaves of inequalities that are at odds with what is known: at sight, where they need no rows
-//! but facts and the range of `i64`, and else by rows.
+//! The leaves of inequalities that are at odds with what is known: at sight, where they need no
+//! rows but facts and the range of `i64`, and else by rows.
 
 use crate::fault::Unshown;
 use crate::leaves::leaf;
@@ -155,8 +155,8 @@ fn by_rows(
     }
 }
 
-/// The leaf of a clash at this place, if its sum is a contradiction and no number is too large. The rows
-/// are as they were, but for what is spent.
+/// The leaf of a clash at this place, if its sum is a contradiction and no number is too large. The
+/// rows are as they were, but for what is spent.
 ///
 /// # Errors
 ///

@@ -7,6 +7,7 @@
 mod claim;
 mod rests;
 mod search;
+mod steps;
 mod stop;
 
 pub use claim::{Claim, search_among};

@@ -1,8 +1,8 @@
 //! Choices whose parts have facts in common, and their parts without these.
 //!
-//! In a blocking condition each part of a choice is a whole assertion, so most of its facts stand in the
-//! parts of all other choices too. Once the search is in a part of one of them, they are known, and
-//! need not be looked at in the others.
+//! In a blocking condition each part of a choice is a whole assertion, so most of its facts stand
+//! in the parts of all other choices too. Once the search is in a part of one of them, they are
+//! known, and need not be looked at in the others.
 
 use og_choices::{Atom, Chains, Choice, Part, mark_of_atom};
 use std::alloc::{AllocError, Global};
@@ -144,12 +144,12 @@ fn choice_without(
         size = size.saturating_add(rest.size_of_facts());
         parts.push(rest)?;
     }
-    let (index, mark) = (choice.index, choice.mark);
     Ok(Choice {
-        index,
+        index: choice.index,
         parts,
         size,
-        mark,
+        mark: choice.mark,
+        variables: choice.variables,
     })
 }
 

@@ -1,13 +1,14 @@
 //! The search: it takes in facts, closes or picks a choice, and goes into each part.
 
 use crate::rests::Rests;
+use crate::steps::{Decision, Entry, Parts};
 use crate::stop::{Halt, Stop};
 use og_choices::{
-    Against, Atom, Chains, Choice, Clash, Denials, Facts, Index, Open, Part, Reach, View, all_hold,
-    common_to_choice, forced, refuted_by, weight,
+    Against, Atom, Chains, Choice, Clash, Denials, Facts, Index, News, Open, Part, Reach, View,
+    all_hold, common_to_choice, forced, refuted_by, weight,
 };
 use og_elimination::{Gap, Outcome, Problem, Ranges, close_within, eliminate, narrow, note_bound};
-use og_inequalities::{Added, Bounds, Inequality, Model, Place, Rows, TOP, Term};
+use og_inequalities::{Added, Bounds, Inequality, Model, Place, Rows, TOP, Term, Variables};
 use og_pigeons::{Crowd, look, weight_of_pairs};
 use og_queues::{Queue, Sight, look as look_for_queue};
 use og_refutation::{Cases, Lifted, Placed, Proof, both_sides, denial, leaf, refute_clash};
@@ -38,40 +39,6 @@ const DENIAL_LEVEL: u32 = 180;
 /// The greatest size of a refutation, over all its leaves: more takes too much memory.
 const MOST: u64 = 3_600_000;
 
-// The facts with which a level begins.
-#[derive(Drop)]
-enum Entry<'a> {
-    // Those of a part.
-    Part(&'a Part),
-    // One side of a branch.
-    Side(Inequality),
-}
-
-// What is done at a level that finds no contradiction.
-#[derive(Drop)]
-enum Decision {
-    // It goes into the parts of this choice.
-    Split(usize),
-    // It goes into both sides of the form, and on the second into a choice, if it tells one.
-    Branch {
-        form: Inequality,
-        next: Option<usize>,
-    },
-    // It refutes these numbers.
-    Refute(Crowd),
-    // It refutes this queue.
-    Queue(Queue),
-}
-
-// What comes of going into the parts of a choice.
-#[derive(Drop)]
-enum Parts {
-    // All are refuted.
-    Refuted(Proof),
-    // Forms were met, one at least, that are at most 0 whatever the part.
-    Lifted(Vec<Lifted>),
-}
-
 /// A search among the facts of a condition.
 #[derive(Drop)]
 pub(crate) struct Search<'a> {
@@ -92,6 +59,11 @@ pub(crate) struct Search<'a> {
     facts: &'a Part,
     directions: Chains,
     denials: Denials,
+    // How many of the rows, the first ones, were used for bounds at a level above.
+    narrowed: usize,
+    // What is new since no choice was found refuted, and since none was found forced.
+    unrefuted: News,
+    unforced: News,
     // The choices that have facts in common, and whether these are known.
     rests: &'a Rests,
     is_shared: bool,
@@ -141,6 +113,9 @@ impl<'a> Search<'a> {
             facts,
             directions: facts.directions()?,
             denials: Denials::new(alloc, &facts.choices)?,
+            narrowed: 0,
+            unrefuted: News::ALL,
+            unforced: News::ALL,
             rests,
             is_shared: false,
             near: 0,
@@ -181,19 +156,20 @@ impl<'a> Search<'a> {
 
     // A choice each of whose parts is at odds with what is known.
     fn refuted(&self, bounds: &Bounds, reach: Reach) -> Option<usize> {
-        self.facts(bounds).refuted(&self.open, reach)
+        self.facts(bounds)
+            .refuted(&self.open, reach, self.unrefuted)
     }
 
-    // A choice of which each part is at odds with what is known, or with one of the last choices, so
-    // many; or one of these with a single way.
+    // A choice of which each part is at odds with what is known, or with one of the last choices,
+    // so many; or one of these with a single way.
     fn denied(&self, own: usize, bounds: &Bounds) -> Option<usize> {
         let from = self.open.len().saturating_sub(own);
         self.facts(bounds).denied(&self.open, from)
     }
 
     // A choice from above this level of which each part is at odds with what is known, or with a
-    // choice of this level: so what is denied there is split before what denies it, but for a choice
-    // of this level with a single way.
+    // choice of this level: so what is denied there is split before what denies it, but for a
+    // choice of this level with a single way.
     fn denied_at(&mut self, level: u32, bounds: &Bounds) -> Result<Option<usize>, Stop> {
         let own = own_choices(&self.open, level);
         if own == 0 {
@@ -339,12 +315,34 @@ impl<'a> Search<'a> {
         Ok(())
     }
 
+    // The variables of the rows of several variables from this one on.
+    fn new_variables(&self, from: usize) -> Variables {
+        let mut all = Variables::NONE;
+        for row in self.base.iter().skip(from) {
+            all = all.union(Variables::of(&self.rows.form(*row).terms));
+        }
+        all
+    }
+
+    // Adds the bounds that follow from the rows, and notes what is new: the rows from this one on,
+    // and the bounds. Those of the level above were changed for these variables.
+    fn narrow(&mut self, from: usize, late: Variables, bounds: &mut Bounds) -> Result<(), Halt> {
+        narrow(&mut self.rows, &self.base, self.narrowed, late, bounds)?;
+        self.narrowed = self.base.len();
+        let changed = bounds.changed();
+        self.unforced = self.unforced.with(changed);
+        let news = changed.union(self.new_variables(from));
+        self.unrefuted = self.unrefuted.with(news);
+        Ok(())
+    }
+
     // Takes in the facts of a level, and tells what is done there: above all choices first without
-    // the bounds that follow.
+    // the bounds that follow. Those of the level above were changed for these variables.
     fn begin(
         &mut self,
         entry: Entry<'a>,
         level: u32,
+        late: Variables,
         bounds: &mut Bounds,
     ) -> Result<Decision, Halt> {
         let from = self.base.len();
@@ -355,7 +353,7 @@ impl<'a> Search<'a> {
                 return Ok(Decision::Split(i));
             }
         }
-        narrow(&mut self.rows, &self.base, bounds)?;
+        self.narrow(from, late, bounds)?;
         self.go_on(level, bounds)
     }
 
@@ -382,8 +380,8 @@ impl<'a> Search<'a> {
         }
     }
 
-    // Numbers that are all different and have too few values, if there are some, to be refuted below
-    // this level. Takes a step for each 1,000 facts that are looked through.
+    // Numbers that are all different and have too few values, if there are some, to be refuted
+    // below this level. Takes a step for each 1,000 facts that are looked through.
     fn crowd(&mut self, level: u32, bounds: &Bounds) -> Result<Option<Crowd>, Stop> {
         if level < CROWD_LEVEL {
             return Ok(None);
@@ -393,8 +391,8 @@ impl<'a> Search<'a> {
         Ok(look(self.alloc, self.view(bounds), level)?)
     }
 
-    // A queue that leaves no place free, if there is one, to be refuted below this level. Takes a step for each
-    // 10,000 looks at a fact on the path.
+    // A queue that leaves no place free, if there is one, to be refuted below this level. Takes a
+    // step for each 10,000 looks at a fact on the path.
     fn queue(&mut self, level: u32, bounds: &Bounds) -> Result<Sight, Stop> {
         let seen = look_for_queue(self.alloc, self.view(bounds), level)?;
         self.rows.spend((seen.looks / 10_000) as u64)?;
@@ -415,7 +413,7 @@ impl<'a> Search<'a> {
             Sight::Bound(form) => return Ok(Decision::Branch { form, next: None }),
             Sight::Nothing => {}
         }
-        if let Some(i) = forced(&self.open, bounds, Some(&self.model)) {
+        if let Some(i) = forced(&self.open, bounds, Some(&self.model), News::ALL) {
             return Ok(Decision::Split(i));
         }
         if let Some(common) = common_to_choice(self.alloc, &self.open, bounds, &self.model)? {
@@ -465,10 +463,12 @@ impl<'a> Search<'a> {
         if let Some(i) = self.refuted(bounds, reach) {
             return Ok(Decision::Split(i));
         }
+        self.unrefuted = News::none(self.open.len());
         if level > EAGER_LEVEL {
-            if let Some(i) = forced(&self.open, bounds, None) {
+            if let Some(i) = forced(&self.open, bounds, None, self.unforced) {
                 return Ok(Decision::Split(i));
             }
+            self.unforced = News::none(self.open.len());
         }
         if let Some(i) = self.denied_at(level, bounds)? {
             return Ok(Decision::Split(i));
@@ -513,8 +513,8 @@ impl<'a> Search<'a> {
         }
     }
 
-    // Notes the place of an own fact that closes a part, if it is among the next ones: so parts that
-    // stand in the order of an assertion are closed by the facts of that one assertion.
+    // Notes the place of an own fact that closes a part, if it is among the next ones: so parts
+    // that stand in the order of an assertion are closed by the facts of that one assertion.
     fn go_near(&mut self, index: usize, bounds: &Bounds) {
         if self.facts(bounds).is_near(index) {
             self.near = self.near.max(index);
@@ -611,8 +611,8 @@ impl<'a> Search<'a> {
         Ok(Some(proof))
     }
 
-    // Refutes a part: by a choice of the condition or at once, of which that goes first which is mostly
-    // shorter, or by a level of its own.
+    // Refutes a part: by a choice of the condition or at once, of which that goes first which is
+    // mostly shorter, or by a level of its own.
     #[cycle(search)]
     fn refute_part(&mut self, part: &'a Part, level: u32, bounds: &Bounds) -> Result<Proof, Stop> {
         let reach = Reach::of_level(level.saturating_add(1));
@@ -638,7 +638,11 @@ impl<'a> Search<'a> {
     fn at_level(&mut self, level: u32, entry: Entry<'a>, bounds: &Bounds) -> Result<Proof, Stop> {
         let (rows, base, open) = (self.rows.len(), self.base.len(), self.open.len());
         let (index, marks) = (self.index.len(), self.marks.len());
+        let (narrowed, unrefuted, unforced) = (self.narrowed, self.unrefuted, self.unforced);
         let proof = self.refute(level, entry, bounds)?;
+        self.narrowed = narrowed;
+        self.unrefuted = unrefuted;
+        self.unforced = unforced;
         self.index.forget(index);
         self.marks.forget(marks);
         self.rows.forget(rows);
@@ -650,7 +654,7 @@ impl<'a> Search<'a> {
     #[cycle(search)]
     fn refute(&mut self, level: u32, entry: Entry<'a>, bounds: &Bounds) -> Result<Proof, Stop> {
         let mut own = bounds.copy()?;
-        let decision = match self.begin(entry, level, &mut own) {
+        let decision = match self.begin(entry, level, bounds.changed(), &mut own) {
             Ok(decision) => decision,
             Err(halt) => return self.halted(halt),
         };
@@ -702,7 +706,8 @@ impl<'a> Search<'a> {
         }
     }
 
-    // Notes that a choice is no longer taken, the first one of those with facts in common or another.
+    // Notes that a choice is no longer taken, the first one of those with facts in common or
+    // another.
     fn leave(&mut self, i: usize, is_first: bool) {
         self.set_taken(i, false);
         if is_first {

@@ -314,7 +314,7 @@ fn tried(
 pub struct Original<'f> {
     facts: FactList<'f>,
     // The colors of its variables, once they were needed.
-    colors: Option<Vec<u128>>,
+    colors: Option<Vec<u64>>,
 }
 
 impl<'f> Original<'f> {
@@ -338,10 +338,10 @@ impl<'f> Original<'f> {
         Ok(renaming)
     }
 
-    /// A certificate for the facts of `to`, made of one for those of this list: the variables in which the
-    /// two differ stand for one another, those at the same places, or those of the same color, which come
-    /// first where places say different things of a variable. None where the lists differ in none, or
-    /// where something that the certificate uses has no counterpart.
+    /// A certificate for the facts of `to`, made of one for those of this list: the variables in
+    /// which the two differ stand for one another, those at the same places, or those of the same
+    /// color, which come first where places say different things of a variable. None where the
+    /// lists differ in none, or where something that the certificate uses has no counterpart.
     ///
     /// # Errors
     ///

@@ -1,32 +1,33 @@
 //! Variables that are alike: color refinement.
 //!
-//! At first all variables of a list of facts have the same color. Then each gets a new one, some times,
-//! by what stands round it: the facts in which it occurs, with the colors of their variables. A
-//! variable and one of another list that stand for one another have the same color at the end.
+//! At first all variables of a list of facts have the same color. Then each gets a new one, some
+//! times, by what stands round it: the facts in which it occurs, with the colors of their
+//! variables. A variable and one of another list that stand for one another have the same color at
+//! the end.
 
-use crate::marks::{NESTING_LIMIT, fact_mark, label, mixed, part_mark};
+use crate::marks::{NESTING_LIMIT, Terms, fact_mark, label, last_bits, mixed, part_mark};
 use crate::renaming::Renaming;
 use og_facts::{Atom, Fact};
 use std::alloc::{AllocError, Global};
 
-/// How often each variable gets a new color: the first time by what is said of it alone, then by the
-/// variables that stand with it.
+/// How often each variable gets a new color: the first time by what is said of it alone, then by
+/// the variables that stand with it.
 const ROUNDS: usize = 2;
 
 /// The first color.
-const FIRST: u128 = 1;
+const FIRST: u64 = 1;
 
 /// New colors of variables, which grow while the facts are gone through.
 #[derive(Drop)]
 struct Refiner<'a> {
     // The colors before.
-    colors: &'a [u128],
-    next: Vec<u128>,
+    colors: &'a [u64],
+    next: Vec<u64>,
 }
 
 impl Refiner<'_> {
     // Adds to the color of a variable.
-    fn add(&mut self, var: u32, more: u128) {
+    fn add(&mut self, var: u32, more: u64) {
         if let Some(color) = self.next.get_mut(var as usize) {
             *color = color.wrapping_add(more);
         }
@@ -34,18 +35,19 @@ impl Refiner<'_> {
 
     // Adds to the colors of the variables of an inequality that stands in what has this mark: which
     // coefficient each has, and the constant.
-    fn add_atom(&mut self, atom: &Atom, around: u128) {
-        let mark = mixed(around, atom.offset().cast_unsigned());
+    fn add_atom(&mut self, atom: &Atom, around: u64) {
+        let mark = mixed(around, last_bits(atom.offset()));
+        let terms = Terms::of(atom);
         for i in 0..usize::MAX {
-            let Some((var, coefficient)) = atom.term(i) else {
+            let Some((var, coefficient)) = terms.get(i) else {
                 break;
             };
-            self.add(var, mixed(mark, coefficient.cast_unsigned()));
+            self.add(var, mixed(mark, coefficient));
         }
     }
 
     #[cycle(refining)]
-    fn add_fact(&mut self, fact: &Fact, around: u128, depth: u32) {
+    fn add_fact(&mut self, fact: &Fact, around: u64, depth: u32) {
         match fact {
             Fact::Atom(atom) => self.add_atom(atom, around),
             Fact::Split(parts) => {
@@ -57,14 +59,14 @@ impl Refiner<'_> {
     }
 
     #[cycle(refining)]
-    fn add_parts(&mut self, parts: &[Vec<Fact>], around: u128, depth: u32) {
+    fn add_parts(&mut self, parts: &[Vec<Fact>], around: u64, depth: u32) {
         for part in parts {
             self.add_part(part, around, depth);
         }
     }
 
     #[cycle(refining)]
-    fn add_part(&mut self, part: &[Fact], around: u128, depth: u32) {
+    fn add_part(&mut self, part: &[Fact], around: u64, depth: u32) {
         for fact in part {
             self.add_fact(fact, around, depth);
         }
@@ -86,8 +88,8 @@ impl Refiner<'_> {
         }
     }
 
-    // Adds what the facts of a list tell, and each part of a choice that is the last one, as that of a
-    // goal is.
+    // Adds what the facts of a list tell, and each part of a choice that is the last one, as that
+    // of a goal is.
     fn add_list(&mut self, list: &[Fact]) {
         match list.split_last() {
             Some((Fact::Split(parts), first)) => {
@@ -100,7 +102,7 @@ impl Refiner<'_> {
 }
 
 // The colors after one round more.
-fn refined(alloc: Global, list: &[Fact], colors: &[u128]) -> Result<Vec<u128>, AllocError> {
+fn refined(alloc: Global, list: &[Fact], colors: &[u64]) -> Result<Vec<u64>, AllocError> {
     let mut next = Vec::with_capacity(alloc, colors.len())?;
     for color in colors {
         next.push(mixed(FIRST, *color))?;
@@ -119,7 +121,7 @@ pub(crate) fn colors_of(
     alloc: Global,
     list: &[Fact],
     variables: u32,
-) -> Result<Vec<u128>, AllocError> {
+) -> Result<Vec<u64>, AllocError> {
     let mut colors = vec![in alloc; FIRST; variables as usize]?;
     for _ in 0..ROUNDS {
         colors = refined(alloc, list, &colors)?;
@@ -127,9 +129,9 @@ pub(crate) fn colors_of(
     Ok(colors)
 }
 
-// The variables that do not have the same color in both lists, each behind its color in this one, in
-// order.
-fn by_color(alloc: Global, own: &[u128], other: &[u128]) -> Result<Vec<(u128, u32)>, AllocError> {
+// The variables that do not have the same color in both lists, each behind its color in this one,
+// in order.
+fn by_color(alloc: Global, own: &[u64], other: &[u64]) -> Result<Vec<(u64, u32)>, AllocError> {
     let mut variables = Vec::new(alloc);
     for place in 0..own.len() {
         if let Ok(var) = u32::try_from(place) {
@@ -142,15 +144,15 @@ fn by_color(alloc: Global, own: &[u128], other: &[u128]) -> Result<Vec<(u128, u3
     Ok(variables)
 }
 
-/// Which variables of a list with these colors stand for those of another list, of so many variables, by
-/// the colors of these: those of one color in the order of their numbers.
+/// Which variables of a list with these colors stand for those of another list, of so many
+/// variables, by the colors of these: those of one color in the order of their numbers.
 ///
 /// # Errors
 ///
 /// `AllocError` where an allocation was refused.
 pub(crate) fn renamed_by_color(
     alloc: Global,
-    own: &[u128],
+    own: &[u64],
     to: &[Fact],
     variables: u32,
 ) -> Result<Renaming, AllocError> {

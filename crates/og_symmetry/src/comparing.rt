@@ -1,5 +1,6 @@
 //! Which variables of one list of facts stand for those of another.
 
+use crate::marks::Terms;
 use crate::renaming::Renaming;
 use og_facts::{Atom, Fact};
 
@@ -9,11 +10,12 @@ const MOST_TERMS: usize = 2;
 
 // Notes which variables the inequalities have at the same places, where they differ.
 fn compare_atoms(renaming: &mut Renaming, from: &Atom, to: &Atom) {
-    if from.term(MOST_TERMS).is_some() || to.term(MOST_TERMS).is_some() {
+    let (from, to) = (Terms::of(from), Terms::of(to));
+    if from.get(MOST_TERMS).is_some() || to.get(MOST_TERMS).is_some() {
         return;
     }
     for i in 0..MOST_TERMS {
-        match (from.term(i), to.term(i)) {
+        match (from.get(i), to.get(i)) {
             (Some((one, _)), Some((other, _))) if one != other => renaming.note(one, other),
             _ => {}
         }

@@ -1,7 +1,7 @@
 //! The marks of facts that may be counterparts.
 
 use crate::lost::Lost;
-use crate::marks::{NESTING_LIMIT, fact_mark, part_mark};
+use crate::marks::{NESTING_LIMIT, Terms, fact_mark, part_mark};
 use crate::renaming::Renaming;
 use og_facts::{Atom, Fact};
 use std::alloc::Global;
@@ -11,22 +11,23 @@ use std::alloc::Global;
 #[derive(Clone, Copy)]
 pub(crate) struct Sides<'a> {
     pub(crate) renaming: &'a Renaming,
-    pub(crate) from: &'a [u128],
-    pub(crate) to: &'a [u128],
+    pub(crate) from: &'a [u64],
+    pub(crate) to: &'a [u64],
 }
 
-/// The marks of two lists. There is none where no variable of either is renamed, so that the two have
-/// the same there.
+/// The marks of two lists. There is none where no variable of either is renamed, so that the two
+/// have the same there.
 #[derive(Drop)]
 pub(crate) struct Marks {
-    pub(crate) from: Vec<Option<u128>>,
-    pub(crate) to: Vec<Option<u128>>,
+    pub(crate) from: Vec<Option<u64>>,
+    pub(crate) to: Vec<Option<u64>>,
 }
 
 // Whether a variable of the inequality is renamed.
 fn changes_atom(renaming: &Renaming, atom: &Atom) -> bool {
+    let terms = Terms::of(atom);
     for i in 0..usize::MAX {
-        match atom.term(i) {
+        match terms.get(i) {
             Some((var, _)) if renaming.changes(var) => return true,
             Some(_) => {}
             None => return false,
@@ -68,7 +69,7 @@ fn changes_part(renaming: &Renaming, part: &[Fact], depth: u32) -> bool {
 
 impl Sides<'_> {
     // The marks of two facts at the same place.
-    fn of_facts(self, from: &Fact, to: &Fact) -> (Option<u128>, Option<u128>) {
+    fn of_facts(self, from: &Fact, to: &Fact) -> (Option<u64>, Option<u64>) {
         let (renaming, limit) = (self.renaming, NESTING_LIMIT);
         if changes_fact(renaming, from, limit) || changes_fact(renaming, to, limit) {
             let mark = fact_mark(self.from, from, limit);
@@ -79,7 +80,7 @@ impl Sides<'_> {
     }
 
     // The marks of two parts at the same place.
-    fn of_parts(self, from: &[Fact], to: &[Fact]) -> (Option<u128>, Option<u128>) {
+    fn of_parts(self, from: &[Fact], to: &[Fact]) -> (Option<u64>, Option<u64>) {
         let (renaming, limit) = (self.renaming, NESTING_LIMIT);
         if changes_part(renaming, from, limit) || changes_part(renaming, to, limit) {
             let mark = part_mark(self.from, from, limit);
@@ -98,7 +99,7 @@ impl Marks {
         })
     }
 
-    fn push(&mut self, marks: (Option<u128>, Option<u128>)) -> Result<(), Lost> {
+    fn push(&mut self, marks: (Option<u64>, Option<u64>)) -> Result<(), Lost> {
         let (from, to) = marks;
         self.from.push(from)?;
         self.to.push(to)?;

@@ -10,7 +10,7 @@ pub(crate) struct Places {
 }
 
 // The places of the marks.
-fn by_mark(alloc: Global, marks: &[Option<u128>]) -> Result<BTreeMap<u128, usize>, AllocError> {
+fn by_mark(alloc: Global, marks: &[Option<u64>]) -> Result<BTreeMap<u64, usize>, AllocError> {
     let mut places = BTreeMap::new(alloc);
     for place in 0..marks.len() {
         if let Some(mark) = marks[place] {
@@ -26,10 +26,10 @@ fn by_mark(alloc: Global, marks: &[Option<u128>]) -> Result<BTreeMap<u128, usize
 // The counterpart of what stands at the place with this mark: what stands at the same place, where
 // that has the same.
 fn counterpart_of(
-    known: &BTreeMap<u128, usize>,
-    others: &[Option<u128>],
+    known: &BTreeMap<u64, usize>,
+    others: &[Option<u64>],
     place: usize,
-    mark: Option<u128>,
+    mark: Option<u64>,
 ) -> Option<usize> {
     match others.get(place) {
         Some(other) if *other == mark => Some(place),
@@ -37,13 +37,30 @@ fn counterpart_of(
     }
 }
 
+// Whether the marks are the same at each place.
+fn are_same(marks: &[Option<u64>], others: &[Option<u64>]) -> bool {
+    marks.len() == others.len() && marks.iter().zip(others).all(|(mark, other)| mark == other)
+}
+
 impl Places {
+    // Each of so many places is its own counterpart.
+    fn same(alloc: Global, count: usize) -> Result<Places, AllocError> {
+        let mut places = Vec::with_capacity(alloc, count)?;
+        for place in 0..count {
+            places.push(Some(place))?;
+        }
+        Ok(Places { places })
+    }
+
     /// The places of what has these marks among what has others.
     pub(crate) fn of(
         alloc: Global,
-        marks: &[Option<u128>],
-        others: &[Option<u128>],
+        marks: &[Option<u64>],
+        others: &[Option<u64>],
     ) -> Result<Places, AllocError> {
+        if are_same(marks, others) {
+            return Places::same(alloc, marks.len());
+        }
         let known = by_mark(alloc, others)?;
         let mut places = Vec::with_capacity(alloc, marks.len())?;
         for place in 0..marks.len() {

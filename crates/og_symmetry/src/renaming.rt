@@ -4,8 +4,8 @@ use crate::marks::mixed;
 use og_linear::Form;
 use std::alloc::{AllocError, Global};
 
-/// For each variable another one that stands for it, no two for the same. Those that nothing was said
-/// of stand for themselves, as far as that can be.
+/// For each variable another one that stands for it, no two for the same. Those that nothing was
+/// said of stand for themselves, as far as that can be.
 #[derive(Drop)]
 pub(crate) struct Renaming {
     // For each variable the one that stands for it, and the one that it stands for.
@@ -37,10 +37,10 @@ fn at(list: &[u32], var: u32) -> u32 {
 
 impl Renaming {
     /// A label for each variable, and for those that stand for others the labels of these.
-    pub(crate) fn labels(&self, alloc: Global) -> Result<Vec<u128>, AllocError> {
+    pub(crate) fn labels(&self, alloc: Global) -> Result<Vec<u64>, AllocError> {
         let mut labels = Vec::with_capacity(alloc, self.names.len())?;
         for name in &self.names {
-            labels.push(mixed(0, u128::from(*name)))?;
+            labels.push(mixed(0, u64::from(*name)))?;
         }
         Ok(labels)
     }

@@ -1,5 +1,5 @@
 use Rattle.og_inequalities.specs.Rows.{Extends}
 use Rattle.og_elimination.proofs.narrowing.narrow.Given as goal
 
-abbrev pub invariant-loop-row : goal.invariant-loop-row
-invariant-loop-row l = Extends l.fn.rows.rows l.rows.rows
+abbrev pub invariant-loop-place : goal.invariant-loop-place
+invariant-loop-place l = Extends l.fn.rows.rows l.rows.rows

@@ -1,0 +1,43 @@
+//! Sets of variables.
+
+use crate::inequality::Term;
+
+/// A set of variables, in which each stands for all whose numbers have the same last six bits.
+#[derive(Clone, Copy)]
+pub struct Variables {
+    bits: u64,
+}
+
+impl Variables {
+    pub const NONE: Variables = Variables { bits: 0 };
+
+    pub const ALL: Variables = Variables { bits: u64::MAX };
+
+    /// The set of this variable alone.
+    pub fn one(var: u32) -> Variables {
+        Variables {
+            bits: 1u64 << (var % 64),
+        }
+    }
+
+    /// The variables of the terms.
+    pub fn of(terms: &[Term]) -> Variables {
+        let mut all = Variables::NONE;
+        for term in terms {
+            all = all.union(Variables::one(term.var));
+        }
+        all
+    }
+
+    /// The variables of both sets.
+    pub fn union(self, other: Variables) -> Variables {
+        Variables {
+            bits: self.bits | other.bits,
+        }
+    }
+
+    /// Whether the sets may have a variable in common: where not, they have none.
+    pub fn may_meet(self, other: Variables) -> bool {
+        self.bits & other.bits != 0
+    }
+}

@@ -1,0 +1,41 @@
+//! With what a level of a search begins, and how it goes on.
+
+use og_choices::Part;
+use og_inequalities::Inequality;
+use og_pigeons::Crowd;
+use og_queues::Queue;
+use og_refutation::{Lifted, Proof};
+
+/// The facts with which a level begins.
+#[derive(Drop)]
+pub(crate) enum Entry<'a> {
+    /// Those of a part.
+    Part(&'a Part),
+    /// One side of a branch.
+    Side(Inequality),
+}
+
+/// What is done at a level that finds no contradiction.
+#[derive(Drop)]
+pub(crate) enum Decision {
+    /// It goes into the parts of this choice.
+    Split(usize),
+    /// It goes into both sides of the form, and on the second into a choice, if it tells one.
+    Branch {
+        form: Inequality,
+        next: Option<usize>,
+    },
+    /// It refutes these numbers.
+    Refute(Crowd),
+    /// It refutes this queue.
+    Queue(Queue),
+}
+
+/// What comes of going into the parts of a choice.
+#[derive(Drop)]
+pub(crate) enum Parts {
+    /// All are refuted.
+    Refuted(Proof),
+    /// Forms were met, one at least, that are at most 0 whatever the part.
+    Lifted(Vec<Lifted>),
+}
