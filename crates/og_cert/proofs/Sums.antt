@@ -1,7 +1,7 @@
 -- A sum that grows by one term after another.
 use Rattle.std.proofs.Common.{◌≡◌, ◌≢◌, ℕ, zero, suc, ◌+◌, ◌<◌, ◌≤◌, ℤ, pos, ◌+ℤ◌, ◌*ℤ◌, [], ◌∷◌, ◌++◌, length, take, drop, set, Bool, true, false, ◌&&◌, cond, Option, Some, None, Result, Ok, Err, ◌⊎◌, inl, inr, refl, sym, ap, ap₂, ◌∙◌, subst, arith, add-one, ⊎_elim, FitsSigned}
 use mir.Syntax.{w128}
-use Rattle.std.specs.Prelude.{slice_get, OnErr, nat_lt, ◌==◌}
+use Rattle.std.specs.Prelude.{slice_get, OnErr, nat_lt, ◌==◌, ⊤}
 use Rattle.std.specs.Ordering.{int_eq}
 use Rattle.std.proofs.lemmas.Bool.{cond_both, cond-true, cond-false, lt-ltb, le-ltb, eqb-true, eq-eqb, and_parts, both_ways, false_from_ne_true}
 use Rattle.std.proofs.lemmas.Bool.Decides.{Decides-int_eq}
@@ -452,6 +452,60 @@ added_end ts us new k i e h products is =
     cond-true (fits_terms (scale_terms k us) && fits_terms (merge ts (scale_terms k us))) (Some (merge ts (scale_terms k us))) None
     (and_both (fits_terms (scale_terms k us)) (fits_terms (merge ts (scale_terms k us))) (ap (λ vs. fits_terms (scale_terms k vs)) (sym all) ∙ products) (ap fits_terms (sym sum) ∙ h.1))
     ∙ ap Some (sym sum)
+
+-- ---- terms that are taken away
+
+-- k times the other terms take away just these
+abbrev pub TakenAway : ℤ → Terms → Terms → Type 0
+TakenAway k [] [] = ⊤
+TakenAway k [] (u ∷ us) = ⊥
+TakenAway k (t ∷ ts) [] = ⊥
+TakenAway k (t ∷ ts) (u ∷ us) = (t.0 ≡ u.0) × (fits_i128 (k *ℤ u.1) ≡ true) × (t.1 +ℤ k *ℤ u.1 ≡ pos 0) × TakenAway k ts us
+
+-- one term more
+pub taken_next : (ts us : Terms) (k : ℤ) (i : ℕ) (t u : ℕ × ℤ) → slice_get ts i ≡ Some t → slice_get us i ≡ Some u → t.0 ≡ u.0 → fits_i128 (k *ℤ u.1) ≡ true → t.1 +ℤ k *ℤ u.1 ≡ pos 0
+    → TakenAway k (take i ts) (take i us) → TakenAway k (take (i + 1) ts) (take (i + 1) us)
+taken_next ts us k i t u at other same fit gone h = subst (λ n. TakenAway k (take n ts) (take n us)) (sym (add-one i)) (go ts us i at other h)
+  where
+    go : (vs ws : Terms) (j : ℕ) → slice_get vs j ≡ Some t → slice_get ws j ≡ Some u → TakenAway k (take j vs) (take j ws) → TakenAway k (take (suc j) vs) (take (suc j) ws)
+    go [] ws j a b h = absurd (none-some t a)
+    go (v ∷ vs) [] j a b h = absurd (none-some u b)
+    go (v ∷ vs) (w ∷ ws) zero a b h =
+        let p : v ≡ t = same_Some v t a in
+        let q : w ≡ u = same_Some w u b in
+        subst (λ x. TakenAway k (x ∷ []) (w ∷ [])) (sym p) (subst (λ x. TakenAway k (t ∷ []) (x ∷ [])) (sym q) (same, fit, gone, tt))
+    go (v ∷ vs) (w ∷ ws) (suc j) a b h = (h.0, h.1, h.2, go vs ws j a b h.3)
+
+-- nothing is left
+taken_all : (ts us : Terms) (k : ℤ) (low : ℕ) → IsTidyFrom low ts → TakenAway k ts us → (fits_terms (scale_terms k us) ≡ true) × (merge ts (scale_terms k us) ≡ [])
+taken_all [] [] k low tidy h = (refl, refl)
+taken_all [] (u ∷ us) k low tidy h = absurd h
+taken_all (t ∷ ts) [] k low tidy h = absurd h
+taken_all (t ∷ ts) (u ∷ us) k low tidy h =
+    let d = k *ℤ u.1 in
+    let rest = taken_all ts us k (t.0 + 1) tidy.2 h.3 in
+    let nonzero : d ≢ pos 0 = λ e. tidy.1 (omega (arith, ints, e, h.2)) in
+    let alone : scale_terms k (u ∷ us) ≡ (u.0, d) ∷ scale_terms k us = term_alone u.0 d (scale_terms k us) nonzero in (
+      ap fits_terms alone ∙ and_both (fits_i128 d) (fits_terms (scale_terms k us)) h.1 rest.0,
+      ap (merge (t ∷ ts)) alone
+          ∙ cond-false (nat_lt t.0 u.0) _ _ (le-ltb t.0 u.0 (omega (arith, h.0)))
+          ∙ cond-false (nat_lt u.0 t.0) _ _ (le-ltb u.0 t.0 (omega (arith, h.0)))
+          ∙ term_gone t.0 (t.1 +ℤ d) (merge ts (scale_terms k us)) h.2
+          ∙ rest.1,
+    )
+
+-- the terms at the end
+pub taken_end : (ts us : Terms) (k : ℤ) (i : ℕ) → IsTidy ts → length ts ≡ i → slice_get us i ≡ None → TakenAway k (take i ts) (take i us) → added_terms ts k us ≡ Some []
+taken_end ts us k i tidy all none h =
+    let own : take i ts ≡ ts = ap (λ n. take n ts) (sym all) ∙ take_length ts in
+    let other : take i us ≡ us = take_all us i none in
+    let p = taken_all ts us k 0 tidy (subst (λ vs. TakenAway k vs us) own (subst (λ vs. TakenAway k (take i ts) vs) other h)) in
+    let sum = merge ts (scale_terms k us) in
+    cond-true (fits_terms (scale_terms k us) && fits_terms sum) (Some sum) None (and_both (fits_terms (scale_terms k us)) (fits_terms sum) p.0 (ap fits_terms p.1)) ∙ ap Some p.1
+  where
+    take_length : (vs : Terms) → take (length vs) vs ≡ vs
+    take_length [] = refl
+    take_length (v ∷ vs) = ap (λ ws. v ∷ ws) (take_length vs)
 
 -- ---- a form: its terms, and its constant
 

@@ -1,10 +1,10 @@
 //! Sums of multiples of inequalities, which grow in place.
 
-ghost use Rattle.std.specs.Prelude.{◌≡◌, ◌≢◌, ◌≤◌, ◌<◌, ◌+◌, ◌++◌, ℕ, ℤ, pos, ◌+ℤ◌, ◌*ℤ◌, [], ◌∷◌, true, nat_lt, Some, None, IfSome, OnErr, MatchOption, length, take, drop, slice_get};
+ghost use Rattle.std.specs.Prelude.{◌≡◌, ◌≢◌, ◌≤◌, ◌<◌, ◌+◌, ◌++◌, ℕ, ℤ, pos, ◌+ℤ◌, ◌*ℤ◌, [], ◌∷◌, true, nat_lt, Some, None, IfSome, OnErr, MatchOption, length, take, drop, slice_get, IsTrue};
 ghost use Rattle.std.specs.List.{list_all};
 ghost use Rattle.og_linear.specs.Linear.{form_value};
 ghost use Rattle.og_linear.specs.Arith.{with_term, merge};
-ghost use Rattle.og_linear.specs.Bounded.{add_scaled};
+ghost use Rattle.og_linear.specs.Bounded.{fits_i128, add_scaled};
 ghost use Rattle.og_linear.specs.Answer.{IsAnswer, OnMemory, checked_int, checked_terms};
 ghost use Rattle.og_linear.specs.declared.fault.FormFault.TheVariants as faults;
 ghost use Rattle.og_cert.specs.Sight.{single_form};
@@ -147,18 +147,60 @@ fn add_multiple(terms: &mut Vec<(u32, i128)>, k: i128, var: u32, c: i128) -> Res
     add_term(terms, var, product)
 }
 
+// Whether the number takes k times the other one away.
+fn is_taken_away(c: i128, k: i128, d: i128) -> bool
+    ensures { IsTrue result → (fits_i128 (k *ℤ d) ≡ true) × (c +ℤ k *ℤ d ≡ pos 0) }
+{
+    match product_of(k, d) {
+        Ok(product) => c.checked_add(product) == Some(0),
+        Err(_) => false,
+    }
+}
+
+// Whether k times the terms of the inequality take away just these, as those of the last fact of a
+// sum do that has no variable left.
+fn are_taken_away(terms: &[(u32, i128)], k: i128, atom: &Atom) -> bool
+    requires { AreTerms terms.now }
+    ensures { IsTrue result → added_terms terms.now k atom.now.terms ≡ Some [] }
+{
+    let signed = atom.signed();
+    let mut index = 0;
+    for t in terms {
+        match signed.term(index) {
+            Some((var, c)) if var == t.0 && is_taken_away(t.1, k, c) => index += 1,
+            _ => return false,
+        }
+    }
+    signed.term(index).is_none()
+}
+
+// Adds k times the terms of the inequality, one after another.
+fn add_each(terms: &mut Vec<(u32, i128)>, k: i128, atom: &Atom) -> Result<(), FormError>
+    requires { AreTerms terms.old.items }
+    ensures answer { IsAnswer (λ _. terms.new.items) faults.TooLarge result (added_terms terms.old.items k atom.now.terms) }
+    ensures terms { AreTerms terms.new.items }
+{
+    atom.numbers_fit();
+    let signed = atom.signed();
+    let mut index = 0;
+    while let Some((var, c)) = signed.term(index) {
+        add_multiple(terms, k, var, c)?;
+        index += 1;
+    }
+    Ok(())
+}
+
 // Adds k times the terms of the inequality.
 fn add_terms(terms: &mut Vec<(u32, i128)>, k: i128, atom: &Atom) -> Result<(), FormError>
     requires { AreTerms terms.old.items }
     ensures answer { IsAnswer (λ _. terms.new.items) faults.TooLarge result (added_terms terms.old.items k atom.now.terms) }
     ensures terms { AreTerms terms.new.items }
 {
-    let mut index = 0;
-    while let Some((var, c)) = atom.term(index) {
-        add_multiple(terms, k, var, c)?;
-        index += 1;
+    if are_taken_away(terms, k, atom) {
+        terms.truncate(0);
+        return Ok(());
     }
-    Ok(())
+    add_each(terms, k, atom)
 }
 
 impl Sum {

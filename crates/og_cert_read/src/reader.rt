@@ -149,7 +149,7 @@ impl Reader {
         if count == 0 {
             self.finish(alloc, n, Finish::Split(fact, Vec::new(alloc)))?;
         } else {
-            let certs = Vec::with_capacity(alloc, count.min(4) as usize)?;
+            let certs = Vec::with_capacity(alloc, count.min(32) as usize)?;
             self.open(alloc, Fork::Part(fact, count - 1, certs))?;
         }
         Ok(())

@@ -11,3 +11,4 @@ pub mod Codes
 pub mod Walk
 pub mod Answer
 pub mod Rooms
+pub mod Signs

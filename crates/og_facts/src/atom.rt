@@ -10,6 +10,7 @@ ghost use Rattle.og_linear.specs.declared.fault.FormFault.TheVariants as faults;
 ghost use Rattle.og_facts.specs.Facts as plain;
 ghost use Rattle.og_facts.specs.Atoms.{signed_terms};
 
+use crate::signed::{Signed, negated_term};
 use og_linear::{Form, FormError, FormFault};
 use std::alloc::{AllocError, Global};
 use std::marker::Model;
@@ -46,13 +47,6 @@ impl<'a> Model for Atom<'a> {
     ghost invariant = { λ a. AreTerms a.base };
 }
 
-/// A form whose terms are meant as they are, or each negated.
-#[derive(Clone, Copy)]
-pub struct Signed<'a> {
-    pub form: &'a Form,
-    pub is_negated: bool,
-}
-
 // The one number less the other.
 fn difference(c: i128, d: i128) -> Result<i128, FormError>
     ensures answer { IsAnswer (λ x. x) faults.TooLarge result (checked_int (c -ℤ d)) }
@@ -75,17 +69,6 @@ fn has_negation(form: &Form) -> bool
         index += 1;
     }
     true
-}
-
-// The i-th variable and its coefficient, negated.
-fn negated_term(form: &Form, i: usize) -> Option<(u32, i128)>
-    requires { fits_terms (scale_terms (negsuc 0) form.now.terms) ≡ true }
-    ensures { result ≡ slice_get (scale_terms (negsuc 0) form.now.terms) i }
-{
-    match form.term(i) {
-        Some((var, coefficient)) => Some((var, -coefficient)),
-        None => None,
-    }
 }
 
 impl<'a> Atom<'a> {

@@ -17,12 +17,14 @@ mod list;
 mod listing;
 mod moves;
 mod relations;
+mod signed;
 mod walking;
 
-pub use atom::{Atom, Signed};
+pub use atom::Atom;
 pub use fact::Fact;
 pub use fault::{FactsError, FactsFault};
 pub use laws::facts_law;
 pub use limits::FACT_LIMIT;
 pub use list::FactList;
 pub use listing::{facts, facts_with, has_few_facts};
+pub use signed::Signed;

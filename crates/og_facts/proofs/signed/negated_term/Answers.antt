@@ -3,7 +3,7 @@ use mir.Syntax.{w128}
 use Rattle.std.specs.Prelude.{option_map, slice_get, ◌-ℤ◌}
 use Rattle.std.proofs.lemmas.Int.{ints, to_z-of_z}
 use Rattle.og_facts.proofs.Atoms.{negated_at, negative_term, negation_at, negation_fits}
-use Rattle.og_facts.proofs.atom.negated_term.Goals as goal
+use Rattle.og_facts.proofs.signed.negated_term.Goals as goal
 
 pub returns-in-None : goal.returns-in-None
 returns-in-None c =

@@ -2,7 +2,7 @@ use Rattle.std.proofs.Common.{◌≡◌, ◌-◌, ◌≤◌, length, take, true}
 use Rattle.og_linear.specs.Arith.{scale_terms, merge}
 use Rattle.og_linear.specs.Bounded.{fits_terms}
 use Rattle.og_cert.specs.Sums.{AreTerms}
-use Rattle.og_cert.proofs.sum.add_terms.Given as goal
+use Rattle.og_cert.proofs.sum.add_each.Given as goal
 
 abbrev pub invariant-loop-var : goal.invariant-loop-var
 invariant-loop-var l = record {

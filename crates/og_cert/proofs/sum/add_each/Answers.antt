@@ -1,4 +1,4 @@
-use Rattle.std.proofs.Common.{ℕ, ℤ, ◌≡◌, ◌+◌, ◌<◌, ◌≤◌, ◌^◌, [], ◌∷◌, take, true, Some, refl, sym, ap₂, ◌∙◌, subst, arith, rules, FitsSigned}
+use Rattle.std.proofs.Common.{ℕ, ℤ, ◌≡◌, ◌+◌, ◌<◌, ◌≤◌, ◌^◌, [], ◌∷◌, take, true, Some, None, refl, sym, ap₂, ◌∙◌, subst, arith, rules, FitsSigned}
 use mir.Syntax.{w128}
 use Rattle.std.specs.Prelude.{slice_get}
 use Rattle.std.proofs.lemmas.Result.{err_from_is_err_and}
@@ -10,7 +10,7 @@ use Rattle.og_linear.proofs.Steps.{merge-none}
 use Rattle.og_cert.specs.Sums.{added_terms}
 use Rattle.og_cert.proofs.Terms.{place_of_term}
 use Rattle.og_cert.proofs.Sums.{next_added, next_stops, added_end, stops_from}
-use Rattle.og_cert.proofs.sum.add_terms.Goals as goal
+use Rattle.og_cert.proofs.sum.add_each.Goals as goal
 
 pub loop-var-init : goal.loop-var-init
 loop-var-init c = record {
@@ -28,7 +28,7 @@ returns-in_err-add_multiple-clause-answer c =
     let k = c.args.k in
     let i = c.loop-var.index in
     let t : ℕ × ℤ = (c.in-Some.var, c.in-Some.c) in
-    let found : slice_get us i ≡ Some t = sym c.term.ensures.found ∙ c.in-Some.is in
+    let found : slice_get us i ≡ Some t = subst (λ vs. slice_get vs i ≡ Some t) c.signed-signed.ensures (sym c.term.ensures ∙ c.in-Some.is) in
     let fit : FitsSigned w128 c.in-Some.c = search rules in
     let times = to_z-of_z w128 k c.ranges.k in
     let sum = subst (λ z. old ≡ merge ts (scale_terms z (take i us))) times c.loop-var.invariant.sum in
@@ -36,16 +36,16 @@ returns-in_err-add_multiple-clause-answer c =
     let p = err_from_is_err_and c.from_residual.result c.from_residual.ensures.1 in
     rw p.1
     (stops_from c.in_err-add_multiple.field-0.0 p.0 _ (added_terms ts k us) c.in_err-add_multiple.ensures.answer p.2
-    (λ none. next_stops ts us old k i t c.requires c.term.ensures.tidy found sum (sym added ∙ none)))
+    (λ none. next_stops ts us old k i t c.requires c.numbers_fit.ensures.tidy found sum (sym added ∙ none)))
 
 pub overflow_add-index : goal.overflow_add-index
 overflow_add-index c =
     let us = c.args.atom.now.terms in
     let i = c.loop-var.index in
     let t : ℕ × ℤ = (c.in-Some.var, c.in-Some.c) in
-    let found : slice_get us i ≡ Some t = sym c.term.ensures.found ∙ c.in-Some.is in
+    let found : slice_get us i ≡ Some t = subst (λ vs. slice_get vs i ≡ Some t) c.signed-signed.ensures (sym c.term.ensures ∙ c.in-Some.is) in
     let small : c.in-Some.var < 2 ^ 32 = search rules in
-    let least : i ≤ c.in-Some.var = place_of_term us i t c.term.ensures.tidy found in
+    let least : i ≤ c.in-Some.var = place_of_term us i t c.numbers_fit.ensures.tidy found in
     search rules
 
 pub loop-var-smaller : goal.loop-var-smaller
@@ -53,7 +53,7 @@ loop-var-smaller c =
     let us = c.args.atom.now.terms in
     let i = c.loop-var.index in
     let t : ℕ × ℤ = (c.in-Some.var, c.in-Some.c) in
-    let found : slice_get us i ≡ Some t = sym c.term.ensures.found ∙ c.in-Some.is in
+    let found : slice_get us i ≡ Some t = subst (λ vs. slice_get vs i ≡ Some t) c.signed-signed.ensures (sym c.term.ensures ∙ c.in-Some.is) in
     let within = slice_get_within us i t found in
     omega (arith, within)
 
@@ -65,14 +65,14 @@ loop-var-preserved c =
     let k = c.args.k in
     let i = c.loop-var.index in
     let t : ℕ × ℤ = (c.in-Some.var, c.in-Some.c) in
-    let found : slice_get us i ≡ Some t = sym c.term.ensures.found ∙ c.in-Some.is in
+    let found : slice_get us i ≡ Some t = subst (λ vs. slice_get vs i ≡ Some t) c.signed-signed.ensures (sym c.term.ensures ∙ c.in-Some.is) in
     let fit : FitsSigned w128 c.in-Some.c = search rules in
     let times = to_z-of_z w128 k c.ranges.k in
     let sum = subst (λ z. old ≡ merge ts (scale_terms z (take i us))) times c.loop-var.invariant.sum in
     let added = ap₂ (λ x y. added_terms old x ((t.0, y) ∷ [])) times (to_z-of_z w128 t.1 fit) in
     let products = subst (λ z. fits_terms (scale_terms z (take i us)) ≡ true) times c.loop-var.invariant.products in
     let new = c.add_multiple.new.terms.items in
-    let next = next_added ts us old new k i t c.requires.0 c.term.ensures.tidy found products sum (sym added ∙ c.in_ok-add_multiple.ensures.answer) in
+    let next = next_added ts us old new k i t c.requires.0 c.numbers_fit.ensures.tidy found products sum (sym added ∙ c.in_ok-add_multiple.ensures.answer) in
     let within = slice_get_within us i t found in
     record {
       inside = omega (arith, within);
@@ -91,4 +91,4 @@ returns-clause-answer c =
     let times = to_z-of_z w128 k c.ranges.k in
     let sum = subst (λ z. old ≡ merge ts (scale_terms z (take i us))) times c.loop-var.invariant.sum in
     let products = subst (λ z. fits_terms (scale_terms z (take i us)) ≡ true) times c.loop-var.invariant.products in
-    added_end ts us old k i (sym c.term.ensures.found ∙ c.in_default.is) c.loop-var.invariant.terms products sum
+    added_end ts us old k i (subst (λ vs. slice_get vs i ≡ None) c.signed-signed.ensures (sym c.term.ensures ∙ c.in_default.is)) c.loop-var.invariant.terms products sum
