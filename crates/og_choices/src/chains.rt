@@ -8,14 +8,14 @@ pub struct Chains {
     // The last entry of each chain.
     heads: Vec<Option<usize>>,
     // The bits of a key that tell its chain.
-    mask: u128,
+    mask: u64,
     entries: Vec<Entry>,
 }
 
 // A number with its key, and the entry before it in its chain.
 #[derive(Clone, Copy)]
 struct Entry {
-    key: u128,
+    key: u64,
     number: usize,
     before: Option<usize>,
 }
@@ -24,7 +24,7 @@ struct Entry {
 #[derive(Clone, Copy)]
 pub struct Walk<'a> {
     entries: &'a [Entry],
-    key: u128,
+    key: u64,
     next: Option<usize>,
 }
 
@@ -60,14 +60,14 @@ impl Chains {
         let chains = chains_for(expected);
         Ok(Chains {
             heads: vec![in alloc; None; chains]?,
-            mask: (chains as u128).saturating_sub(1),
+            mask: (chains as u64).saturating_sub(1),
             entries: Vec::with_capacity(alloc, expected)?,
         })
     }
 
     // The chain of a key.
-    fn chain_of(&self, key: u128) -> usize {
-        usize::try_from(key & self.mask).unwrap_or(0)
+    fn chain_of(&self, key: u64) -> usize {
+        (key & self.mask) as usize
     }
 
     /// How many numbers there are.
@@ -76,7 +76,7 @@ impl Chains {
     }
 
     /// The numbers with this key.
-    pub fn walk(&self, key: u128) -> Walk<'_> {
+    pub fn walk(&self, key: u64) -> Walk<'_> {
         Walk {
             entries: &self.entries,
             key,
@@ -91,7 +91,7 @@ impl Chains {
     }
 
     /// Puts a number under a key.
-    pub fn put(&mut self, key: u128, number: usize) -> Result<(), AllocError> {
+    pub fn put(&mut self, key: u64, number: usize) -> Result<(), AllocError> {
         let chain = self.chain_of(key);
         let before = self.heads.get(chain).copied().flatten();
         let last = self.entries.len();

@@ -111,7 +111,7 @@ fn has_opposite(terms: &[Term], own: Term) -> bool {
 impl Facts<'_> {
     // The place of the own fact with the opposite terms with which the inequality is at odds: the
     // first one that stands near, else the first.
-    fn own_opposite(self, atom: &Atom) -> Option<usize> {
+    fn own_opposite(&self, atom: &Atom) -> Option<usize> {
         let mut walk = self.directions.walk(atom.direction?);
         let mut best: Option<usize> = None;
         for _ in 0..LOOK_LIMIT {
@@ -128,7 +128,7 @@ impl Facts<'_> {
     }
 
     // That place of the two that stands near, the first one where both do or neither.
-    fn better(self, first: Option<usize>, second: usize) -> usize {
+    fn better(&self, first: Option<usize>, second: usize) -> usize {
         match first {
             Some(first) if self.is_near(first) == self.is_near(second) => first.min(second),
             Some(first) if self.is_near(first) => first,
@@ -137,13 +137,13 @@ impl Facts<'_> {
     }
 
     /// Whether a place is among the next ones.
-    pub fn is_near(self, index: usize) -> bool {
+    pub fn is_near(&self, index: usize) -> bool {
         let from = self.near.saturating_sub(1);
         index >= from && index <= self.near.saturating_add(STRIDE)
     }
 
     // The row with the opposite terms, if the two are at odds.
-    fn opposite(self, atom: &Atom) -> Option<usize> {
+    fn opposite(&self, atom: &Atom) -> Option<usize> {
         let form = &atom.form;
         let row = self.index.opposite(self.rows, form, atom.direction?)?;
         let sum = form.constant.checked_add(self.rows.form(row).constant)?;
@@ -152,7 +152,7 @@ impl Facts<'_> {
 
     // What an inequality of one variable at most is at odds with. The bounds tell all that facts
     // say of one variable.
-    fn against_bounds(self, atom: &Atom) -> Option<Against> {
+    fn against_bounds(&self, atom: &Atom) -> Option<Against> {
         if !self.bounds.exclude(&atom.form) {
             return None;
         }
@@ -164,7 +164,7 @@ impl Facts<'_> {
 
     // What the inequality is at odds with, by a look at its own terms. Where it is at odds with an
     // own fact of several variables, so it is with the tightest row with the same terms.
-    fn against(self, atom: &Atom) -> Option<Against> {
+    fn against(&self, atom: &Atom) -> Option<Against> {
         if atom.form.terms.len() < 2 {
             return self.against_bounds(atom);
         }
@@ -183,7 +183,7 @@ impl Facts<'_> {
 
     // The first row with which the inequality is at odds within the bounds, where neither is so by
     // itself.
-    fn against_row(self, atom: &Atom) -> Option<Against> {
+    fn against_row(&self, atom: &Atom) -> Option<Against> {
         atom.direction?;
         let form = &atom.form;
         for row in self.base {
@@ -197,7 +197,7 @@ impl Facts<'_> {
     }
 
     // The first inequality of the part that is at odds with what is known, by a look at its terms.
-    fn clash_at_sight<'p>(self, part: &'p Part) -> Option<Clash<'p>> {
+    fn clash_at_sight<'p>(&self, part: &'p Part) -> Option<Clash<'p>> {
         for atom in &part.atoms {
             if let Some(against) = self.against(atom) {
                 return Some(Clash { atom, against });
@@ -207,7 +207,7 @@ impl Facts<'_> {
     }
 
     // The first inequality of the part that is at odds with a row.
-    fn clash_with_row<'p>(self, part: &'p Part) -> Option<Clash<'p>> {
+    fn clash_with_row<'p>(&self, part: &'p Part) -> Option<Clash<'p>> {
         for atom in &part.atoms {
             if let Some(against) = self.against_row(atom) {
                 return Some(Clash { atom, against });
@@ -217,7 +217,7 @@ impl Facts<'_> {
     }
 
     /// An inequality of the part that is at odds with what is known.
-    pub fn clash<'p>(self, part: &'p Part, reach: Reach) -> Option<Clash<'p>> {
+    pub fn clash<'p>(&self, part: &'p Part, reach: Reach) -> Option<Clash<'p>> {
         if let Some(clash) = self.clash_at_sight(part) {
             return Some(clash);
         }
@@ -227,8 +227,28 @@ impl Facts<'_> {
         }
     }
 
+    // Whether the inequality is at odds with what is known, by a look at its own terms.
+    fn is_at_odds_at_sight(&self, atom: &Atom) -> bool {
+        let has_opposite = atom.form.terms.len() > 1 && self.opposite(atom).is_some();
+        has_opposite || self.bounds.exclude(&atom.form)
+    }
+
+    // Whether an inequality of the part is at odds with what is known.
+    fn has_clash(&self, part: &Part, reach: Reach) -> bool {
+        if part.atoms.iter().any(|atom| self.is_at_odds_at_sight(atom)) {
+            return true;
+        }
+        match reach {
+            Reach::Sight => false,
+            Reach::Rows => part
+                .atoms
+                .iter()
+                .any(|atom| self.against_row(atom).is_some()),
+        }
+    }
+
     // Whether an inequality of the part is at odds with one that is assumed.
-    fn is_denied(self, part: &Part) -> bool {
+    fn is_denied(&self, part: &Part) -> bool {
         match self.assumed {
             Some(assumed) => part.atoms.iter().any(|atom| assumed.is_at_odds(atom)),
             None => false,
@@ -237,8 +257,8 @@ impl Facts<'_> {
 
     // Whether the part is at odds with what is known or assumed.
     #[cycle(shutting)]
-    fn is_shut(self, part: &Part, reach: Reach) -> bool {
-        if self.is_denied(part) || self.clash(part, reach).is_some() {
+    fn is_shut(&self, part: &Part, reach: Reach) -> bool {
+        if self.is_denied(part) || self.has_clash(part, reach) {
             return true;
         }
         for choice in &part.choices {
@@ -251,7 +271,7 @@ impl Facts<'_> {
 
     /// Whether each of the parts is at odds with what is known or assumed.
     #[cycle(shutting)]
-    pub fn are_shut(self, parts: &[Part], reach: Reach) -> bool {
+    pub fn are_shut(&self, parts: &[Part], reach: Reach) -> bool {
         for part in parts {
             if !self.is_shut(part, reach) {
                 return false;
@@ -262,7 +282,7 @@ impl Facts<'_> {
 
     // The places of the parts that are not at odds with what is known, by a look at their terms;
     // none where there are more than so many.
-    fn open_parts(self, parts: &[Part], most: usize) -> Option<Few> {
+    fn open_parts(&self, parts: &[Part], most: usize) -> Option<Few> {
         let mut open = Few {
             places: [0; PAIRS_LIMIT],
             count: 0,
@@ -279,7 +299,7 @@ impl Facts<'_> {
     }
 
     // Whether each of these parts is at odds with what is known.
-    fn are_shut_at(self, parts: &[Part], few: Few, reach: Reach) -> bool {
+    fn are_shut_at(&self, parts: &[Part], few: Few, reach: Reach) -> bool {
         for place in few.places.iter().take(few.count) {
             match parts.get(*place) {
                 Some(part) if self.is_shut(part, reach) => {}
@@ -291,7 +311,7 @@ impl Facts<'_> {
 
     // Whether each part is at odds with what is known. Those that are not so at sight are held
     // against each row, if the look goes so far and they are few.
-    fn is_refuted(self, parts: &[Part], reach: Reach) -> bool {
+    fn is_refuted(&self, parts: &[Part], reach: Reach) -> bool {
         match reach {
             Reach::Sight => self.are_shut(parts, reach),
             Reach::Rows => {
@@ -306,7 +326,7 @@ impl Facts<'_> {
 
     // Whether the facts of the part leave one of these choices no way, of which none has no way
     // without them.
-    fn shuts_one(self, part: &Part, open: &[Open]) -> bool {
+    fn shuts_one(&self, part: &Part, open: &[Open]) -> bool {
         let with = Facts {
             rows: self.rows,
             base: self.base,
@@ -327,7 +347,7 @@ impl Facts<'_> {
 
     // Whether each of the parts is at odds with what is known, or leaves one of these choices no
     // way.
-    fn all_shut_one(self, parts: &[Part], open: &[Open]) -> bool {
+    fn all_shut_one(&self, parts: &[Part], open: &[Open]) -> bool {
         for part in parts {
             if !self.is_shut(part, Reach::Sight) && !self.shuts_one(part, open) {
                 return false;
@@ -338,7 +358,7 @@ impl Facts<'_> {
 
     // The first choice with the fewest parts, among those that are open and each of whose parts is
     // at odds with what is known, or leaves one of the others no way.
-    fn shutting(self, open: &[Open], others: &[Open]) -> Option<usize> {
+    fn shutting(&self, open: &[Open], others: &[Open]) -> Option<usize> {
         let mut best = None;
         let mut least = usize::MAX;
         let shared = all_variables(others);
@@ -354,14 +374,14 @@ impl Facts<'_> {
     }
 
     // Whether all parts but one at most are at odds with what is known.
-    fn has_one_open(self, parts: &[Part]) -> bool {
+    fn has_one_open(&self, parts: &[Part]) -> bool {
         self.open_parts(parts, 1).is_some()
     }
 
     /// A choice each of whose parts is at odds with what is known, or leaves one of the last
     /// choices no way, which stand from a place on; if there is one, and all parts but one of one
     /// of the last choices are at odds with what is known, that one.
-    pub fn denied(self, open: &[Open], from: usize) -> Option<usize> {
+    pub fn denied(&self, open: &[Open], from: usize) -> Option<usize> {
         let (first, last) = (open.get(..from)?, open.get(from..)?);
         let shutting = self.shutting(first, last)?;
         let mut single = last.iter();
@@ -373,7 +393,7 @@ impl Facts<'_> {
 
     /// The first choice with the fewest parts, among those that are open, that the news concern,
     /// and each of whose parts is at odds with what is known.
-    pub fn refuted(self, open: &[Open], reach: Reach, news: News) -> Option<usize> {
+    pub fn refuted(&self, open: &[Open], reach: Reach, news: News) -> Option<usize> {
         let mut best = None;
         let mut least = usize::MAX;
         for (i, one) in open.iter().enumerate() {

@@ -58,13 +58,13 @@ fn is_refuted(choice: &Choice, other: &Part) -> bool {
 }
 
 // A number that is the same for terms and those of the other sign.
-fn key_of_atom(atom: &Atom) -> u128 {
+fn key_of_atom(atom: &Atom) -> u64 {
     next_mark(1, atom.direction.unwrap_or(0))
 }
 
 #[cycle(keys)]
-fn key_of_part(part: &Part) -> u128 {
-    let mut sum = 0u128;
+fn key_of_part(part: &Part) -> u64 {
+    let mut sum = 0u64;
     for atom in &part.atoms {
         sum = sum.wrapping_add(key_of_atom(atom));
     }
@@ -75,8 +75,8 @@ fn key_of_part(part: &Part) -> u128 {
 }
 
 #[cycle(keys)]
-fn key_of_parts(parts: &[Part]) -> u128 {
-    let mut sum = 0u128;
+fn key_of_parts(parts: &[Part]) -> u64 {
+    let mut sum = 0u64;
     for part in parts {
         sum = sum.wrapping_add(key_of_part(part));
     }

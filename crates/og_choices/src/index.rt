@@ -29,7 +29,7 @@ impl Index {
     }
 
     // The tightest row with these terms of this direction.
-    fn parallel(&self, rows: &Rows, form: &Inequality, direction: u128) -> Option<usize> {
+    fn parallel(&self, rows: &Rows, form: &Inequality, direction: u64) -> Option<usize> {
         let mut walk = self.chains.walk(direction);
         for _ in 0..self.chains.len() {
             let row = walk.step()?;
@@ -41,7 +41,7 @@ impl Index {
     }
 
     /// The tightest row with these terms of this direction, their sign changed.
-    pub fn opposite(&self, rows: &Rows, form: &Inequality, direction: u128) -> Option<usize> {
+    pub fn opposite(&self, rows: &Rows, form: &Inequality, direction: u64) -> Option<usize> {
         let mut walk = self.chains.walk(direction);
         for _ in 0..self.chains.len() {
             let row = walk.step()?;
@@ -53,7 +53,7 @@ impl Index {
     }
 
     /// Whether there is a row with these terms of this direction that is as tight.
-    pub fn implies(&self, rows: &Rows, form: &Inequality, direction: u128) -> bool {
+    pub fn implies(&self, rows: &Rows, form: &Inequality, direction: u64) -> bool {
         match self.parallel(rows, form, direction) {
             Some(row) => rows.form(row).constant >= form.constant,
             None => false,

@@ -16,5 +16,8 @@ pub use clash::{Against, Clash, Facts, Reach};
 pub use denial::{Denials, denied_choice, is_denied, refuted_by};
 pub use index::Index;
 pub use likeness::mark_of_atom;
-pub use open::{Candidate, Common, News, Open, View, all_hold, common_to_choice, forced, weight};
+pub use open::{
+    Candidate, Common, News, Open, View, common_to_choice, failing, forced, forced_among, untaken,
+    weight,
+};
 pub use part::{Atom, Choice, Part};

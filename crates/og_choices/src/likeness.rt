@@ -1,20 +1,20 @@
 //! Equal facts.
 
 use crate::part::{Atom, Choice, Part};
-use og_inequalities::{Term, next_mark};
+use og_inequalities::{Term, last_bits, next_mark};
 
-fn mark_terms(mark: u128, terms: &[Term]) -> u128 {
-    let mut next = next_mark(mark, terms.len() as u128);
+fn mark_terms(mark: u64, terms: &[Term]) -> u64 {
+    let mut next = next_mark(mark, terms.len() as u64);
     for term in terms {
-        next = next_mark(next, u128::from(term.var));
-        next = next_mark(next, term.coefficient.cast_unsigned());
+        next = next_mark(next, u64::from(term.var));
+        next = next_mark(next, last_bits(term.coefficient));
     }
     next
 }
 
 // The mark with the terms of an inequality: by their direction and the sign of the first one, where
 // they have a direction.
-fn mark_terms_of(mark: u128, atom: &Atom) -> u128 {
+fn mark_terms_of(mark: u64, atom: &Atom) -> u64 {
     let terms = &atom.form.terms;
     let Some(direction) = atom.direction else {
         return mark_terms(mark, terms);
@@ -24,32 +24,32 @@ fn mark_terms_of(mark: u128, atom: &Atom) -> u128 {
 }
 
 /// A number that is the same for equal inequalities, wherever they stand.
-pub fn mark_of_atom(atom: &Atom) -> u128 {
-    mark_terms_of(next_mark(2, atom.form.constant.cast_unsigned()), atom)
+pub fn mark_of_atom(atom: &Atom) -> u64 {
+    mark_terms_of(next_mark(2, last_bits(atom.form.constant)), atom)
 }
 
-fn mark_atoms(mark: u128, atoms: &[Atom]) -> u128 {
-    let mut next = next_mark(mark, atoms.len() as u128);
+fn mark_atoms(mark: u64, atoms: &[Atom]) -> u64 {
+    let mut next = next_mark(mark, atoms.len() as u64);
     for atom in atoms {
-        next = next_mark(next, atom.index as u128);
-        next = next_mark(next, atom.form.constant.cast_unsigned());
+        next = next_mark(next, atom.index as u64);
+        next = next_mark(next, last_bits(atom.form.constant));
         next = mark_terms_of(next, atom);
     }
     next
 }
 
-fn mark_part(mark: u128, part: &Part) -> u128 {
-    let mut next = mark_atoms(next_mark(mark, part.count as u128), &part.atoms);
-    next = next_mark(next, part.choices.len() as u128);
+fn mark_part(mark: u64, part: &Part) -> u64 {
+    let mut next = mark_atoms(next_mark(mark, part.count as u64), &part.atoms);
+    next = next_mark(next, part.choices.len() as u64);
     for choice in &part.choices {
-        next = next_mark(next_mark(next, choice.index as u128), choice.mark);
+        next = next_mark(next_mark(next, choice.index as u64), choice.mark);
     }
     next
 }
 
 /// A number that is the same for equal parts, and for others only by a chance of the hash.
-pub fn mark_parts(parts: &[Part]) -> u128 {
-    let mut next = next_mark(0, parts.len() as u128);
+pub fn mark_parts(parts: &[Part]) -> u64 {
+    let mut next = next_mark(0, parts.len() as u64);
     for part in parts {
         next = mark_part(next, part);
     }

@@ -109,15 +109,6 @@ impl<'a> Open<'a> {
     fn follows(&self, known: Known) -> bool {
         some_follows(&self.choice.parts, known)
     }
-
-    // Whether the choice is open, and not true of the values if there are some.
-    fn is_wanted(&self, model: Option<&Model>) -> bool {
-        match model {
-            _ if self.is_taken => false,
-            Some(model) => !self.follows(Known::Values(model)),
-            None => true,
-        }
-    }
 }
 
 /// How many facts there are in the parts of those of these choices that are not taken.
@@ -131,29 +122,54 @@ pub fn weight(open: &[Open]) -> usize {
     weight
 }
 
-/// Whether each choice that is open holds of the values.
-pub fn all_hold(open: &[Open], model: &Model) -> bool {
-    !open.iter().any(|one| one.is_wanted(Some(model)))
+/// The choices that are open, by their numbers. `AllocError` where an allocation was refused.
+pub fn untaken(alloc: Global, open: &[Open]) -> Result<Vec<usize>, AllocError> {
+    let mut untaken = Vec::new(alloc);
+    for (i, one) in open.iter().enumerate() {
+        if !one.is_taken {
+            untaken.push(i)?;
+        }
+    }
+    Ok(untaken)
 }
 
-/// The first choice that has no way left, else the first that has one: among those that are false
-/// of the values; or without values, among those with no part that is known. Only choices that the
-/// news concern are looked at.
-pub fn forced(open: &[Open], bounds: &Bounds, model: Option<&Model>, news: News) -> Option<usize> {
+/// Those that do not hold of the values. `AllocError` where an allocation was refused.
+pub fn failing(alloc: Global, open: &[Open], model: &Model) -> Result<Vec<usize>, AllocError> {
+    let mut failing = Vec::new(alloc);
+    for (i, one) in open.iter().enumerate() {
+        if !one.is_taken && !one.follows(Known::Values(model)) {
+            failing.push(i)?;
+        }
+    }
+    Ok(failing)
+}
+
+/// The first open choice that has no way left, else the first that has one and no part that is
+/// known, among those that the news concern.
+pub fn forced(open: &[Open], bounds: &Bounds, news: News) -> Option<usize> {
     let mut single = None;
     for (i, one) in open.iter().enumerate() {
-        if !news.concern(i, one) || !one.is_wanted(model) {
+        if one.is_taken || !news.concern(i, one) {
             continue;
         }
-        let left = ways(one.parts, bounds, 2);
-        if left == 0 {
-            return Some(i);
+        match ways(one.parts, bounds, 2) {
+            0 => return Some(i),
+            1 if single.is_none() && !one.follows(Known::Bounds(bounds)) => single = Some(i),
+            _ => {}
         }
-        if left == 1 && single.is_none() {
-            let is_known = model.is_none() && one.follows(Known::Bounds(bounds));
-            if !is_known {
-                single = Some(i);
-            }
+    }
+    single
+}
+
+/// The first of these choices that has no way left, else the first that has one.
+pub fn forced_among(open: &[Open], among: &[usize], bounds: &Bounds) -> Option<usize> {
+    let mut single = None;
+    for i in among {
+        let parts = open.get(*i)?.parts;
+        match ways(parts, bounds, 2) {
+            0 => return Some(*i),
+            1 if single.is_none() => single = Some(*i),
+            _ => {}
         }
     }
     single
@@ -167,22 +183,11 @@ fn narrower(first: Option<Candidate>, second: Candidate) -> Candidate {
     }
 }
 
-// The first choice with the fewest ways among those that are false of the values.
-fn narrowest(open: &[Open], bounds: &Bounds, model: Option<&Model>) -> Option<Candidate> {
-    let mut best = None;
-    let mut most = usize::MAX;
-    for (choice, one) in open.iter().enumerate() {
-        if one.is_wanted(model) {
-            let ways = ways(one.parts, bounds, most);
-            most = most.min(ways);
-            best = Some(narrower(best, Candidate { choice, ways }));
-        }
-    }
-    best
-}
-
 // The bounds with those that the inequalities of one variable add, if they add some.
 fn bounds_with(part: &Part, bounds: &Bounds) -> Result<Option<Bounds>, AllocError> {
+    if !part.atoms.iter().any(|atom| atom.form.terms.len() == 1) {
+        return Ok(None);
+    }
     let mut own = bounds.copy()?;
     let mut is_better = false;
     for atom in &part.atoms {
@@ -210,27 +215,27 @@ pub struct View<'v, 'a> {
 
 impl View<'_, '_> {
     // Whether a row is false within the bounds.
-    fn some_excluded(self, bounds: &Bounds) -> bool {
+    fn some_excluded(&self, bounds: &Bounds) -> bool {
         let mut base = self.base.iter();
         base.any(|row| bounds.exclude(self.rows.form(*row)))
     }
 
     // Whether another open choice has no way left within the bounds.
-    fn some_shut(self, but: usize, bounds: &Bounds) -> bool {
+    fn some_shut(&self, but: usize, bounds: &Bounds) -> bool {
         let mut open = self.open.iter().enumerate();
         open.any(|(i, one)| i != but && !one.is_taken && ways(one.parts, bounds, 1) == 0)
     }
 
     // Whether these bounds leave each variable of the part a value, and each row and each other
     // choice a way.
-    fn is_alive_within(self, part: &Part, own: usize, bounds: &Bounds) -> bool {
+    fn is_alive_within(&self, part: &Part, own: usize, bounds: &Bounds) -> bool {
         !part.atoms.iter().any(|atom| is_emptied(atom, bounds))
             && !self.some_excluded(bounds)
             && !self.some_shut(own, bounds)
     }
 
     // Whether the bounds, with those of the part, leave each row and each other choice a way.
-    fn is_alive(self, part: &Part, own: usize) -> Result<bool, AllocError> {
+    fn is_alive(&self, part: &Part, own: usize) -> Result<bool, AllocError> {
         if width(part, self.bounds, 1) == 0 {
             return Ok(false);
         }
@@ -241,7 +246,7 @@ impl View<'_, '_> {
     }
 
     // Whether no part of the choice is alive.
-    fn is_dead(self, parts: &[Part], own: usize) -> Result<bool, AllocError> {
+    fn is_dead(&self, parts: &[Part], own: usize) -> Result<bool, AllocError> {
         for part in parts {
             if self.is_alive(part, own)? {
                 return Ok(false);
@@ -250,15 +255,22 @@ impl View<'_, '_> {
         Ok(true)
     }
 
-    /// The first choice with the fewest ways among those that are false of the values, or among all
-    /// where there are no values.
-    pub fn narrowest(self, model: Option<&Model>) -> Option<Candidate> {
-        narrowest(self.open, self.bounds, model)
+    /// The first of these choices with the fewest ways.
+    pub fn narrowest(&self, among: &[usize]) -> Option<Candidate> {
+        let mut best = None;
+        let mut most = usize::MAX;
+        for choice in among {
+            let choice = *choice;
+            let ways = ways(self.open.get(choice)?.parts, self.bounds, most);
+            most = most.min(ways);
+            best = Some(narrower(best, Candidate { choice, ways }));
+        }
+        best
     }
 
     /// The first choice with the fewest ways among those of which no part is alive. This looks into
     /// all choices for each part of a choice.
-    pub fn dead_choice(self) -> Result<Option<Candidate>, AllocError> {
+    pub fn dead_choice(&self) -> Result<Option<Candidate>, AllocError> {
         let mut best = None;
         for (choice, one) in self.open.iter().enumerate() {
             if !one.is_taken && one.parts.len() <= LOOK_LIMIT && self.is_dead(one.parts, choice)? {
@@ -333,16 +345,18 @@ fn common_row(
     Ok(None)
 }
 
-/// The first open choice with an inequality that all its parts imply, and that is false of the
-/// values: so the choice is false of them too.
+/// The first of these choices, which are false of the values, with an inequality that all its parts
+/// imply, and that is false of the values too.
 pub fn common_to_choice(
     alloc: Global,
     open: &[Open],
+    among: &[usize],
     bounds: &Bounds,
     model: &Model,
 ) -> Result<Option<Common>, AllocError> {
-    for (choice, one) in open.iter().enumerate() {
-        if one.is_wanted(Some(model)) {
+    for choice in among {
+        let choice = *choice;
+        if let Some(one) = open.get(choice) {
             if let Some(form) = common_row(alloc, one.parts, bounds, model)? {
                 return Ok(Some(Common { choice, form }));
             }

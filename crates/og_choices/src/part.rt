@@ -11,7 +11,7 @@ use std::alloc::{AllocError, Global};
 pub struct Atom {
     pub index: usize,
     pub form: Inequality,
-    pub direction: Option<u128>,
+    pub direction: Option<u64>,
 }
 
 /// Facts that stand together: those of a condition, or of a part of a choice.
@@ -34,7 +34,7 @@ pub struct Choice {
     pub index: usize,
     pub parts: Vec<Part>,
     pub size: usize,
-    pub mark: u128,
+    pub mark: u64,
     pub variables: Variables,
 }
 
@@ -58,7 +58,7 @@ impl Known<'_> {
 }
 
 // The direction of the terms of an inequality of some variables that becomes a row as it is.
-fn direction_of_row(form: &Inequality) -> Option<u128> {
+fn direction_of_row(form: &Inequality) -> Option<u64> {
     if form.is_large() || form.divisor() != 1 {
         return None;
     }
@@ -120,13 +120,18 @@ impl Part {
     /// Adds the fact that all facts of one of the parts are true. `AllocError` where an allocation
     /// was refused.
     pub fn add_choice(&mut self, parts: Vec<Part>) -> Result<(), AllocError> {
+        let index = self.next_place();
+        self.read_choice(index, parts)
+    }
+
+    /// Adds the same at the place of a fact that was left unread.
+    pub fn read_choice(&mut self, index: usize, parts: Vec<Part>) -> Result<(), AllocError> {
         let mut size = 0usize;
         let mut variables = Variables::NONE;
         for part in &parts {
             size = size.saturating_add(part.size());
             variables = variables.union(part.variables);
         }
-        let index = self.next_place();
         let mark = mark_parts(&parts);
         self.variables = self.variables.union(variables);
         self.choices.push(Choice {
@@ -139,7 +144,7 @@ impl Part {
         Ok(())
     }
 
-    /// Adds a fact that no search looks at.
+    /// Adds a fact that no search looks at, unless it is read.
     pub fn add_unread(&mut self) {
         self.next_place();
     }

@@ -65,16 +65,26 @@ impl Cost {
     }
 }
 
-// The cheaper of two choices, the first where both cost the same.
-fn cheaper(first: Option<Choice>, second: Choice) -> Choice {
+impl Choice {
+    // Whether it costs less, or as much by an earlier row.
+    fn is_before(self, other: Choice) -> bool {
+        if self.cost.is_below(other.cost) {
+            return true;
+        }
+        !other.cost.is_below(self.cost) && self.equality.row < other.equality.row
+    }
+}
+
+// The choice that is taken of the two, the first where there is no difference.
+fn better(first: Option<Choice>, second: Choice) -> Choice {
     match first {
-        Some(first) if !second.cost.is_below(first.cost) => first,
+        Some(first) if !second.is_before(first) => first,
         _ => second,
     }
 }
 
 // The directions of the rows with the rows, sorted.
-fn by_direction(rows: &Rows, left: &[usize]) -> Result<Vec<(u128, usize)>, AllocError> {
+fn by_direction(rows: &Rows, left: &[usize]) -> Result<Vec<(u64, usize)>, AllocError> {
     let mut sorted = Vec::with_capacity(rows.alloc(), left.len())?;
     for row in left {
         sorted.push((rows.direction(*row), *row))?;
@@ -115,7 +125,7 @@ fn choice_in(form: &Inequality, counts: &Counts, equality: Equality) -> Option<C
             var: term.var,
             cost: cost_by_equality(counts, *term),
         };
-        best = Some(cheaper(best, choice));
+        best = Some(better(best, choice));
     }
     best
 }
@@ -129,7 +139,7 @@ fn choose_equality(
     let mut best = None;
     for equality in &equalities(rows, left)? {
         if let Some(choice) = choice_in(rows.form(equality.row), counts, *equality) {
-            best = Some(cheaper(best, choice));
+            best = Some(better(best, choice));
         }
     }
     Ok(best)

@@ -7,16 +7,20 @@ ghost use Rattle.og_cert_text.specs.Plain.{plain_cert};
 ghost use Rattle.og_find.specs.Found.{Certifies, Closes, IsFollowed, IsFollowedOn, IsModel, IsVerdict, IsVerdictOn};
 
 use crate::leaders::{Leader, Leaders};
-use crate::reading::part_of;
+use crate::reading::{inequalities_of, read_choices};
 use crate::truth::{NESTING_LIMIT, all_true};
 use crate::verdict::{Followed, Verdict};
 use og_cert::{Cert, ReplayError, replay};
+use og_cert_text::Finish;
 use og_cond::Condition;
 use og_facts::{FactList, FactsError, facts};
 use og_linear::State;
-use og_search::{Claim, Model, Part, search_among};
+use og_search::{Claim, Model, Start, begin, search_among};
 use og_values::Values;
 use std::alloc::{AllocError, Global};
+
+/// The most facts among which a certificate of one sum is searched, and not carried over.
+const FEW_FACTS: usize = 64;
 
 // Whether the certificate is well formed and closes the facts.
 fn is_closing(alloc: Global, list: &FactList, cert: &Cert) -> Result<bool, AllocError>
@@ -74,16 +78,24 @@ fn is_model(alloc: Global, list: &FactList, state: &State) -> Result<bool, Alloc
     Ok(all_true(list.as_slice(), &values, NESTING_LIMIT))
 }
 
+// What a search among these facts claims. The choices are read where the inequalities do not tell
+// enough by themselves.
+fn claim_of(alloc: Global, list: &FactList, budget: u64) -> Result<Claim, AllocError> {
+    let mut part = inequalities_of(alloc, list)?;
+    match begin(alloc, &part, list.variables(), budget)? {
+        Start::Claimed(claim) => Ok(claim),
+        Start::Open(ground) => {
+            read_choices(alloc, &mut part, list)?;
+            search_among(alloc, &part, ground)
+        }
+    }
+}
+
 // The verdict on a condition with these facts, by a search and a check of what it claims.
-fn examine_facts(
-    alloc: Global,
-    list: &FactList,
-    part: &Part,
-    budget: u64,
-) -> Result<Verdict, AllocError>
+fn examine_facts(alloc: Global, list: &FactList, budget: u64) -> Result<Verdict, AllocError>
     ensures { IfOk result (IsVerdictOn list.now) }
 {
-    match search_among(alloc, part, list.variables(), budget)? {
+    match claim_of(alloc, list, budget)? {
         Claim::Closed(cert) => {
             if is_closing(alloc, list, &cert)? {
                 return Ok(Verdict::True(cert));
@@ -111,13 +123,17 @@ pub fn examine(alloc: Global, condition: &Condition, budget: u64) -> Result<Verd
     ensures { IfOk result (IsVerdict (seen condition.now)) }
 {
     match facts(alloc, condition) {
-        Ok(list) => {
-            let part = part_of(alloc, &list)?;
-            examine_facts(alloc, &list, &part, budget)
-        }
+        Ok(list) => examine_facts(alloc, &list, budget),
         Err(FactsError::Memory) => Err(AllocError),
         Err(FactsError::Fault(_)) => Ok(Verdict::Open),
     }
+}
+
+// Whether a search finds a certificate like this one about as fast as it is carried over: one sum
+// of few facts.
+fn is_found_as_fast(list: &FactList, cert: &Cert) -> bool {
+    let is_one_sum = cert.steps.is_empty() && matches!(cert.finish, Finish::Close(_));
+    is_one_sum && list.as_slice().len() <= FEW_FACTS
 }
 
 // The certificate of the leader of a condition with these facts, carried over to them, if it closes
@@ -154,11 +170,12 @@ fn follow_facts<'c>(
     if is_closing(alloc, list, leader.cert)? {
         return Ok(Followed::Shares);
     }
-    if let Some(own) = carried_over(alloc, list, leader, leaders)? {
-        return Ok(Followed::Own(Verdict::True(own)));
+    if !is_found_as_fast(list, leader.cert) {
+        if let Some(own) = carried_over(alloc, list, leader, leaders)? {
+            return Ok(Followed::Own(Verdict::True(own)));
+        }
     }
-    let part = part_of(alloc, list)?;
-    Ok(Followed::Own(examine_facts(alloc, list, &part, budget)?))
+    Ok(Followed::Own(examine_facts(alloc, list, budget)?))
 }
 
 /// What is told of a condition after the certificate of its leader, another condition, from which

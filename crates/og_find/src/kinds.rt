@@ -1,7 +1,7 @@
 //! What conditions have in common that differ in the names of variables.
 
 use og_cond::{Condition, Goal, Hypothesis, Part};
-use og_inequalities::next_mark;
+use og_inequalities::{last_bits, next_mark};
 use og_linear::Form;
 use og_subst::Action;
 use og_typed::Assert;
@@ -20,23 +20,20 @@ impl Reader<'_, '_> {
         }
     }
 
-    fn form(self, form: &Form) -> u128 {
-        let mut sum = form.offset().cast_unsigned();
+    fn form(self, form: &Form) -> u64 {
+        let mut sum = last_bits(form.offset());
         for i in 0..usize::MAX {
             let Some((var, coefficient)) = form.term(i) else {
                 break;
             };
-            let mark = next_mark(
-                1 + u128::from(self.assigns(var)),
-                coefficient.cast_unsigned(),
-            );
+            let mark = next_mark(1 + u64::from(self.assigns(var)), last_bits(coefficient));
             sum = sum.wrapping_add(mark);
         }
         sum
     }
 
     #[cycle(assertions)]
-    fn assertion(self, assertion: &Assert) -> u128 {
+    fn assertion(self, assertion: &Assert) -> u64 {
         match assertion {
             Assert::True => 0,
             Assert::False => 1,
@@ -51,54 +48,54 @@ impl Reader<'_, '_> {
     }
 
     #[cycle(assertions)]
-    fn assertions(self, all: &[Assert]) -> u128 {
-        let mut sum = 0u128;
+    fn assertions(self, all: &[Assert]) -> u64 {
+        let mut sum = 0u64;
         for assertion in all {
             sum = sum.wrapping_add(self.assertion(assertion));
         }
         sum
     }
 
-    fn part(self, part: &Part) -> u128 {
+    fn part(self, part: &Part) -> u64 {
         match part {
             Part::Yes(assertion) => next_mark(0, self.assertion(assertion)),
             Part::No(assertion) => next_mark(1, self.assertion(assertion)),
         }
     }
 
-    fn parts(self, parts: &[Part]) -> u128 {
-        let mut sum = 0u128;
+    fn parts(self, parts: &[Part]) -> u64 {
+        let mut sum = 0u64;
         for part in parts {
             sum = sum.wrapping_add(self.part(part));
         }
         sum
     }
 
-    fn lists(self, lists: &[Vec<Part>]) -> u128 {
-        let mut sum = 0u128;
+    fn lists(self, lists: &[Vec<Part>]) -> u64 {
+        let mut sum = 0u64;
         for parts in lists {
             sum = sum.wrapping_add(next_mark(0, self.parts(parts)));
         }
         sum
     }
 
-    fn hypothesis(self, hypothesis: &Hypothesis) -> u128 {
+    fn hypothesis(self, hypothesis: &Hypothesis) -> u64 {
         match hypothesis {
             Hypothesis::Is(part) => next_mark(0, self.part(part)),
-            Hypothesis::Starts(_, value) => next_mark(1, i128::from(*value).cast_unsigned()),
+            Hypothesis::Starts(_, value) => next_mark(1, last_bits(i128::from(*value))),
             Hypothesis::OneOf(lists) => next_mark(2, self.lists(lists)),
         }
     }
 
-    fn hypotheses(self, hypotheses: &[Hypothesis]) -> u128 {
-        let mut mark = 0u128;
+    fn hypotheses(self, hypotheses: &[Hypothesis]) -> u64 {
+        let mut mark = 0u64;
         for hypothesis in hypotheses {
             mark = next_mark(mark, self.hypothesis(hypothesis));
         }
         mark
     }
 
-    fn goal(self, goal: &Goal) -> u128 {
+    fn goal(self, goal: &Goal) -> u64 {
         match goal {
             Goal::Holds(assertion) => next_mark(0, self.assertion(assertion)),
             Goal::Fits => 1,
@@ -109,7 +106,7 @@ impl Reader<'_, '_> {
 
 /// A mark of what stands in a condition, whatever the names of variables and the order of what one
 /// connective joins: conditions in which processes are exchanged have the same.
-pub fn kind(condition: &Condition) -> u128 {
+pub fn kind(condition: &Condition) -> u64 {
     let reader = Reader {
         action: condition.action.as_ref(),
     };

@@ -1,7 +1,7 @@
 //! The marks of conditions.
 
 use og_cond::{Condition, Goal, Hypothesis, Part};
-use og_inequalities::next_mark;
+use og_inequalities::{last_bits, next_mark};
 use og_linear::{Form, FormError, Map};
 use og_subst::{Action, ActionMap};
 use og_typed::Assert;
@@ -13,9 +13,9 @@ use std::alloc::{AllocError, Global};
 pub struct Marks {
     /// Of its hypotheses, its goal, and the values that its action gives to the variables of the
     /// goal: where these are the same, the facts are equal.
-    pub facts: u128,
+    pub facts: u64,
     /// Of the same, but for the names of the variables that the action does not assign.
-    pub shape: u128,
+    pub shape: u64,
 }
 
 // Reads a condition with this action.
@@ -25,7 +25,7 @@ struct Reader<'a, 'c> {
 }
 
 impl Marks {
-    fn number(self, number: u128) -> Marks {
+    fn number(self, number: u64) -> Marks {
         Marks {
             facts: next_mark(self.facts, number),
             shape: next_mark(self.shape, number),
@@ -42,7 +42,7 @@ impl Reader<'_, '_> {
     }
 
     fn variable(self, marks: Marks, var: u32) -> Marks {
-        let name = u128::from(var) + 1;
+        let name = u64::from(var) + 1;
         Marks {
             facts: next_mark(marks.facts, name),
             shape: next_mark(marks.shape, if self.assigns(var) { name } else { 0 }),
@@ -51,8 +51,8 @@ impl Reader<'_, '_> {
 
     // With a variable and its coefficient.
     fn term(self, marks: Marks, var: u32, coefficient: i128) -> Marks {
-        let high = coefficient.cast_unsigned().wrapping_mul(1 << 32);
-        let name = u128::from(var) + 1;
+        let high = last_bits(coefficient).rotate_left(32);
+        let name = u64::from(var) + 1;
         Marks {
             facts: next_mark(marks.facts, high ^ name),
             shape: next_mark(
@@ -63,10 +63,10 @@ impl Reader<'_, '_> {
     }
 
     fn form(self, marks: Marks, form: &Form) -> Marks {
-        let mut next = marks.number(form.offset().cast_unsigned());
+        let mut next = marks.number(last_bits(form.offset()));
         for i in 0..usize::MAX {
             let Some((var, coefficient)) = form.term(i) else {
-                return next.number(i as u128);
+                return next.number(i as u64);
             };
             next = self.term(next, var, coefficient);
         }
@@ -74,7 +74,7 @@ impl Reader<'_, '_> {
     }
 
     fn forms(self, marks: Marks, forms: &[Form]) -> Marks {
-        let mut next = marks.number(forms.len() as u128);
+        let mut next = marks.number(forms.len() as u64);
         for form in forms {
             next = self.form(next, form);
         }
@@ -101,7 +101,7 @@ impl Reader<'_, '_> {
 
     #[cycle(assertions)]
     fn assertions(self, marks: Marks, all: &[Assert]) -> Marks {
-        let mut next = marks.number(all.len() as u128);
+        let mut next = marks.number(all.len() as u64);
         for assertion in all {
             next = self.assertion(next, assertion);
         }
@@ -116,7 +116,7 @@ impl Reader<'_, '_> {
     }
 
     fn parts(self, marks: Marks, parts: &[Part]) -> Marks {
-        let mut next = marks.number(parts.len() as u128);
+        let mut next = marks.number(parts.len() as u64);
         for part in parts {
             next = self.part(next, part);
         }
@@ -124,7 +124,7 @@ impl Reader<'_, '_> {
     }
 
     fn lists(self, marks: Marks, lists: &[Vec<Part>]) -> Marks {
-        let mut next = marks.number(lists.len() as u128);
+        let mut next = marks.number(lists.len() as u64);
         for parts in lists {
             next = self.parts(next, parts);
         }
@@ -136,14 +136,14 @@ impl Reader<'_, '_> {
             Hypothesis::Is(part) => self.part(marks.number(0), part),
             Hypothesis::Starts(var, value) => {
                 let next = self.variable(marks.number(1), *var);
-                next.number(i128::from(*value).cast_unsigned())
+                next.number(last_bits(i128::from(*value)))
             }
             Hypothesis::OneOf(lists) => self.lists(marks.number(2), lists),
         }
     }
 
     fn hypotheses(self, marks: Marks, hypotheses: &[Hypothesis]) -> Marks {
-        let mut next = marks.number(hypotheses.len() as u128);
+        let mut next = marks.number(hypotheses.len() as u64);
         for hypothesis in hypotheses {
             next = self.hypothesis(next, hypothesis);
         }
@@ -201,7 +201,7 @@ fn marks_of(alloc: Global, condition: &Condition) -> Result<Marks, FormError> {
         action: condition.action.as_ref(),
     };
     let none = Marks { facts: 0, shape: 0 };
-    let next = none.number(u128::from(condition.variables));
+    let next = none.number(u64::from(condition.variables));
     let next = reader.hypotheses(next, &condition.hypotheses);
     let next = reader.goal(next, &condition.goal);
     match &condition.action {

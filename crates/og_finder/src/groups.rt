@@ -31,8 +31,8 @@ impl Groups {
 
 /// The place that goes with the mark, which is the next one where none does yet.
 pub(crate) fn place_of(
-    known: &mut BTreeMap<u128, usize>,
-    mark: Option<u128>,
+    known: &mut BTreeMap<u64, usize>,
+    mark: Option<u64>,
     next: usize,
 ) -> Result<usize, AllocError> {
     let Some(mark) = mark else {

@@ -6,3 +6,4 @@ pub mod Extremes
 pub mod Forms
 pub mod Tighter
 pub mod Following
+pub mod VariableBits

@@ -3,9 +3,14 @@ use Rattle.std.specs.Prelude.{ℕ, ℤ, pos, negsuc, ◌≤ℤ◌, ◌<ℤ◌, �
 use Rattle.og_linear.specs.Linear.{value_at}
 use Rattle.og_inequalities.specs.declared.bounds.Side.{Side}
 use Rattle.og_inequalities.specs.declared.bounds.Side.TheVariants.{Lower, Upper}
-use Rattle.og_inequalities.specs.declared.bounds.Limit.{Limit}
 use Rattle.og_inequalities.specs.declared.bounds.Bound.{Bound}
 use Rattle.og_inequalities.specs.declared.bounds.Interval.{Interval}
+use Rattle.og_inequalities.specs.declared.variables.Variables.{Variables}
+
+-- the interval of each variable in turn, and which variables got a better bound
+pub record BoundsValue : Type 0 where
+  pub intervals : List Interval
+  pub changed : Variables
 
 -- the range of i64, which no row says
 abbrev pub whole : Interval

@@ -1,9 +1,10 @@
 //! Bounds of the variables.
 
-ghost use Rattle.std.specs.Prelude.{◌≡◌, ◌<◌, ℤ, pos, List, ◌+ℤ◌, ◌*ℤ◌, ◌≤ℤ◌, ◌<ℤ◌, ◌↔◌, IfOk, IfSome, IfNone, OnSome, IsTrue, replicate, get_or, length, slice_set, int_lt, if◌then◌else◌};
+ghost use Rattle.std.specs.Prelude.{◌≡◌, ◌≢◌, ◌<◌, ◌%◌, ◌==◌, ◌||◌, ℕ, ℤ, false, pos, List, ◌+ℤ◌, ◌*ℤ◌, ◌≤ℤ◌, ◌<ℤ◌, ◌↔◌, IfOk, IfSome, IfNone, OnSome, IsTrue, replicate, get_or, length, slice_set, int_lt, if◌then◌else◌};
 ghost use Rattle.og_inequalities.specs.declared.bounds.Side.TheVariants.{Lower, Upper};
 ghost use Rattle.og_linear.specs.Linear.{value_at};
 ghost use Rattle.og_inequalities.specs.Inequality.{left_side, Holds, part_at, sum_at};
+ghost use Rattle.og_inequalities.specs.Variables.{has};
 ghost use Rattle.og_inequalities.specs.Bounds.{whole, bound_at, bounded, Within, Meets, Tightens};
 
 use crate::inequality::{Inequality, Term};
@@ -124,7 +125,8 @@ impl Interval {
     }
 }
 
-/// The bounds of all variables. Contracts see those of each variable in turn.
+/// The bounds of all variables, and which of these got a better bound. Contracts see the intervals
+/// of the variables in turn.
 #[derive(Drop)]
 pub struct Bounds {
     intervals: Vec<Interval>,
@@ -133,18 +135,18 @@ pub struct Bounds {
 }
 
 impl marker::Model for Bounds {
-    ghost use Rattle.std.specs.Prelude.{List};
-    ghost use Rattle.og_inequalities.specs.declared.bounds.Interval.{Interval};
+    ghost use Rattle.og_inequalities.specs.Bounds.{BoundsValue};
 
-    ghost Value = { List Interval };
+    ghost Value = { BoundsValue };
 
-    ghost view = { λ b. b.intervals.items };
+    ghost view = { λ b. record { intervals = b.intervals.items; changed = b.changed } };
 }
 
 impl Bounds {
     /// No bounds but the range of `i64`.
     pub fn new(alloc: Global, variables: usize) -> Result<Bounds, AllocError>
-        ensures { IfOk result (λ b. b ≡ replicate variables whole) }
+        ensures intervals { IfOk result (λ b. b.intervals ≡ replicate variables whole) }
+        ensures changed { IfOk result (λ b. (x : ℕ) → has b.changed x ≡ false) }
     {
         Ok(Bounds {
             intervals: vec![in alloc; Interval::whole(); variables]?,
@@ -152,37 +154,44 @@ impl Bounds {
         })
     }
 
-    /// Equal bounds.
+    /// Equal bounds, none of which has changed yet.
     pub fn copy(&self) -> Result<Bounds, AllocError>
-        ensures { IfOk result (λ b. b ≡ self.now) }
+        ensures intervals { IfOk result (λ b. b.intervals ≡ self.now.intervals) }
+        ensures changed { IfOk result (λ b. (x : ℕ) → has b.changed x ≡ false) }
     {
-        Ok(Bounds {
-            intervals: self.intervals.clone()?,
-            changed: Variables::NONE,
-        })
+        let intervals = self.intervals.clone()?;
+        let changed = Variables::NONE;
+        Ok(Bounds { intervals, changed })
     }
 
     /// The variables that got a better bound since these bounds were made, as a copy of others or
     /// anew.
-    pub fn changed(&self) -> Variables {
+    pub fn changed(&self) -> Variables
+        ensures { result ≡ self.now.changed }
+    {
         self.changed
     }
 
     /// The bound of a variable on a side.
     pub fn get(&self, var: u32, side: Side) -> Bound
-        ensures { result ≡ bound_at self.now var side }
+        ensures { result ≡ bound_at self.now.intervals var side }
     {
+        if let Some(interval) = self.intervals.get(var as usize) {
+            return match side {
+                Side::Lower => interval.lower,
+                Side::Upper => interval.upper,
+            };
+        }
         let whole = Interval::whole();
-        let interval = self.intervals.get(var as usize).unwrap_or(&whole);
         match side {
-            Side::Lower => interval.lower,
-            Side::Upper => interval.upper,
+            Side::Lower => whole.lower,
+            Side::Upper => whole.upper,
         }
     }
 
     /// Whether the limit leaves the variable fewer values than its bound on that side.
     pub fn is_improved_by(&self, var: u32, limit: Limit) -> bool
-        ensures { IsTrue result ↔ Tightens limit.side limit.value (bound_at self.now var limit.side).value }
+        ensures { IsTrue result ↔ Tightens limit.side limit.value (bound_at self.now.intervals var limit.side).value }
     {
         let bound = self.get(var, limit.side);
         match limit.side {
@@ -193,7 +202,7 @@ impl Bounds {
 
     /// The bound of its variable at which the term is least.
     pub fn least_at(&self, term: Term) -> Bound
-        ensures { (s : List ℤ) → Within self.now s
+        ensures { (s : List ℤ) → Within self.now.intervals s
             → (term.coefficient *ℤ result.value) ≤ℤ part_at term s }
     {
         self.get(term.var, Side::of_least(term.coefficient))
@@ -201,7 +210,7 @@ impl Bounds {
 
     /// The bound of its variable at which the term is greatest.
     pub fn greatest_at(&self, term: Term) -> Bound
-        ensures { (s : List ℤ) → Within self.now s
+        ensures { (s : List ℤ) → Within self.now.intervals s
             → part_at term s ≤ℤ (term.coefficient *ℤ result.value) }
     {
         self.get(term.var, Side::of_greatest(term.coefficient))
@@ -209,21 +218,21 @@ impl Bounds {
 
     // A number that the term is not below at values within the bounds, where it fits.
     fn least_of(&self, term: Term) -> Option<i128>
-        ensures { IfSome result (λ v. (s : List ℤ) → Within self.now s → v ≤ℤ part_at term s) }
+        ensures { IfSome result (λ v. (s : List ℤ) → Within self.now.intervals s → v ≤ℤ part_at term s) }
     {
         product(term.coefficient, self.least_at(term).value)
     }
 
     // A number that the term is not above at values within the bounds, where it fits.
     fn greatest_of(&self, term: Term) -> Option<i128>
-        ensures { IfSome result (λ v. (s : List ℤ) → Within self.now s → part_at term s ≤ℤ v) }
+        ensures { IfSome result (λ v. (s : List ℤ) → Within self.now.intervals s → part_at term s ≤ℤ v) }
     {
         product(term.coefficient, self.greatest_at(term).value)
     }
 
     // The sum, and what the terms are not below at values within the bounds, where it fits.
     fn add_least(&self, start: i128, terms: &[Term]) -> Option<i128>
-        ensures { IfSome result (λ v. (s : List ℤ) → Within self.now s → v ≤ℤ (start +ℤ sum_at terms.now s)) }
+        ensures { IfSome result (λ v. (s : List ℤ) → Within self.now.intervals s → v ≤ℤ (start +ℤ sum_at terms.now s)) }
     {
         let mut sum = start;
         for term in terms {
@@ -235,7 +244,7 @@ impl Bounds {
     /// A number that the form is not below at values within the bounds, each term where it is
     /// least; none where a number leaves `i128`.
     pub fn least(&self, form: &Inequality) -> Option<i128>
-        ensures { IfSome result (λ v. (s : List ℤ) → Within self.now s → v ≤ℤ left_side form.now s) }
+        ensures { IfSome result (λ v. (s : List ℤ) → Within self.now.intervals s → v ≤ℤ left_side form.now s) }
     {
         self.add_least(form.constant, &form.terms)
     }
@@ -243,7 +252,7 @@ impl Bounds {
     /// A number that the form is not above at values within the bounds, each term where it is
     /// greatest; none where a number leaves `i128`.
     pub fn greatest(&self, form: &Inequality) -> Option<i128>
-        ensures { IfSome result (λ v. (s : List ℤ) → Within self.now s → left_side form.now s ≤ℤ v) }
+        ensures { IfSome result (λ v. (s : List ℤ) → Within self.now.intervals s → left_side form.now s ≤ℤ v) }
     {
         let mut sum = form.constant;
         for term in &form.terms {
@@ -255,7 +264,7 @@ impl Bounds {
     // A number that the sum of two terms of one variable is not below, where it fits.
     fn least_of_both(&self, x: Term, y: Term) -> Option<i128>
         requires { x.var ≡ y.var }
-        ensures { IfSome result (λ v. (s : List ℤ) → Within self.now s → v ≤ℤ (part_at x s +ℤ part_at y s)) }
+        ensures { IfSome result (λ v. (s : List ℤ) → Within self.now.intervals s → v ≤ℤ (part_at x s +ℤ part_at y s)) }
     {
         let var = x.var;
         let coefficient = x.coefficient.checked_add(y.coefficient)?;
@@ -265,7 +274,7 @@ impl Bounds {
     // The sum, and what the terms of both lists are not below at values within the bounds, where it
     // fits.
     fn add_least_of_sum(&self, start: i128, a: &[Term], b: &[Term]) -> Option<i128>
-        ensures { IfSome result (λ v. (s : List ℤ) → Within self.now s
+        ensures { IfSome result (λ v. (s : List ℤ) → Within self.now.intervals s
             → v ≤ℤ (start +ℤ (sum_at a.now s +ℤ sum_at b.now s))) }
     {
         let mut sum = start;
@@ -292,7 +301,7 @@ impl Bounds {
     /// A number that the sum of the two forms is not below at values within the bounds, each term
     /// of the sum where it is least; none where a number leaves `i128`.
     pub fn least_of_sum(&self, first: &Inequality, second: &Inequality) -> Option<i128>
-        ensures { IfSome result (λ v. (s : List ℤ) → Within self.now s
+        ensures { IfSome result (λ v. (s : List ℤ) → Within self.now.intervals s
             → v ≤ℤ (left_side first.now s +ℤ left_side second.now s)) }
     {
         let start = first.constant.checked_add(second.constant)?;
@@ -302,7 +311,7 @@ impl Bounds {
     /// Whether the inequality is false at all values within the bounds, as far as sums of the
     /// terms' least values tell.
     pub fn exclude(&self, form: &Inequality) -> bool
-        ensures { IsTrue result → (s : List ℤ) → Within self.now s → pos 0 <ℤ left_side form.now s }
+        ensures { IsTrue result → (s : List ℤ) → Within self.now.intervals s → pos 0 <ℤ left_side form.now s }
     {
         match self.least(form) {
             Some(least) => least > 0,
@@ -313,7 +322,7 @@ impl Bounds {
     /// Whether the sum of the two inequalities is false at all values within the bounds, in the
     /// same way.
     pub fn exclude_sum(&self, first: &Inequality, second: &Inequality) -> bool
-        ensures { IsTrue result → (s : List ℤ) → Within self.now s
+        ensures { IsTrue result → (s : List ℤ) → Within self.now.intervals s
             → pos 0 <ℤ (left_side first.now s +ℤ left_side second.now s) }
     {
         match self.least_of_sum(first, second) {
@@ -325,7 +334,7 @@ impl Bounds {
     /// Whether the inequality is true at all values within the bounds, as far as sums of the terms'
     /// greatest values tell.
     pub fn imply(&self, form: &Inequality) -> bool
-        ensures { IsTrue result → (s : List ℤ) → Within self.now s → Holds form.now s }
+        ensures { IsTrue result → (s : List ℤ) → Within self.now.intervals s → Holds form.now s }
     {
         match self.greatest(form) {
             Some(greatest) => greatest <= 0,
@@ -335,14 +344,14 @@ impl Bounds {
 
     /// Whether no value of the variable is left.
     pub fn is_empty_at(&self, var: u32) -> bool
-        ensures { IsTrue result ↔ ((bound_at self.now var Upper).value <ℤ (bound_at self.now var Lower).value) }
+        ensures { IsTrue result ↔ ((bound_at self.now.intervals var Upper).value <ℤ (bound_at self.now.intervals var Lower).value) }
     {
         self.get(var, Side::Lower).value > self.get(var, Side::Upper).value
     }
 
     /// The row that says as much of its variable as an inequality of one variable, if one does.
     pub fn implied_by(&self, form: &Inequality) -> Option<usize>
-        ensures { OnSome result ((s : List ℤ) → Within self.now s → Holds form.now s) }
+        ensures { OnSome result ((s : List ℤ) → Within self.now.intervals s → Holds form.now s) }
     {
         let (var, limit) = limit_of(form)?;
         if self.is_improved_by(var, limit) {
@@ -353,12 +362,15 @@ impl Bounds {
 
     // Gives the variable a bound on a side.
     fn set(&mut self, var: u32, side: Side, bound: Bound)
-        requires { var < length self.old }
-        ensures { self.new ≡ slice_set self.old var (bounded side bound (get_or self.old var whole)) }
+        requires { var < length self.old.intervals }
+        ensures intervals { self.new.intervals
+            ≡ slice_set self.old.intervals var (bounded side bound (get_or self.old.intervals var whole)) }
+        ensures changed { (x : ℕ) → has self.new.changed x ≡ (has self.old.changed x || x % 64 == var % 64) }
     {
-        self.changed = self.changed.union(Variables::one(var));
-        let interval = self.intervals[var as usize];
-        self.intervals[var as usize] = match side {
+        let Bounds { intervals, changed } = self;
+        *changed = changed.union(Variables::one(var));
+        let interval = intervals[var as usize];
+        intervals[var as usize] = match side {
             Side::Lower => Interval {
                 lower: bound,
                 upper: interval.upper,
@@ -373,8 +385,13 @@ impl Bounds {
     /// Takes the bound that an inequality of one variable sets, said by this row if there is one.
     /// Tells the variable if that got a better bound.
     pub fn take(&mut self, form: &Inequality, row: Option<usize>) -> Option<u32>
-        ensures within { (s : List ℤ) → Within self.old s → Holds form.now s → Within self.new s }
-        ensures tighter { OnSome result ((s : List ℤ) → Within self.new s → Within self.old s × Holds form.now s) }
+        ensures within { (s : List ℤ) → Within self.old.intervals s → Holds form.now s → Within self.new.intervals s }
+        ensures tighter { OnSome result ((s : List ℤ)
+            → Within self.new.intervals s → Within self.old.intervals s × Holds form.now s) }
+        ensures changed { IfSome result (λ v. (x : ℕ)
+            → has self.new.changed x ≡ (has self.old.changed x || x % 64 == v % 64)) }
+        ensures others { IfSome result (λ v. (x : ℕ) (side : Side) → x ≢ v
+            → bound_at self.new.intervals x side ≡ bound_at self.old.intervals x side) }
         ensures kept { IfNone result (self.new ≡ self.old) }
     {
         let (var, limit) = limit_of(form)?;

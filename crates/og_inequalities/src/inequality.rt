@@ -6,6 +6,7 @@ ghost use Rattle.og_linear.specs.Linear.{val};
 ghost use Rattle.og_linear.specs.Replaced as replaced;
 ghost use Rattle.og_inequalities.specs.Inequality.{form_of, left_side, Holds, sum_at, part_at};
 
+use crate::marks::{last_bits, next_mark};
 use crate::model::Model;
 use crate::number::{ceil_div, common, mixed, product};
 use og_linear::Form;
@@ -421,20 +422,14 @@ impl Inequality {
     }
 
     /// A number that is the same for equal terms, and for those with the sign changed.
-    pub fn direction(&self) -> u128 {
-        let mut mark = 14_695_981_039_346_656_037;
+    pub fn direction(&self) -> u64 {
         let is_turned = matches!(self.terms.first(), Some(first) if first.coefficient < 0);
+        let mut mark = self.terms.len() as u64;
         for term in &self.terms {
-            let size = term.coefficient.unsigned_abs();
-            let is_alike = (term.coefficient < 0) == is_turned;
-            mark = next_mark(mark, u128::from(term.var));
-            mark = next_mark(mark, if is_alike { size } else { !size });
+            let bits = last_bits(term.coefficient);
+            mark = next_mark(mark, u64::from(term.var));
+            mark = next_mark(mark, if is_turned { bits.wrapping_neg() } else { bits });
         }
         mark
     }
-}
-
-/// The mark of a list with one number more.
-pub fn next_mark(mark: u128, number: u128) -> u128 {
-    (mark ^ number).wrapping_mul(1_099_511_628_211)
 }

@@ -6,6 +6,7 @@ mod bounds;
 mod error;
 mod inequality;
 mod levels;
+mod marks;
 mod model;
 mod number;
 mod rows;
@@ -13,8 +14,9 @@ mod variables;
 
 pub use bounds::{Bound, Bounds, HIGHEST, Interval, LOWEST, Limit, Side};
 pub use error::{AddError, RowError};
-pub use inequality::{Inequality, Scaled, Term, next_mark};
+pub use inequality::{Inequality, Scaled, Term};
 pub use levels::{Levels, Place, TOP};
+pub use marks::{last_bits, next_mark};
 pub use model::Model;
 pub use number::common;
 pub use rows::{Added, Origin, Row, Rows, Summand};

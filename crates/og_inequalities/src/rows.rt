@@ -62,7 +62,7 @@ pub struct Row {
     pub form: Inequality,
     pub origin: Origin,
     pub used: Levels,
-    pub direction: u128,
+    pub direction: u64,
 }
 
 /// What came of an inequality that was added, where it is no contradiction.
@@ -175,7 +175,7 @@ impl Rows {
     }
 
     /// The direction of the row's terms (`Inequality::direction`).
-    pub fn direction(&self, row: usize) -> u128
+    pub fn direction(&self, row: usize) -> u64
         ensures { IfSome (slice_get self.now.rows row) (λ r. result ≡ r.direction) }
     {
         match self.rows.get(row) {
@@ -347,8 +347,8 @@ impl Rows {
     /// `Budget` and `Memory`. The earlier rows stay.
     pub fn bound_row(&mut self, bounds: &Bounds, var: u32, side: Side) -> Result<usize, RowError>
         ensures extends { Extends self.old.rows self.new.rows }
-        ensures said { IfSome (bound_at bounds.now var side).row (λ i. result ≡ Ok i) }
-        ensures range { IfNone (bound_at bounds.now var side).row
+        ensures said { IfSome (bound_at bounds.now.intervals var side).row (λ i. result ≡ Ok i) }
+        ensures range { IfNone (bound_at bounds.now.intervals var side).row
             (IfOk result (λ i. IsRowOf self.new.rows i (λ s. Meets side (bound_at [] var side).value (value_at s var)))) }
     {
         if let Some(row) = bounds.get(var, side).row {

@@ -151,7 +151,7 @@ fn lines_of(alloc: Global, condition: &Condition) -> Result<Vec<u8>, Fail> {
     Ok(lines)
 }
 
-fn mark_of_facts(alloc: Global, condition: &Condition) -> Result<Option<u128>, AllocError> {
+fn mark_of_facts(alloc: Global, condition: &Condition) -> Result<Option<u64>, AllocError> {
     Ok(mark(alloc, condition)?.map(|marks| marks.facts))
 }
 

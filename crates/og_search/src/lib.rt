@@ -5,11 +5,12 @@
 #![tactic(auto)]
 
 mod claim;
+mod known;
 mod rests;
 mod search;
 mod steps;
 mod stop;
 
-pub use claim::{Claim, search_among};
+pub use claim::{Claim, Ground, Start, begin, search_among};
 pub use og_choices::Part;
 pub use og_inequalities::Model;

@@ -38,12 +38,12 @@ fn marks_of(alloc: Global, part: &Part) -> Result<Chains, AllocError> {
 }
 
 // Whether a mark is among them.
-fn has(marks: &Chains, mark: u128) -> bool {
+fn has(marks: &Chains, mark: u64) -> bool {
     marks.walk(mark).step().is_some()
 }
 
 // Those of the marks that are those of facts of the part.
-fn within(alloc: Global, marks: &[u128], part: &Part) -> Result<Vec<u128>, AllocError> {
+fn within(alloc: Global, marks: &[u64], part: &Part) -> Result<Vec<u64>, AllocError> {
     let own = marks_of(alloc, part)?;
     let mut both = Vec::with_capacity(alloc, marks.len())?;
     for mark in marks {
@@ -55,7 +55,7 @@ fn within(alloc: Global, marks: &[u128], part: &Part) -> Result<Vec<u128>, Alloc
 }
 
 // Those of the marks that are those of facts of each part of the choice but the false ones.
-fn within_all(alloc: Global, marks: Vec<u128>, choice: &Choice) -> Result<Vec<u128>, AllocError> {
+fn within_all(alloc: Global, marks: Vec<u64>, choice: &Choice) -> Result<Vec<u64>, AllocError> {
     let mut left = marks;
     for part in &choice.parts {
         if !is_false(part) {
@@ -66,7 +66,7 @@ fn within_all(alloc: Global, marks: Vec<u128>, choice: &Choice) -> Result<Vec<u1
 }
 
 // The marks of the facts of the first part of a choice that is not false.
-fn first_marks(alloc: Global, choice: &Choice) -> Result<Vec<u128>, AllocError> {
+fn first_marks(alloc: Global, choice: &Choice) -> Result<Vec<u64>, AllocError> {
     let mut marks = Vec::new(alloc);
     if let Some(part) = choice.parts.iter().find(|part| !is_false(part)) {
         for atom in &part.atoms {
@@ -80,7 +80,7 @@ fn first_marks(alloc: Global, choice: &Choice) -> Result<Vec<u128>, AllocError> 
 }
 
 // The marks of the facts in common of the first two large choices.
-fn shared(alloc: Global, choices: &[Choice]) -> Result<Vec<u128>, AllocError> {
+fn shared(alloc: Global, choices: &[Choice]) -> Result<Vec<u64>, AllocError> {
     let mut large = choices.iter().filter(|choice| choice.size >= LARGE);
     let (Some(first), Some(second)) = (large.next(), large.next()) else {
         return Ok(Vec::new(alloc));
@@ -158,7 +158,7 @@ fn choice_without(
 fn rest_of(
     alloc: Global,
     choice: &Choice,
-    shared: &[u128],
+    shared: &[u64],
     marks: &Chains,
 ) -> Result<Option<Choice>, AllocError> {
     if choice.size < LARGE {

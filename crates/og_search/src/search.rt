@@ -1,14 +1,15 @@
 //! The search: it takes in facts, closes or picks a choice, and goes into each part.
 
+use crate::known::Known;
 use crate::rests::Rests;
 use crate::steps::{Decision, Entry, Parts};
 use crate::stop::{Halt, Stop};
 use og_choices::{
-    Against, Atom, Chains, Choice, Clash, Denials, Facts, Index, News, Open, Part, Reach, View,
-    all_hold, common_to_choice, forced, refuted_by, weight,
+    Against, Chains, Choice, Clash, Common, Denials, Facts, News, Open, Part, Reach, View,
+    common_to_choice, failing, forced, forced_among, refuted_by, untaken, weight,
 };
-use og_elimination::{Gap, Outcome, Problem, Ranges, close_within, eliminate, narrow, note_bound};
-use og_inequalities::{Added, Bounds, Inequality, Model, Place, Rows, TOP, Term, Variables};
+use og_elimination::{Gap, Outcome, Problem, Ranges, eliminate, narrow};
+use og_inequalities::{Bounds, Inequality, Model, Place, TOP, Term, Variables};
 use og_pigeons::{Crowd, look, weight_of_pairs};
 use og_queues::{Queue, Sight, look as look_for_queue};
 use og_refutation::{Cases, Lifted, Placed, Proof, both_sides, denial, leaf, refute_clash};
@@ -44,11 +45,7 @@ const MOST: u64 = 3_600_000;
 pub(crate) struct Search<'a> {
     alloc: Global,
     variables: u32,
-    rows: Rows,
-    // The rows of the facts on the path.
-    base: Vec<usize>,
-    // Those of several variables.
-    index: Index,
+    known: Known,
     // The choices on the path.
     open: Vec<Open<'a>>,
     // Their marks.
@@ -99,14 +96,12 @@ impl<'a> Search<'a> {
         facts: &'a Part,
         rests: &'a Rests,
         variables: u32,
-        budget: u64,
+        known: Known,
     ) -> Result<Search<'a>, AllocError> {
         Ok(Search {
             alloc,
             variables,
-            rows: Rows::new(alloc, budget),
-            base: Vec::new(alloc),
-            index: Index::new(alloc, facts.size())?,
+            known,
             open: Vec::new(alloc),
             marks: Chains::new(alloc, facts.choices.len())?,
             model: Model::new(alloc, variables as usize)?,
@@ -134,8 +129,8 @@ impl<'a> Search<'a> {
 
     fn view<'v>(&'v self, bounds: &'v Bounds) -> View<'v, 'a> {
         View {
-            rows: &self.rows,
-            base: &self.base,
+            rows: &self.known.rows,
+            base: &self.known.base,
             open: &self.open,
             bounds,
         }
@@ -143,9 +138,9 @@ impl<'a> Search<'a> {
 
     fn facts<'v>(&'v self, bounds: &'v Bounds) -> Facts<'v> {
         Facts {
-            rows: &self.rows,
-            base: &self.base,
-            index: &self.index,
+            rows: &self.known.rows,
+            base: &self.known.base,
+            index: &self.known.index,
             bounds,
             own: &self.facts.atoms,
             directions: &self.directions,
@@ -179,49 +174,6 @@ impl<'a> Search<'a> {
         Ok(self.denied(own, bounds))
     }
 
-    // Adds a fact as a row.
-    fn take_atom(
-        &mut self,
-        form: Inequality,
-        place: Place,
-        bounds: &mut Bounds,
-    ) -> Result<(), Halt> {
-        match self.rows.add_fact(form, place)? {
-            Added::Nothing => Ok(()),
-            Added::Row(row) => {
-                self.base.push(row)?;
-                self.index.put(&self.rows, row)?;
-                note_bound(&mut self.rows, row, bounds)?;
-                Ok(())
-            }
-        }
-    }
-
-    // Whether a fact says as much as the inequality, or a row that is a sum of one.
-    fn is_known(&self, atom: &Atom, bounds: &Bounds) -> bool {
-        if atom.form.terms.len() == 1 {
-            let row = bounds.implied_by(&atom.form);
-            return matches!(row, Some(row) if self.rows.is_fact(row));
-        }
-        match atom.direction {
-            Some(direction) => self.index.implies(&self.rows, &atom.form, direction),
-            None => false,
-        }
-    }
-
-    // Takes in the inequalities of a part that are not known. Tells how many.
-    fn take_atoms(&mut self, part: &Part, level: u32, bounds: &mut Bounds) -> Result<usize, Halt> {
-        let mut taken = 0usize;
-        for atom in &part.atoms {
-            if !self.is_known(atom, bounds) {
-                let index = atom.index;
-                self.take_atom(atom.form.copy()?, Place { level, index }, bounds)?;
-                taken = taken.saturating_add(1);
-            }
-        }
-        Ok(taken)
-    }
-
     // Whether an equal choice is on the path.
     fn is_open(&self, choice: &Choice) -> bool {
         self.marks.walk(choice.mark).step().is_some()
@@ -247,11 +199,10 @@ impl<'a> Search<'a> {
         Ok(taken)
     }
 
-    // The choice with the fewest ways, at the values among those that are false of them. Where that
-    // has three or more, one of which no part is alive comes first.
-    fn pick(&mut self, bounds: &Bounds, at_values: bool) -> Result<Option<usize>, Stop> {
-        let model = if at_values { Some(&self.model) } else { None };
-        let Some(best) = self.view(bounds).narrowest(model) else {
+    // The one with the fewest ways of these choices. Where that has three or more, one of which no
+    // part is alive comes first.
+    fn pick(&mut self, among: &[usize], bounds: &Bounds) -> Result<Option<usize>, Stop> {
+        let Some(best) = self.view(bounds).narrowest(among) else {
             return Ok(None);
         };
         if best.ways < 3 {
@@ -264,22 +215,22 @@ impl<'a> Search<'a> {
 
     // Takes a step for each 1,000 facts in the choices that are looked through.
     fn spend_choices(&mut self) -> Result<(), Stop> {
-        self.rows.spend((weight(&self.open) / 1000) as u64)?;
+        self.known.rows.spend((weight(&self.open) / 1000) as u64)?;
         Ok(())
     }
 
     // Takes a step for each 10,000 looks at a fact or a row, where each choice is looked into.
     fn spend_looks(&mut self) -> Result<(), Stop> {
-        let looks = weight(&self.open).saturating_add(self.base.len());
+        let looks = weight(&self.open).saturating_add(self.known.base.len());
         let all = self.open.len().saturating_mul(looks);
-        self.rows.spend((all / 10_000) as u64)?;
+        self.known.rows.spend((all / 10_000) as u64)?;
         Ok(())
     }
 
     // Takes a step for each 10,000 pairs of a fact and one of so many choices.
     fn spend_pairs(&mut self, choices: usize) -> Result<(), Stop> {
         let pairs = weight(&self.open).saturating_mul(choices);
-        self.rows.spend((pairs / 10_000) as u64)?;
+        self.known.rows.spend((pairs / 10_000) as u64)?;
         Ok(())
     }
 
@@ -287,57 +238,46 @@ impl<'a> Search<'a> {
     fn spend_facts(&mut self, part: &Part, taken: usize) -> Result<(), Stop> {
         let all = part.atoms.len().saturating_add(part.choices.len());
         let others = all.saturating_sub(taken) / 16;
-        self.rows.spend(taken.saturating_add(others) as u64)?;
+        self.known.rows.spend(taken.saturating_add(others) as u64)?;
         Ok(())
     }
 
     // Takes in the facts of a level.
     fn take_in(&mut self, entry: Entry<'a>, level: u32, bounds: &mut Bounds) -> Result<(), Halt> {
-        self.rows.spend(1)?;
+        self.known.rows.spend(1)?;
         match entry {
-            Entry::Side(form) => self.take_atom(form, Place { level, index: 0 }, bounds),
+            Entry::Side(form) => self
+                .known
+                .take_atom(form, Place { level, index: 0 }, bounds),
             Entry::Part(part) => {
                 let choices = self.take_choices(part, level)?;
-                let atoms = self.take_atoms(part, level, bounds)?;
-                if level < TOP {
-                    self.spend_facts(part, choices.saturating_add(atoms))?;
-                }
+                let atoms = self.known.take_atoms(part, level, bounds)?;
+                self.spend_facts(part, choices.saturating_add(atoms))?;
                 Ok(())
             }
         }
     }
 
-    // Looks for a contradiction within the bounds, in each of the new rows.
-    fn close_new(&mut self, from: usize, bounds: &Bounds) -> Result<(), Halt> {
-        for row in self.base.iter().skip(from) {
-            close_within(&mut self.rows, *row, bounds)?;
-        }
-        Ok(())
-    }
-
-    // The variables of the rows of several variables from this one on.
-    fn new_variables(&self, from: usize) -> Variables {
-        let mut all = Variables::NONE;
-        for row in self.base.iter().skip(from) {
-            all = all.union(Variables::of(&self.rows.form(*row).terms));
-        }
-        all
-    }
-
     // Adds the bounds that follow from the rows, and notes what is new: the rows from this one on,
     // and the bounds. Those of the level above were changed for these variables.
     fn narrow(&mut self, from: usize, late: Variables, bounds: &mut Bounds) -> Result<(), Halt> {
-        narrow(&mut self.rows, &self.base, self.narrowed, late, bounds)?;
-        self.narrowed = self.base.len();
+        narrow(
+            &mut self.known.rows,
+            &self.known.base,
+            self.narrowed,
+            late,
+            bounds,
+        )?;
+        self.narrowed = self.known.base.len();
         let changed = bounds.changed();
         self.unforced = self.unforced.with(changed);
-        let news = changed.union(self.new_variables(from));
+        let news = changed.union(self.known.variables_from(from));
         self.unrefuted = self.unrefuted.with(news);
         Ok(())
     }
 
-    // Takes in the facts of a level, and tells what is done there: above all choices first without
-    // the bounds that follow. Those of the level above were changed for these variables.
+    // Takes in the facts of a level, and tells what is done there. Those of the level above were
+    // changed for these variables.
     fn begin(
         &mut self,
         entry: Entry<'a>,
@@ -345,30 +285,36 @@ impl<'a> Search<'a> {
         late: Variables,
         bounds: &mut Bounds,
     ) -> Result<Decision, Halt> {
-        let from = self.base.len();
+        let from = self.known.base.len();
         self.take_in(entry, level, bounds)?;
-        self.close_new(from, bounds)?;
-        if level == TOP {
-            if let Some(i) = self.refuted(bounds, Reach::Rows) {
-                return Ok(Decision::Split(i));
-            }
-        }
+        self.known.close_new(from, bounds)?;
         self.narrow(from, late, bounds)?;
         self.go_on(level, bounds)
     }
 
+    // Takes in the choices of the condition, whose inequalities are known, and tells what is done:
+    // at first without the bounds that follow.
+    fn begin_at_top(&mut self, bounds: &mut Bounds) -> Result<Decision, Halt> {
+        self.take_choices(self.facts, TOP)?;
+        if let Some(i) = self.refuted(bounds, Reach::Rows) {
+            return Ok(Decision::Split(i));
+        }
+        self.narrow(0, Variables::NONE, bounds)?;
+        self.go_on(TOP, bounds)
+    }
+
     // Eliminates all variables, and keeps no row of it but where there is a contradiction.
     fn eliminate_in(&mut self, bounds: &Bounds, ranges: Ranges) -> Result<Outcome, Halt> {
-        let mark = self.rows.len();
+        let mark = self.known.rows.len();
         let problem = Problem {
-            base: &self.base,
+            base: &self.known.base,
             bounds,
             kept: &self.model,
             variables: self.variables,
             ranges,
         };
-        let outcome = eliminate(&mut self.rows, &problem)?;
-        self.rows.forget(mark);
+        let outcome = eliminate(&mut self.known.rows, &problem)?;
+        self.known.rows.forget(mark);
         Ok(outcome)
     }
 
@@ -386,7 +332,8 @@ impl<'a> Search<'a> {
         if level < CROWD_LEVEL {
             return Ok(None);
         }
-        self.rows
+        self.known
+            .rows
             .spend((weight_of_pairs(&self.open) / 1000) as u64)?;
         Ok(look(self.alloc, self.view(bounds), level)?)
     }
@@ -395,14 +342,20 @@ impl<'a> Search<'a> {
     // step for each 10,000 looks at a fact on the path.
     fn queue(&mut self, level: u32, bounds: &Bounds) -> Result<Sight, Stop> {
         let seen = look_for_queue(self.alloc, self.view(bounds), level)?;
-        self.rows.spend((seen.looks / 10_000) as u64)?;
+        self.known.rows.spend((seen.looks / 10_000) as u64)?;
         Ok(seen.sight)
+    }
+
+    // An inequality that all parts of one of these choices imply, and that is false of the values.
+    fn common(&self, among: &[usize], bounds: &Bounds) -> Result<Option<Common>, AllocError> {
+        common_to_choice(self.alloc, &self.open, among, bounds, &self.model)
     }
 
     // What is done where all rows hold of these values.
     fn decide_at(&mut self, model: Model, level: u32, bounds: &Bounds) -> Result<Decision, Stop> {
         self.model = model;
-        if all_hold(&self.open, &self.model) {
+        let failing = failing(self.alloc, &self.open, &self.model)?;
+        if failing.is_empty() {
             return Err(Stop::Model);
         }
         if let Some(crowd) = self.crowd(level, bounds)? {
@@ -413,16 +366,16 @@ impl<'a> Search<'a> {
             Sight::Bound(form) => return Ok(Decision::Branch { form, next: None }),
             Sight::Nothing => {}
         }
-        if let Some(i) = forced(&self.open, bounds, Some(&self.model), News::ALL) {
+        if let Some(i) = forced_among(&self.open, &failing, bounds) {
             return Ok(Decision::Split(i));
         }
-        if let Some(common) = common_to_choice(self.alloc, &self.open, bounds, &self.model)? {
+        if let Some(common) = self.common(&failing, bounds)? {
             return Ok(Decision::Branch {
                 form: common.form,
                 next: Some(common.choice),
             });
         }
-        let choice = self.pick(bounds, true)?;
+        let choice = self.pick(&failing, bounds)?;
         Ok(Decision::Split(choice.ok_or(Stop::Stuck)?))
     }
 
@@ -444,7 +397,8 @@ impl<'a> Search<'a> {
 
     // What is done where no values were found.
     fn decide_without(&mut self, gap: Option<Gap>, bounds: &Bounds) -> Result<Decision, Stop> {
-        match self.pick(bounds, false)? {
+        let open = untaken(self.alloc, &self.open)?;
+        match self.pick(&open, bounds)? {
             Some(i) => Ok(Decision::Split(i)),
             None => self.branch_at(gap.ok_or(Stop::Stuck)?),
         }
@@ -465,7 +419,7 @@ impl<'a> Search<'a> {
         }
         self.unrefuted = News::none(self.open.len());
         if level > EAGER_LEVEL {
-            if let Some(i) = forced(&self.open, bounds, None, self.unforced) {
+            if let Some(i) = forced(&self.open, bounds, self.unforced) {
                 return Ok(Decision::Split(i));
             }
             self.unforced = News::none(self.open.len());
@@ -497,7 +451,7 @@ impl<'a> Search<'a> {
 
     // The leaf that closes with this row.
     fn close(&mut self, row: usize) -> Result<Proof, Stop> {
-        let proof = leaf(&self.rows, row)?;
+        let proof = leaf(&self.known.rows, row)?;
         self.keep(proof)
     }
 
@@ -530,10 +484,10 @@ impl<'a> Search<'a> {
     ) -> Result<Option<Proof>, Stop> {
         let index = clash.atom.index;
         let place = Place { level, index };
-        let Some(proof) = refute_clash(&mut self.rows, bounds, clash, place)? else {
+        let Some(proof) = refute_clash(&mut self.known.rows, bounds, clash, place)? else {
             return Ok(None);
         };
-        self.rows.spend(1)?;
+        self.known.rows.spend(1)?;
         if let Against::Fact(index) = clash.against {
             self.go_near(index, bounds);
         }
@@ -550,7 +504,9 @@ impl<'a> Search<'a> {
         reach: Reach,
     ) -> Result<Option<Proof>, Stop> {
         if let Some(clash) = self.facts(bounds).clash(part, reach) {
-            self.rows.spend((part.count as u64 / 16).saturating_add(1))?;
+            self.known
+                .rows
+                .spend((part.count as u64 / 16).saturating_add(1))?;
             return self.close_clash(clash, level, bounds);
         }
         for choice in &part.choices {
@@ -590,7 +546,7 @@ impl<'a> Search<'a> {
             return Ok(Some(choice));
         }
         let pairs = choices.len().saturating_mul(part.size());
-        self.rows.spend((pairs / 10_000) as u64)?;
+        self.known.rows.spend((pairs / 10_000) as u64)?;
         Ok(refuted_by(choices, part))
     }
 
@@ -605,7 +561,7 @@ impl<'a> Search<'a> {
         let Some(proof) = denial(self.alloc, choice, Placed { part, level })? else {
             return Ok(None);
         };
-        self.rows.spend(1)?;
+        self.known.rows.spend(1)?;
         let room = self.room.checked_sub(proof.tree.size_of_leaves());
         self.room = room.ok_or(Stop::Size)?;
         Ok(Some(proof))
@@ -636,46 +592,50 @@ impl<'a> Search<'a> {
     // Searches at a level, and leaves the path as it was.
     #[cycle(search)]
     fn at_level(&mut self, level: u32, entry: Entry<'a>, bounds: &Bounds) -> Result<Proof, Stop> {
-        let (rows, base, open) = (self.rows.len(), self.base.len(), self.open.len());
-        let (index, marks) = (self.index.len(), self.marks.len());
+        let (known, open, marks) = (self.known.extent(), self.open.len(), self.marks.len());
         let (narrowed, unrefuted, unforced) = (self.narrowed, self.unrefuted, self.unforced);
-        let proof = self.refute(level, entry, bounds)?;
+        let mut own = bounds.copy()?;
+        let decided = self.begin(entry, level, bounds.changed(), &mut own);
+        let proof = self.refute(level, decided, &own)?;
         self.narrowed = narrowed;
         self.unrefuted = unrefuted;
         self.unforced = unforced;
-        self.index.forget(index);
+        self.known.forget(known);
         self.marks.forget(marks);
-        self.rows.forget(rows);
-        self.base.truncate(base);
         self.open.truncate(open);
         Ok(proof)
     }
 
+    // Refutes what is known at a level, for which this was decided.
     #[cycle(search)]
-    fn refute(&mut self, level: u32, entry: Entry<'a>, bounds: &Bounds) -> Result<Proof, Stop> {
-        let mut own = bounds.copy()?;
-        let decision = match self.begin(entry, level, bounds.changed(), &mut own) {
+    fn refute(
+        &mut self,
+        level: u32,
+        decided: Result<Decision, Halt>,
+        bounds: &Bounds,
+    ) -> Result<Proof, Stop> {
+        let decision = match decided {
             Ok(decision) => decision,
             Err(halt) => return self.halted(halt),
         };
         let below = level.checked_sub(1).ok_or(Stop::Stuck)?;
         match decision {
-            Decision::Split(i) => self.split_at(below, i, &own),
-            Decision::Branch { form, next } => self.branch(below, form, next, &own),
-            Decision::Refute(crowd) => self.refute_crowd(&crowd, &own),
-            Decision::Queue(queue) => self.refute_queue(&queue, &own),
+            Decision::Split(i) => self.split_at(below, i, bounds),
+            Decision::Branch { form, next } => self.branch(below, form, next, bounds),
+            Decision::Refute(crowd) => self.refute_crowd(&crowd, bounds),
+            Decision::Queue(queue) => self.refute_queue(&queue, bounds),
         }
     }
 
     // Refutes a queue that leaves no place free.
     fn refute_queue(&mut self, queue: &Queue, bounds: &Bounds) -> Result<Proof, Stop> {
-        let proof = queue.refute(&mut self.rows, &self.open, bounds, &mut self.room)?;
+        let proof = queue.refute(&mut self.known.rows, &self.open, bounds, &mut self.room)?;
         Ok(proof)
     }
 
     // Refutes numbers that are all different and have too few values.
     fn refute_crowd(&mut self, crowd: &Crowd, bounds: &Bounds) -> Result<Proof, Stop> {
-        let proof = crowd.refute(&mut self.rows, &self.open, bounds, &mut self.room)?;
+        let proof = crowd.refute(&mut self.known.rows, &self.open, bounds, &mut self.room)?;
         Ok(proof)
     }
 
@@ -769,9 +729,10 @@ impl<'a> Search<'a> {
         Ok(both_sides(self.alloc, below, form, next, first, second)?)
     }
 
-    /// A refutation of the facts, if the search finds one.
-    pub(crate) fn run(&mut self) -> Result<Proof, Stop> {
-        let bounds = Bounds::new(self.alloc, self.variables as usize)?;
-        self.at_level(TOP, Entry::Part(self.facts), &bounds)
+    /// A refutation of the facts, if the search finds one: their inequalities are known, with these
+    /// bounds.
+    pub(crate) fn run(&mut self, bounds: &mut Bounds) -> Result<Proof, Stop> {
+        let decided = self.begin_at_top(bounds);
+        self.refute(TOP, decided, bounds)
     }
 }

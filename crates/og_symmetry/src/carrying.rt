@@ -1,6 +1,6 @@
 //! A certificate for facts in which variables are exchanged.
 
-use crate::colors::{colors_of, renamed_by_color};
+use crate::colors::{Colors, renamed_by_color};
 use crate::comparing::compare_facts;
 use crate::counterparts::{Marks, Sides};
 use crate::lost::Lost;
@@ -314,7 +314,7 @@ fn tried(
 pub struct Original<'f> {
     facts: FactList<'f>,
     // The colors of its variables, once they were needed.
-    colors: Option<Vec<u64>>,
+    colors: Option<Colors>,
 }
 
 impl<'f> Original<'f> {
@@ -329,12 +329,13 @@ impl<'f> Original<'f> {
     // The variables that have the same color in both lists stand for one another.
     fn by_colors(&mut self, alloc: Global, to: &FactList) -> Result<Renaming, AllocError> {
         let variables = self.facts.variables();
-        let own = match self.colors.take() {
-            Some(own) => own,
-            None => colors_of(alloc, self.facts.as_slice(), variables)?,
+        let own = self.facts.as_slice();
+        let mut colors = match self.colors.take() {
+            Some(colors) => colors,
+            None => Colors::of(alloc, own, variables)?,
         };
-        let renaming = renamed_by_color(alloc, &own, to.as_slice(), variables)?;
-        self.colors = Some(own);
+        let renaming = renamed_by_color(alloc, own, &mut colors, to.as_slice(), variables)?;
+        self.colors = Some(colors);
         Ok(renaming)
     }
 

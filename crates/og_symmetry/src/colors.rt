@@ -5,14 +5,11 @@
 //! variables. A variable and one of another list that stand for one another have the same color at
 //! the end.
 
-use crate::marks::{NESTING_LIMIT, Terms, fact_mark, label, last_bits, mixed, part_mark};
+use crate::marks::{NESTING_LIMIT, Terms, fact_mark, label, part_mark};
 use crate::renaming::Renaming;
 use og_facts::{Atom, Fact};
+use og_inequalities::{last_bits, next_mark};
 use std::alloc::{AllocError, Global};
-
-/// How often each variable gets a new color: the first time by what is said of it alone, then by
-/// the variables that stand with it.
-const ROUNDS: usize = 2;
 
 /// The first color.
 const FIRST: u64 = 1;
@@ -36,13 +33,13 @@ impl Refiner<'_> {
     // Adds to the colors of the variables of an inequality that stands in what has this mark: which
     // coefficient each has, and the constant.
     fn add_atom(&mut self, atom: &Atom, around: u64) {
-        let mark = mixed(around, last_bits(atom.offset()));
+        let mark = next_mark(around, last_bits(atom.offset()));
         let terms = Terms::of(atom);
         for i in 0..usize::MAX {
             let Some((var, coefficient)) = terms.get(i) else {
                 break;
             };
-            self.add(var, mixed(mark, coefficient));
+            self.add(var, next_mark(mark, coefficient));
         }
     }
 
@@ -105,28 +102,44 @@ impl Refiner<'_> {
 fn refined(alloc: Global, list: &[Fact], colors: &[u64]) -> Result<Vec<u64>, AllocError> {
     let mut next = Vec::with_capacity(alloc, colors.len())?;
     for color in colors {
-        next.push(mixed(FIRST, *color))?;
+        next.push(next_mark(FIRST, *color))?;
     }
     let mut refiner = Refiner { colors, next };
     refiner.add_list(list);
     Ok(refiner.next)
 }
 
-/// The colors of so many variables in the list.
-///
-/// # Errors
-///
-/// `AllocError` where an allocation was refused.
-pub(crate) fn colors_of(
-    alloc: Global,
-    list: &[Fact],
-    variables: u32,
-) -> Result<Vec<u64>, AllocError> {
-    let mut colors = vec![in alloc; FIRST; variables as usize]?;
-    for _ in 0..ROUNDS {
-        colors = refined(alloc, list, &colors)?;
+/// The colors of the variables of a list.
+#[derive(Drop)]
+pub(crate) struct Colors {
+    // By what is said of each alone.
+    first: Vec<u64>,
+    // By the first ones of the variables that stand with it, once they were needed.
+    second: Option<Vec<u64>>,
+}
+
+impl Colors {
+    /// Those of so many variables in the list.
+    ///
+    /// # Errors
+    ///
+    /// `AllocError` where an allocation was refused.
+    pub(crate) fn of(alloc: Global, list: &[Fact], variables: u32) -> Result<Colors, AllocError> {
+        let colors = vec![in alloc; FIRST; variables as usize]?;
+        Ok(Colors {
+            first: refined(alloc, list, &colors)?,
+            second: None,
+        })
     }
-    Ok(colors)
+
+    // The second ones. The list is that of the first ones.
+    fn second(&mut self, alloc: Global, list: &[Fact]) -> Result<&[u64], AllocError> {
+        let second = match self.second.take() {
+            Some(second) => second,
+            None => refined(alloc, list, &self.first)?,
+        };
+        Ok(self.second.insert(second))
+    }
 }
 
 // The variables that do not have the same color in both lists, each behind its color in this one,
@@ -144,22 +157,51 @@ fn by_color(alloc: Global, own: &[u64], other: &[u64]) -> Result<Vec<(u64, u32)>
     Ok(variables)
 }
 
+// What stands in order from this color on.
+fn from_color(sorted: &[(u64, u32)], color: u64) -> &[(u64, u32)] {
+    for (place, (other, _)) in sorted.iter().enumerate() {
+        if *other >= color {
+            return &sorted[place..];
+        }
+    }
+    &[]
+}
+
+// Whether a variable of the one list has the color of another one of the other.
+fn are_some_alike(alloc: Global, own: &[u64], other: &[u64]) -> Result<bool, AllocError> {
+    let second = by_color(alloc, other, own)?;
+    let mut rest = second.as_slice();
+    for (color, _) in &by_color(alloc, own, other)? {
+        rest = from_color(rest, *color);
+        if matches!(rest.first(), Some((same, _)) if same == color) {
+            return Ok(true);
+        }
+    }
+    Ok(false)
+}
+
 /// Which variables of a list with these colors stand for those of another list, of so many
-/// variables, by the colors of these: those of one color in the order of their numbers.
+/// variables, by the colors of these: those of one color in the order of their numbers. Where no
+/// two are alike by what is said of them alone, none are by more.
 ///
 /// # Errors
 ///
 /// `AllocError` where an allocation was refused.
 pub(crate) fn renamed_by_color(
     alloc: Global,
-    own: &[u64],
+    from: &[Fact],
+    own: &mut Colors,
     to: &[Fact],
     variables: u32,
 ) -> Result<Renaming, AllocError> {
-    let other = colors_of(alloc, to, variables)?;
-    let first = by_color(alloc, own, &other)?;
-    let second = by_color(alloc, &other, own)?;
     let mut renaming = Renaming::none(alloc, variables)?;
+    let mut other = Colors::of(alloc, to, variables)?;
+    if !are_some_alike(alloc, &own.first, &other.first)? {
+        return Ok(renaming);
+    }
+    let (own, other) = (own.second(alloc, from)?, other.second(alloc, to)?);
+    let first = by_color(alloc, own, other)?;
+    let second = by_color(alloc, other, own)?;
     for ((color, var), (same, name)) in first.iter().zip(&second) {
         if color == same {
             renaming.note(*var, *name);

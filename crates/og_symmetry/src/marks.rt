@@ -2,26 +2,13 @@
 //! facts of a part and of the parts of a choice. A label stands for each variable.
 
 use og_facts::{Atom, Fact, Signed};
+use og_inequalities::{last_bits, next_mark};
 
 /// Choices that have so many choices round them are not told apart.
 pub(crate) const NESTING_LIMIT: u32 = 200;
 
 /// The mark of nothing.
 const START: u64 = 0x62b8_2175_6295_c58d;
-
-/// An odd number, about half of whose bits are ones.
-const MULTIPLIER: u64 = 0x2360_ed05_1fc6_5da5;
-
-/// The two numbers mixed, so that sums of such numbers tell what was mixed.
-pub(crate) fn mixed(mark: u64, number: u64) -> u64 {
-    let product = (mark ^ number).wrapping_mul(MULTIPLIER);
-    product ^ (product >> 32)
-}
-
-/// The last bits of a coefficient or a constant.
-pub(crate) fn last_bits(number: i128) -> u64 {
-    (number.cast_unsigned() & 0xffff_ffff_ffff_ffff) as u64
-}
 
 /// The terms of an inequality, each coefficient by its last bits.
 #[derive(Clone, Copy)]
@@ -65,9 +52,9 @@ pub(crate) fn atom_mark(labels: &[u64], atom: &Atom) -> u64 {
         let Some((var, coefficient)) = terms.get(i) else {
             break;
         };
-        sum = sum.wrapping_add(mixed(label(labels, var), coefficient));
+        sum = sum.wrapping_add(next_mark(label(labels, var), coefficient));
     }
-    mixed(sum, last_bits(atom.offset()))
+    next_mark(sum, last_bits(atom.offset()))
 }
 
 /// The mark of a fact with so many levels of choices.
@@ -88,7 +75,7 @@ fn choice_mark(labels: &[u64], parts: &[Vec<Fact>], depth: u32) -> u64 {
     for part in parts {
         sum = sum.wrapping_add(part_mark(labels, part, depth));
     }
-    mixed(START, sum)
+    next_mark(START, sum)
 }
 
 /// The mark of a part with so many levels of choices.
@@ -98,5 +85,5 @@ pub(crate) fn part_mark(labels: &[u64], part: &[Fact], depth: u32) -> u64 {
     for fact in part {
         sum = sum.wrapping_add(fact_mark(labels, fact, depth));
     }
-    mixed(START, sum)
+    next_mark(START, sum)
 }

@@ -1,6 +1,6 @@
 //! Variables that stand for others.
 
-use crate::marks::mixed;
+use og_inequalities::next_mark;
 use og_linear::Form;
 use std::alloc::{AllocError, Global};
 
@@ -40,7 +40,7 @@ impl Renaming {
     pub(crate) fn labels(&self, alloc: Global) -> Result<Vec<u64>, AllocError> {
         let mut labels = Vec::with_capacity(alloc, self.names.len())?;
         for name in &self.names {
-            labels.push(mixed(0, u64::from(*name)))?;
+            labels.push(next_mark(0, u64::from(*name)))?;
         }
         Ok(labels)
     }

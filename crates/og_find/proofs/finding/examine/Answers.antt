@@ -3,8 +3,8 @@ use Rattle.og_find.specs.Found.{IsVerdict, IsVerdictOn}
 use Rattle.og_find.proofs.Certified.{verdict_on, if_ok}
 use Rattle.og_find.proofs.finding.examine.Goals as goal
 
-pub returns-in_ok-part-in-Ok : goal.returns-in_ok-part-in-Ok
-returns-in_ok-part-in-Ok c =
+pub returns-in-Ok : goal.returns-in-Ok
+returns-in-Ok c =
     let condition = seen c.args.condition.now in
     let list = c.in-Ok.list in
     if_ok c.examine_facts.result (IsVerdictOn list) (IsVerdict condition)

@@ -6,4 +6,4 @@ use Rattle.og_inequalities.proofs.bounds.Bounds.add_least.Given as goal
 
 abbrev pub invariant-loop-term : goal.invariant-loop-term
 invariant-loop-term l =
-    (s : List ℤ) → Within l.self s → (l.sum +ℤ sum_at (drop l.term-index l.terms) s) ≤ℤ (l.start +ℤ sum_at l.terms s)
+    (s : List ℤ) → Within l.self.intervals s → (l.sum +ℤ sum_at (drop l.term-index l.terms) s) ≤ℤ (l.start +ℤ sum_at l.terms s)

@@ -15,7 +15,7 @@ both-preserved-then-x-y c =
     let put : to_z w128 (of_z w128 next) ≡ old +ℤ part = to_z-of_z w128 next next_fits ∙ c.in_ok-sum.ensures.1 ∙ ap (λ (z : ℤ). old +ℤ z) (to_z-of_z w128 part part_fits) in
     let within : c.both.i < length c.args.a.now = omega arith in
     record {
-      below = least_first c.args.a.now c.args.b.now c.args.self.now old part (to_z w128 (of_z w128 next)) c.both.i c.both.j _ within c.in_ok-least_of.ensures put c.both.invariant.below;
+      below = least_first c.args.a.now c.args.b.now c.args.self.now.intervals old part (to_z w128 (of_z w128 next)) c.both.i c.both.j _ within c.in_ok-least_of.ensures put c.both.invariant.below;
       first = omega arith;
       second = c.both.invariant.second;
     }
@@ -30,7 +30,7 @@ both-preserved-then-y-x c =
     let put : to_z w128 (of_z w128 next) ≡ old +ℤ part = to_z-of_z w128 next next_fits ∙ c.in_ok-sum-2.ensures.1 ∙ ap (λ (z : ℤ). old +ℤ z) (to_z-of_z w128 part part_fits) in
     let within : c.both.j < length c.args.b.now = omega arith in
     record {
-      below = least_second c.args.a.now c.args.b.now c.args.self.now old part (to_z w128 (of_z w128 next)) c.both.i c.both.j _ within c.in_ok-least_of-2.ensures put c.both.invariant.below;
+      below = least_second c.args.a.now c.args.b.now c.args.self.now.intervals old part (to_z w128 (of_z w128 next)) c.both.i c.both.j _ within c.in_ok-least_of-2.ensures put c.both.invariant.below;
       first = c.both.invariant.first;
       second = omega arith;
     }
@@ -46,7 +46,7 @@ both-preserved c =
     let within : c.both.i < length c.args.a.now = omega arith in
     let inside : c.both.j < length c.args.b.now = omega arith in
     record {
-      below = least_both c.args.a.now c.args.b.now c.args.self.now old part (to_z w128 (of_z w128 next)) c.both.i c.both.j _ within inside c.in_ok-least_of_both.ensures put c.both.invariant.below;
+      below = least_both c.args.a.now c.args.b.now c.args.self.now.intervals old part (to_z w128 (of_z w128 next)) c.both.i c.both.j _ within inside c.in_ok-least_of_both.ensures put c.both.invariant.below;
       first = omega arith;
       second = omega arith;
     }
@@ -58,4 +58,4 @@ returns c = IfSome_then c.add_least-2.result c.add_least-2.ensures (λ v p.
     let first = simp (to_z-of_z, rest_of) at c.in_ok-with_first.ensures in
     let second = simp (to_z-of_z, rest_of) at p in
     let below = simp to_z-of_z at c.both.invariant.below in
-    least_rest c.args.a.now c.args.b.now c.args.self.now (to_z w128 c.both.sum-bits) c.in_ok-with_first.with_first v c.both.i c.both.j _ first second below)
+    least_rest c.args.a.now c.args.b.now c.args.self.now.intervals (to_z w128 c.both.sum-bits) c.in_ok-with_first.with_first v c.both.i c.both.j _ first second below)

@@ -5,7 +5,7 @@ use Rattle.og_inequalities.proofs.bounds.Bounds.add_least_of_sum.Given as goal
 
 abbrev pub invariant-both : goal.invariant-both
 invariant-both l = record {
-  below : StaysBelow l.a l.b l.self l.sum l.i l.j (λ s. l.start +ℤ (sum_at l.a s +ℤ sum_at l.b s));
+  below : StaysBelow l.a l.b l.self.intervals l.sum l.i l.j (λ s. l.start +ℤ (sum_at l.a s +ℤ sum_at l.b s));
   first : l.i ≤ length l.a;
   second : l.j ≤ length l.b;
 }
