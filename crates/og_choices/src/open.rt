@@ -191,7 +191,7 @@ fn bounds_with(part: &Part, bounds: &Bounds) -> Result<Option<Bounds>, AllocErro
     let mut own = bounds.copy()?;
     let mut is_better = false;
     for atom in &part.atoms {
-        if own.take(&atom.form, None).is_some() {
+        if own.take(&atom.form, None)?.is_some() {
             is_better = true;
         }
     }

@@ -2,16 +2,17 @@
 
 ghost use Rattle.std.specs.Prelude.{IfErr};
 ghost use Rattle.og_inequalities.specs.Rows.{Extends, ShowsContradiction};
+ghost use Rattle.og_inequalities.specs.Bounds.{LeadsBack};
 
 use og_inequalities::{AddError, Added, Bounds, Limit, Rows, Side, Summand, Term, Variables};
 
-/// Takes note of a row of one variable. Ends with a contradiction where no value
-/// is left.
+/// Takes note of a row of one variable. Ends with a contradiction where no value is left.
 pub fn note_bound(rows: &mut Rows, row: usize, bounds: &mut Bounds) -> Result<(), AddError>
     ensures extends { Extends rows.old.rows rows.new.rows }
     ensures contradiction { IfErr result (ShowsContradiction rows.new.rows) }
+    ensures back { LeadsBack bounds.new bounds.old }
 {
-    let Some(var) = bounds.take(rows.form(row), Some(row)) else {
+    let Some(var) = bounds.take(rows.form(row), Some(row))? else {
         return Ok(());
     };
     if !bounds.is_empty_at(var) {
@@ -96,9 +97,11 @@ fn has_better(rows: &Rows, row: usize, bounds: &Bounds, open: Open, least: i128)
 }
 
 // Adds the bound of one variable that follows from the row and the bounds of the others.
+#[tactic(auto, using(og_inequalities::proofs::Trail::leads_back_same, og_inequalities::proofs::Trail::leads_back_on))]
 fn narrow_one(rows: &mut Rows, row: usize, var: u32, bounds: &mut Bounds) -> Result<(), AddError>
     ensures extends { Extends rows.old.rows rows.new.rows }
     ensures contradiction { IfErr result (ShowsContradiction rows.new.rows) }
+    ensures back { LeadsBack bounds.new bounds.old }
 {
     match rows.add_with_bounds(row, Some(var), bounds)? {
         Added::Row(row) => note_bound(rows, row, bounds),
@@ -107,9 +110,11 @@ fn narrow_one(rows: &mut Rows, row: usize, var: u32, bounds: &mut Bounds) -> Res
 }
 
 // Adds the bounds that follow from one row.
+#[tactic(auto, using(og_inequalities::proofs::Trail::leads_back_same, og_inequalities::proofs::Trail::leads_back_on))]
 fn narrow_by(rows: &mut Rows, row: usize, bounds: &mut Bounds) -> Result<(), AddError>
     ensures extends { Extends rows.old.rows rows.new.rows }
     ensures contradiction { IfErr result (ShowsContradiction rows.new.rows) }
+    ensures back { LeadsBack bounds.new bounds.old }
 {
     let Some(least) = bounds.least(rows.form(row)) else {
         return Ok(());
@@ -132,8 +137,9 @@ fn narrow_by(rows: &mut Rows, row: usize, bounds: &mut Bounds) -> Result<(), Add
 
 /// Adds the bounds that follow from rows of several variables, each row once and in order: from the
 /// rows from a place on, and before it from those that may have a variable that is among these, or
-/// that got a better bound since `bounds` was made. Ends with a contradiction where no value of a
-/// variable is left.
+/// that got a better bound since `bounds` was made, or since its last mark. Ends with a
+/// contradiction where no value of a variable is left.
+#[tactic(auto, using(og_inequalities::proofs::Trail::leads_back_same, og_inequalities::proofs::Trail::leads_back_on))]
 pub fn narrow(
     rows: &mut Rows,
     base: &[usize],
@@ -143,6 +149,7 @@ pub fn narrow(
 ) -> Result<(), AddError>
     ensures extends { Extends rows.old.rows rows.new.rows }
     ensures contradiction { IfErr result (ShowsContradiction rows.new.rows) }
+    ensures back { LeadsBack bounds.new bounds.old }
 {
     for (place, row) in base.iter().enumerate() {
         let terms = &rows.form(*row).terms;

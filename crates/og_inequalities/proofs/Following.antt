@@ -3,13 +3,12 @@ use Rattle.std.proofs.Common.{◌≡◌, ℕ, zero, suc, ◌+◌, ◌<◌, ◌�
 use Rattle.std.specs.Prelude.{◌≤ℤ◌, ◌<ℤ◌, ◌↔◌, IfSome, slice_get, nat_lt, ◌==◌}
 use Rattle.std.proofs.lemmas.Int.{ints}
 use Rattle.std.proofs.lemmas.Bool.{ltb-true, ltb-false, eqb-true, eqb-false}
-use Rattle.std.proofs.lemmas.Option.{slice_get_past, slice_get-get_or}
-use Rattle.og_linear.specs.Linear.{IsProper}
+use Rattle.std.proofs.lemmas.Option.{slice_get_past}
 use Rattle.og_inequalities.specs.declared.inequality.Inequality.{Inequality}
 use Rattle.og_inequalities.specs.declared.rows.Row.{Row}
 use Rattle.og_inequalities.specs.declared.rows.Summand.{Summand}
 use Rattle.og_inequalities.specs.Inequality.{sum_at, left_side, Holds}
-use Rattle.og_inequalities.specs.Rows.{is_given, HoldsAt, FactsHold, AllFollow, Contradicts, Extends, IsRowOf, IsJustified, AddsRowOf, weighted, left_of}
+use Rattle.og_inequalities.specs.Rows.{is_given, HoldsAt, FactsHold, AllFollow, Extends, IsRowOf, IsJustified, AddsRowOf, weighted, left_of}
 use Rattle.og_inequalities.specs.declared.rows.Added.{Added}
 use Rattle.og_inequalities.specs.declared.rows.Added.TheVariants as added
 use Rattle.og_inequalities.proofs.Limits.{mul_up}

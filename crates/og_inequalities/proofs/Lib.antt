@@ -5,5 +5,6 @@ pub mod Merges
 pub mod Extremes
 pub mod Forms
 pub mod Tighter
+pub mod Trail
 pub mod Following
 pub mod VariableBits

@@ -1,7 +1,6 @@
 -- Quotients of whole numbers.
-use Rattle.std.proofs.Common.{◌≡◌, ℕ, ◌+◌, ◌*◌, ◌<◌, ◌≤◌, ℤ, pos, negsuc, ◌+ℤ◌, ◌*ℤ◌, Option, Some, None, ap₂, ◌∙◌, subst, sym, arith}
-use Rattle.std.specs.Prelude.{◌≤ℤ◌, ◌<ℤ◌, IfSome}
-use Rattle.std.specs.Option.{SomeIff}
+use Rattle.std.proofs.Common.{◌≡◌, ◌<◌, ℤ, pos, negsuc, ◌+ℤ◌, ◌*ℤ◌, ap₂, ◌∙◌, subst, sym, arith}
+use Rattle.std.specs.Prelude.{◌≤ℤ◌, ◌<ℤ◌}
 use Rattle.std.specs.Int.{int_div_euclid}
 use Rattle.std.proofs.lemmas.Int.{ints}
 
@@ -15,9 +14,8 @@ euclid_bounds (negsuc n) (pos m) h =
     (omega (arith, ints), omega (arith, ints))
 euclid_bounds a (negsuc m) h = absurd (omega (arith, ints))
 
--- what a checked division gives
-pub floor_of : (r : Option ℤ) (P : Type 0) (a d x y : ℤ) → x ≡ a → y ≡ d → pos 0 <ℤ d → SomeIff r P (int_div_euclid x y) → IfSome r (λ q. ((q *ℤ d) ≤ℤ a) × (a <ℤ (q *ℤ d +ℤ d)))
-floor_of None P a d x y e f h s = tt
-floor_of (Some q) P a d x y e f h s =
-    let is : q ≡ int_div_euclid a d = s.1 ∙ ap₂ int_div_euclid e f in
+-- what a division gives
+pub floor_of : (q a d x y : ℤ) → x ≡ a → y ≡ d → pos 0 <ℤ d → q ≡ int_div_euclid x y → ((q *ℤ d) ≤ℤ a) × (a <ℤ (q *ℤ d +ℤ d))
+floor_of q a d x y e f h s =
+    let is : q ≡ int_div_euclid a d = s ∙ ap₂ int_div_euclid e f in
     subst (λ q. ((q *ℤ d) ≤ℤ a) × (a <ℤ (q *ℤ d +ℤ d))) (sym is) (euclid_bounds a d h)

@@ -1,12 +1,12 @@
 -- The value of a list of terms, term by term.
-use Rattle.std.proofs.Common.{◌≡◌, ℕ, suc, ◌+◌, ◌<◌, ◌≤◌, ℤ, pos, ◌+ℤ◌, ◌*ℤ◌, List, [], ◌∷◌, ◌++◌, map, drop, length, get_or, refl, sym, ap, ap₂, ◌∙◌, arith, drop-cons, add-one}
+use Rattle.std.proofs.Common.{◌≡◌, ℕ, ◌+◌, ◌<◌, ◌≤◌, ℤ, pos, ◌+ℤ◌, ◌*ℤ◌, List, [], ◌∷◌, ◌++◌, drop, length, get_or, sym, ap, ap₂, ◌∙◌, arith, drop-cons, add-one}
 use Rattle.std.proofs.lemmas.Int.{ints}
 use Rattle.std.proofs.lemmas.Grind.{common_steps}
 use Rattle.std.proofs.Math.IntN.{*ℤ-zero}
-use Rattle.og_linear.specs.Linear.{value_at, val_terms}
+use Rattle.og_linear.specs.Linear.{value_at}
 use Rattle.og_linear.proofs.Ring.{mul-add, add-mul, mul_assoc}
 use Rattle.og_inequalities.specs.declared.inequality.Term.{Term}
-use Rattle.og_inequalities.specs.Inequality.{sum_at, part_at, pair_of}
+use Rattle.og_inequalities.specs.Inequality.{sum_at, part_at}
 
 -- a term more at the end
 pub sum_at-push : (ts : List Term) (t : Term) (s : List ℤ) → sum_at (ts ++ t ∷ []) s ≡ sum_at ts s +ℤ part_at t s

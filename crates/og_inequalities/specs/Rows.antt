@@ -1,5 +1,5 @@
 -- Rows, and what they follow from.
-use Rattle.std.specs.Prelude.{◌≡◌, ℕ, ◌<◌, ◌≤◌, ℤ, pos, ◌+ℤ◌, ◌*ℤ◌, ◌≤ℤ◌, ◌↔◌, List, [], ◌∷◌, Bool, true, false, Option, Some, None, IfSome, ⊤, length, slice_get}
+use Rattle.std.specs.Prelude.{◌≡◌, ℕ, ◌<◌, ◌≤◌, ℤ, pos, ◌+ℤ◌, ◌*ℤ◌, ◌↔◌, List, [], ◌∷◌, Bool, true, false, Option, Some, None, IfSome, ⊤, length, slice_get}
 use Rattle.og_linear.specs.Linear.{IsProper}
 use Rattle.og_inequalities.specs.Inequality.{left_side, Holds}
 use Rattle.og_inequalities.specs.declared.inequality.Inequality.{Inequality}

@@ -1,11 +1,11 @@
 //! Bounds of the variables.
 
-ghost use Rattle.std.specs.Prelude.{◌≡◌, ◌≢◌, ◌<◌, ◌%◌, ◌==◌, ◌||◌, ℕ, ℤ, false, pos, List, ◌+ℤ◌, ◌*ℤ◌, ◌≤ℤ◌, ◌<ℤ◌, ◌↔◌, IfOk, IfSome, IfNone, OnSome, IsTrue, replicate, get_or, length, slice_set, int_lt, if◌then◌else◌};
+ghost use Rattle.std.specs.Prelude.{◌≡◌, ◌≢◌, ◌<◌, ◌%◌, ◌==◌, ◌||◌, ◌++◌, ◌∷◌, [], ℕ, ℤ, false, pos, List, ◌+ℤ◌, ◌*ℤ◌, ◌≤ℤ◌, ◌<ℤ◌, ◌↔◌, IfOk, IfSome, IfNone, OnSome, OnOk, OnErr, IsTrue, replicate, get_or, length, take, drop, slice_set, int_lt, if◌then◌else◌};
 ghost use Rattle.og_inequalities.specs.declared.bounds.Side.TheVariants.{Lower, Upper};
 ghost use Rattle.og_linear.specs.Linear.{value_at};
 ghost use Rattle.og_inequalities.specs.Inequality.{left_side, Holds, part_at, sum_at};
 ghost use Rattle.og_inequalities.specs.Variables.{has};
-ghost use Rattle.og_inequalities.specs.Bounds.{whole, bound_at, bounded, Within, Meets, Tightens};
+ghost use Rattle.og_inequalities.specs.Bounds.{least, whole, bound_at, bounded, Within, Meets, Tightens, IsBoundOf, GetsBetter, undone, rewound, LeadsBack};
 
 use crate::inequality::{Inequality, Term};
 use crate::number::{ceil_div, floor_div, product};
@@ -58,14 +58,15 @@ pub struct Limit {
 }
 
 impl Limit {
-    /// What `coefficient * x + rest <= 0` says of x; none where the coefficient is 0 or a number
-    /// leaves `i128`.
+    /// What `coefficient * x + rest <= 0` says of x; none only where the coefficient is 0, or one of
+    /// the two is the least `i128`.
     pub fn of(coefficient: i128, rest: i128) -> Option<Limit>
-        ensures { IfSome result (λ l. (x : ℤ)
+        ensures limit { IfSome result (λ l. (x : ℤ)
             → ((coefficient *ℤ x +ℤ rest) ≤ℤ pos 0) ↔ Meets l.side l.value x) }
+        ensures none { IfNone result (coefficient ≢ pos 0 → least <ℤ coefficient → least <ℤ rest → ⊥) }
     {
         if coefficient > 0 {
-            let value = floor_div(rest.checked_neg()?, coefficient)?;
+            let value = floor_div(rest.checked_neg()?, coefficient);
             let side = Side::Upper;
             return Some(Limit { side, value });
         }
@@ -82,8 +83,10 @@ impl Limit {
 // What an inequality of one variable says of that; none of other inequalities, and where a number
 // leaves `i128`.
 fn limit_of(form: &Inequality) -> Option<(u32, Limit)>
-    ensures { IfSome result (λ p. (s : List ℤ)
+    ensures limit { IfSome result (λ p. (s : List ℤ)
         → Holds form.now s ↔ Meets p.1.side p.1.value (value_at s p.0)) }
+    ensures variable { IfSome result (λ p. (t : Term) → form.now.terms.items ≡ t ∷ [] → p.0 ≡ t.var) }
+    ensures none { IfNone result ((n : ℕ) → IsBoundOf n form.now → ⊥) }
 {
     if form.terms.len() != 1 {
         return None;
@@ -125,13 +128,53 @@ impl Interval {
     }
 }
 
-/// The bounds of all variables, and which of these got a better bound. Contracts see the intervals
-/// of the variables in turn.
+/// The interval that a variable had before it got a better bound.
+#[derive(Clone, Copy)]
+pub struct Before {
+    var: u32,
+    interval: Interval,
+}
+
+/// A moment to which bounds can go back: how many intervals had been replaced, and which variables
+/// had changed.
+#[derive(Clone, Copy)]
+pub struct Mark {
+    replaced: usize,
+    changed: Variables,
+}
+
+// Gives the variable back the interval from before.
+#[tactic(auto, using(std::proofs::lemmas::List::set_past))]
+fn put_back(intervals: &mut [Interval], before: Before)
+    ensures { intervals.new ≡ slice_set intervals.old before.var before.interval }
+{
+    let place = before.var as usize;
+    if place < intervals.len() {
+        intervals[place] = before.interval;
+    }
+}
+
+// Puts the intervals of the trail from a place on back, the last one first, and takes them off it.
+fn undo(intervals: &mut [Interval], trail: &mut Vec<Before>, from: usize)
+    ensures intervals { intervals.new ≡ undone (drop from trail.old.items) intervals.old }
+    ensures trail { trail.new.items ≡ take from trail.old.items }
+{
+    'back: while trail.len() > from {
+        let Some(before) = trail.pop() else {
+            return;
+        };
+        put_back(intervals, before);
+    }
+}
+
+/// The bounds of all variables, which of these got a better bound, and the trail: the intervals
+/// that were replaced, in order. Contracts see all three.
 #[derive(Drop)]
 pub struct Bounds {
     intervals: Vec<Interval>,
-    // The variables that got a better bound since it was made.
+    // The variables that got a better bound since it was made, or since the last mark.
     changed: Variables,
+    trail: Vec<Before>,
 }
 
 impl marker::Model for Bounds {
@@ -139,7 +182,7 @@ impl marker::Model for Bounds {
 
     ghost Value = { BoundsValue };
 
-    ghost view = { λ b. record { intervals = b.intervals.items; changed = b.changed } };
+    ghost view = { λ b. record { intervals = b.intervals.items; changed = b.changed; trail = b.trail.items } };
 }
 
 impl Bounds {
@@ -147,25 +190,67 @@ impl Bounds {
     pub fn new(alloc: Global, variables: usize) -> Result<Bounds, AllocError>
         ensures intervals { IfOk result (λ b. b.intervals ≡ replicate variables whole) }
         ensures changed { IfOk result (λ b. (x : ℕ) → has b.changed x ≡ false) }
+        ensures trail { IfOk result (λ b. b.trail ≡ []) }
     {
         Ok(Bounds {
             intervals: vec![in alloc; Interval::whole(); variables]?,
             changed: Variables::NONE,
+            trail: Vec::new(alloc),
         })
     }
 
-    /// Equal bounds, none of which has changed yet.
+    /// Equal bounds, none of which has changed yet, with an empty trail.
     pub fn copy(&self) -> Result<Bounds, AllocError>
         ensures intervals { IfOk result (λ b. b.intervals ≡ self.now.intervals) }
         ensures changed { IfOk result (λ b. (x : ℕ) → has b.changed x ≡ false) }
+        ensures trail { IfOk result (λ b. b.trail ≡ []) }
     {
         let intervals = self.intervals.clone()?;
         let changed = Variables::NONE;
-        Ok(Bounds { intervals, changed })
+        let trail = Vec::new(*intervals.allocator());
+        Ok(Bounds {
+            intervals,
+            changed,
+            trail,
+        })
+    }
+
+    /// Marks the moment: from here on no variable has changed.
+    pub fn mark(&mut self) -> Mark
+        ensures replaced { result.replaced ≡ length self.old.trail }
+        ensures had_changed { result.changed ≡ self.old.changed }
+        ensures changed { (x : ℕ) → has self.new.changed x ≡ false }
+        ensures intervals { self.new.intervals ≡ self.old.intervals }
+        ensures trail { self.new.trail ≡ self.old.trail }
+    {
+        let Bounds { changed, trail, .. } = self;
+        let mark = Mark {
+            replaced: trail.len(),
+            changed: *changed,
+        };
+        *changed = Variables::NONE;
+        mark
+    }
+
+    /// Goes back to the moment of the mark: the intervals are what they were, and the variables
+    /// that had changed are those from then. Earlier marks still lead back to the same intervals.
+    pub fn forget(&mut self, mark: Mark)
+        ensures intervals { self.new.intervals ≡ rewound mark.replaced self.old }
+        ensures trail { self.new.trail ≡ take mark.replaced self.old.trail }
+        ensures changed { self.new.changed ≡ mark.changed }
+        ensures back { LeadsBack self.old self.new }
+    {
+        let Bounds {
+            intervals,
+            changed,
+            trail,
+        } = self;
+        undo(intervals, trail, mark.replaced);
+        *changed = mark.changed;
     }
 
     /// The variables that got a better bound since these bounds were made, as a copy of others or
-    /// anew.
+    /// anew, or since the last mark.
     pub fn changed(&self) -> Variables
         ensures { result ≡ self.now.changed }
     {
@@ -360,16 +445,24 @@ impl Bounds {
         self.get(var, limit.side).row
     }
 
-    // Gives the variable a bound on a side.
-    fn set(&mut self, var: u32, side: Side, bound: Bound)
+    // Gives the variable a bound on a side, and notes the interval from before.
+    fn set(&mut self, var: u32, side: Side, bound: Bound) -> Result<(), AllocError>
         requires { var < length self.old.intervals }
-        ensures intervals { self.new.intervals
-            ≡ slice_set self.old.intervals var (bounded side bound (get_or self.old.intervals var whole)) }
-        ensures changed { (x : ℕ) → has self.new.changed x ≡ (has self.old.changed x || x % 64 == var % 64) }
+        ensures intervals { OnOk result (self.new.intervals
+            ≡ slice_set self.old.intervals var (bounded side bound (get_or self.old.intervals var whole))) }
+        ensures changed { OnOk result ((x : ℕ) → has self.new.changed x ≡ (has self.old.changed x || x % 64 == var % 64)) }
+        ensures trail { OnOk result (self.new.trail
+            ≡ self.old.trail ++ (record { var = var; interval = get_or self.old.intervals var whole }) ∷ []) }
+        ensures kept { OnErr result (self.new ≡ self.old) }
     {
-        let Bounds { intervals, changed } = self;
-        *changed = changed.union(Variables::one(var));
+        let Bounds {
+            intervals,
+            changed,
+            trail,
+        } = self;
         let interval = intervals[var as usize];
+        trail.push(Before { var, interval })?;
+        *changed = changed.union(Variables::one(var));
         intervals[var as usize] = match side {
             Side::Lower => Interval {
                 lower: bound,
@@ -380,29 +473,44 @@ impl Bounds {
                 upper: bound,
             },
         };
+        Ok(())
     }
 
     /// Takes the bound that an inequality of one variable sets, said by this row if there is one.
-    /// Tells the variable if that got a better bound.
-    pub fn take(&mut self, form: &Inequality, row: Option<usize>) -> Option<u32>
+    /// Tells the variable if that got a better bound; none where the bounds say as much already,
+    /// where the inequality is not of one of the variables alone, and where a number leaves `i128`.
+    /// All marks so far still lead back to the same intervals.
+    ///
+    /// # Errors
+    ///
+    /// `AllocError` where an allocation was refused, and then nothing has changed.
+    pub fn take(&mut self, form: &Inequality, row: Option<usize>) -> Result<Option<u32>, AllocError>
         ensures within { (s : List ℤ) → Within self.old.intervals s → Holds form.now s → Within self.new.intervals s }
-        ensures tighter { OnSome result ((s : List ℤ)
-            → Within self.new.intervals s → Within self.old.intervals s × Holds form.now s) }
-        ensures changed { IfSome result (λ v. (x : ℕ)
-            → has self.new.changed x ≡ (has self.old.changed x || x % 64 == v % 64)) }
-        ensures others { IfSome result (λ v. (x : ℕ) (side : Side) → x ≢ v
-            → bound_at self.new.intervals x side ≡ bound_at self.old.intervals x side) }
-        ensures kept { IfNone result (self.new ≡ self.old) }
+        ensures tighter { IfOk result (λ taken. OnSome taken ((s : List ℤ)
+            → Within self.new.intervals s → Within self.old.intervals s × Holds form.now s)) }
+        ensures changed { IfOk result (λ taken. IfSome taken (λ v. (x : ℕ)
+            → has self.new.changed x ≡ (has self.old.changed x || x % 64 == v % 64))) }
+        ensures better { IfOk result (λ taken. IfSome taken (λ v.
+            GetsBetter self.old.intervals self.new.intervals v row)) }
+        ensures others { IfOk result (λ taken. IfSome taken (λ v. (x : ℕ) (side : Side) → x ≢ v
+            → bound_at self.new.intervals x side ≡ bound_at self.old.intervals x side)) }
+        ensures known { IfOk result (λ taken. IfNone taken (IsBoundOf (length self.old.intervals) form.now
+            → (s : List ℤ) → Within self.old.intervals s → Holds form.now s)) }
+        ensures back { LeadsBack self.new self.old }
+        ensures kept { IfOk result (λ taken. IfNone taken (self.new ≡ self.old)) }
+        ensures err { OnErr result (self.new ≡ self.old) }
     {
-        let (var, limit) = limit_of(form)?;
+        let Some((var, limit)) = limit_of(form) else {
+            return Ok(None);
+        };
         if var as usize >= self.intervals.len() {
-            return None;
+            return Ok(None);
         }
         if !self.is_improved_by(var, limit) {
-            return None;
+            return Ok(None);
         }
         let value = limit.value;
-        self.set(var, limit.side, Bound { value, row });
-        Some(var)
+        self.set(var, limit.side, Bound { value, row })?;
+        Ok(Some(var))
     }
 }

@@ -149,9 +149,9 @@ fn put_sum(
     Ok(true)
 }
 
-// The terms of the sum of two multiples; none where a number leaves `i128`.
+// The terms of the sum of two multiples, in place of these; none where a number leaves `i128`.
 fn summed_terms(
-    alloc: Global,
+    mut terms: Vec<Term>,
     first: Scaled,
     second: Scaled,
 ) -> Result<Option<Vec<Term>>, AllocError>
@@ -160,7 +160,8 @@ fn summed_terms(
         +ℤ second.entry.times *ℤ sum_at second.entry.form.now.terms.items s)) }
 {
     let (a, b) = (first.form.terms.as_slice(), second.form.terms.as_slice());
-    let mut terms = Vec::with_capacity(alloc, a.len().saturating_add(b.len()))?;
+    terms.clear();
+    terms.reserve(a.len().saturating_add(b.len()))?;
     if put_sum(&mut terms, first.times, a, second.times, b)? {
         Ok(Some(terms))
     } else {
@@ -297,11 +298,24 @@ impl Inequality {
             → left_side f s ≡ first.entry.times *ℤ left_side first.entry.form.now s
             +ℤ second.entry.times *ℤ left_side second.entry.form.now s)) }
     {
+        Inequality::sum_in(Vec::new(alloc), first, second)
+    }
+
+    /// The sum of two multiples, in the memory of these terms; none where a number leaves `i128`.
+    pub(crate) fn sum_in(
+        room: Vec<Term>,
+        first: Scaled,
+        second: Scaled,
+    ) -> Result<Option<Inequality>, AllocError>
+        ensures { IfOk result (λ found. IfSome found (λ f. (s : List ℤ)
+            → left_side f s ≡ first.entry.times *ℤ left_side first.entry.form.now s
+            +ℤ second.entry.times *ℤ left_side second.entry.form.now s)) }
+    {
         let (a, b) = (first.form.constant, second.form.constant);
         let Some(constant) = mixed(first.times, a, second.times, b) else {
             return Ok(None);
         };
-        match summed_terms(alloc, first, second)? {
+        match summed_terms(room, first, second)? {
             Some(terms) => Ok(Some(Inequality { terms, constant })),
             None => Ok(None),
         }

@@ -9,10 +9,11 @@ mod levels;
 mod marks;
 mod model;
 mod number;
+mod pool;
 mod rows;
 mod variables;
 
-pub use bounds::{Bound, Bounds, HIGHEST, Interval, LOWEST, Limit, Side};
+pub use bounds::{Before, Bound, Bounds, HIGHEST, Interval, LOWEST, Limit, Mark, Side};
 pub use error::{AddError, RowError};
 pub use inequality::{Inequality, Scaled, Term};
 pub use levels::{Levels, Place, TOP};

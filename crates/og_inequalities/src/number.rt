@@ -1,7 +1,8 @@
 //! Arithmetic within `i128`.
 
-ghost use Rattle.std.specs.Prelude.{◌≡◌, ℤ, pos, ◌+ℤ◌, ◌*ℤ◌, ◌≤ℤ◌, ◌<ℤ◌, IfSome, FitsSigned};
+ghost use Rattle.std.specs.Prelude.{◌≡◌, ℤ, pos, ◌+ℤ◌, ◌*ℤ◌, ◌≤ℤ◌, ◌<ℤ◌, IfSome, IfNone, FitsSigned};
 ghost use Rattle.std.specs.Option.{SomeIff};
+ghost use Rattle.og_inequalities.specs.Bounds.{least};
 ghost use mir.Syntax.{w128};
 
 // The greatest common divisor.
@@ -26,31 +27,33 @@ pub fn common(a: i128, b: i128) -> i128 {
 }
 
 // The quotient rounded down, for a divisor above 0.
-fn divided_down(a: i128, divisor: i128) -> Option<i128>
+fn divided_down(a: i128, divisor: i128) -> i128
     requires { pos 0 <ℤ divisor }
-    ensures { IfSome result (λ q. ((q *ℤ divisor) ≤ℤ a) × (a <ℤ (q *ℤ divisor +ℤ divisor))) }
+    ensures { ((result *ℤ divisor) ≤ℤ a) × (a <ℤ (result *ℤ divisor +ℤ divisor)) }
 {
-    a.checked_div_euclid(divisor)
+    a.div_euclid(divisor)
 }
 
 /// The greatest whole number that is not above the quotient, for a divisor above 0; without a
 /// division by 1, the most frequent one.
-pub(crate) fn floor_div(a: i128, divisor: i128) -> Option<i128>
+pub(crate) fn floor_div(a: i128, divisor: i128) -> i128
     requires { pos 0 <ℤ divisor }
-    ensures { IfSome result (λ q. ((q *ℤ divisor) ≤ℤ a) × (a <ℤ (q *ℤ divisor +ℤ divisor))) }
+    ensures { ((result *ℤ divisor) ≤ℤ a) × (a <ℤ (result *ℤ divisor +ℤ divisor)) }
 {
     match divisor {
-        1 => Some(a),
+        1 => a,
         _ => divided_down(a, divisor),
     }
 }
 
-/// The least whole number that is not below the quotient, for a divisor above 0.
+/// The least whole number that is not below the quotient, for a divisor above 0; none for the least
+/// `i128`.
 pub(crate) fn ceil_div(a: i128, divisor: i128) -> Option<i128>
     requires { pos 0 <ℤ divisor }
-    ensures { IfSome result (λ q. (a ≤ℤ (q *ℤ divisor)) × ((q *ℤ divisor) <ℤ (a +ℤ divisor))) }
+    ensures quotient { IfSome result (λ q. (a ≤ℤ (q *ℤ divisor)) × ((q *ℤ divisor) <ℤ (a +ℤ divisor))) }
+    ensures least { IfNone result (a ≡ least) }
 {
-    floor_div(a.checked_neg()?, divisor)?.checked_neg()
+    floor_div(a.checked_neg()?, divisor).checked_neg()
 }
 
 /// The product, where it fits; that of 1 or -1, the most frequent one, without a multiplication.

@@ -12,8 +12,9 @@ use crate::error::{AddError, RowError};
 use crate::inequality::{Inequality, Term};
 use crate::levels::{Levels, Place};
 use crate::model::Model;
+use crate::pool::Pool;
 use std::alloc::{AllocError, Global};
-use std::marker;
+use std::{marker, mem};
 
 /// A multiple of a row.
 #[derive(Clone, Copy)]
@@ -85,6 +86,20 @@ pub struct Rows {
     // What stands for a row that is not there.
     nothing: Inequality,
     budget: u64,
+    // The memory of rows that were forgotten.
+    pool: Pool,
+}
+
+// Takes the rows from a place on away, the last one first, and their memory into the pool.
+fn recycle(rows: &mut Vec<Row>, pool: &mut Pool, from: usize)
+    ensures { rows.new.items ≡ take from rows.old.items }
+{
+    'back: while rows.len() > from {
+        let Some(row) = rows.pop() else {
+            return;
+        };
+        pool.take(row);
+    }
 }
 
 impl marker::Model for Rows {
@@ -109,6 +124,7 @@ impl Rows {
             rows: Vec::new(alloc),
             nothing: Inequality::number(alloc, 0),
             budget,
+            pool: Pool::new(alloc),
         }
     }
 
@@ -125,12 +141,13 @@ impl Rows {
         self.rows.len()
     }
 
-    /// Forgets the rows from this one on.
+    /// Forgets the rows from this one on. Rows that are added later take their memory.
     pub fn forget(&mut self, from: usize)
         ensures rows { self.new.rows ≡ take from self.old.rows }
         ensures budget { self.new.budget ≡ self.old.budget }
     {
-        self.rows.truncate(from);
+        let Rows { rows, pool, .. } = self;
+        recycle(rows, pool, from);
     }
 
     /// What the row was made of, if there is such a row.
@@ -298,22 +315,30 @@ impl Rows {
     ///
     /// `Contradiction` where it is false of all states, with its row; `Budget` and `Memory`. The
     /// earlier rows stay.
-    pub fn add_fact(&mut self, form: Inequality, place: Place) -> Result<Added, AddError>
+    pub fn add_fact(&mut self, form: &Inequality, place: Place) -> Result<Added, AddError>
         ensures extends { Extends self.old.rows self.new.rows }
-        ensures row { IfOk result (λ a. AddsRowOf self.new.rows a (Holds form)) }
+        ensures row { IfOk result (λ a. AddsRowOf self.new.rows a (Holds form.now)) }
         ensures contradiction { IfErr result (ShowsContradiction self.new.rows) }
     {
-        self.add(form, Origin::Given(place))
+        let terms = self.pool.terms(&form.terms)?;
+        let constant = form.constant;
+        self.add(Inequality { terms, constant }, Origin::Given(place))
     }
 
-    // The sum of two multiples of rows; none where a number leaves `i128`.
-    fn sum_of(&self, first: Summand, second: Summand) -> Result<Option<Inequality>, AllocError>
+    // The sum of two multiples of rows, in the memory of these terms; none where a number leaves
+    // `i128`.
+    fn sum_of(
+        &self,
+        room: Vec<Term>,
+        first: Summand,
+        second: Summand,
+    ) -> Result<Option<Inequality>, AllocError>
         ensures { IfOk result (λ found. IfSome found (λ f. (s : List ℤ)
             → left_side f s ≡ weighted self.now.rows (first ∷ second ∷ []) s)) }
     {
         let a = self.form(first.row).times(i128::from(first.times));
         let b = self.form(second.row).times(i128::from(second.times));
-        let Some(form) = Inequality::sum(self.alloc, a, b)? else {
+        let Some(form) = Inequality::sum_in(room, a, b)? else {
             return Ok(None);
         };
         Ok(Some(form))
@@ -332,10 +357,11 @@ impl Rows {
             (λ s. weighted self.old.rows (first ∷ second ∷ []) s ≤ℤ pos 0)) }
         ensures contradiction { IfErr result (ShowsContradiction self.new.rows) }
     {
-        let Some(form) = self.sum_of(first, second)? else {
+        let room = self.pool.room();
+        let Some(form) = self.sum_of(room, first, second)? else {
             return Ok(Added::Nothing);
         };
-        let sum = vec![in self.alloc; first, second]?;
+        let sum = self.pool.sum(&[first, second])?;
         let added = self.add(form, Origin::Sum(sum))?;
         Ok(added)
     }
@@ -383,17 +409,20 @@ impl Rows {
     }
 
     // The sum of these multiples of rows; none where a number leaves `i128`.
-    fn total(&self, sum: &[Summand]) -> Result<Option<Inequality>, AllocError>
-        ensures { IfOk result (λ found. IfSome found (λ f. (s : List ℤ)
-            → left_side f s ≡ weighted self.now.rows sum.now s)) }
+    fn total(&mut self, sum: &[Summand]) -> Result<Option<Inequality>, AllocError>
+        ensures total { IfOk result (λ found. IfSome found (λ f. (s : List ℤ)
+            → left_side f s ≡ weighted self.old.rows sum.now s)) }
+        ensures same { self.new ≡ self.old }
     {
         let mut total = Inequality::number(self.alloc, 0);
         for part in sum {
+            let room = self.pool.room();
             let next = self.form(part.row).times(i128::from(part.times));
-            let Some(more) = Inequality::sum(self.alloc, total.times(1), next)? else {
+            let Some(more) = Inequality::sum_in(room, total.times(1), next)? else {
                 return Ok(None);
             };
-            total = more;
+            let spent = mem::replace(&mut total, more);
+            self.pool.take_terms(spent.terms);
         }
         Ok(Some(total))
     }
@@ -427,8 +456,10 @@ impl Rows {
         ensures contradiction { IfErr result (ShowsContradiction self.new.rows) }
     {
         let terms = self.form(row).terms.clone()?;
-        let mut sum = vec![in self.alloc; Summand { times: 1, row }]?;
-        if self.put_bounds(&mut sum, &terms, but, bounds)? {
+        let mut sum = self.pool.sum(&[Summand { times: 1, row }])?;
+        let fits = self.put_bounds(&mut sum, &terms, but, bounds)?;
+        self.pool.take_terms(terms);
+        if fits {
             self.add_total(sum)
         } else {
             Ok(Added::Nothing)
@@ -450,8 +481,9 @@ impl Rows {
         ensures extends { Extends self.old.rows self.new.rows }
         ensures contradiction { IfErr result (ShowsContradiction self.new.rows) }
     {
+        let room = self.pool.room();
         let (a, b) = (self.form(first).times(1), self.form(second).times(1));
-        let Some(form) = Inequality::sum(self.alloc, a, b)? else {
+        let Some(form) = Inequality::sum_in(room, a, b)? else {
             return Ok(Added::Nothing);
         };
         let one = Summand {
@@ -462,8 +494,10 @@ impl Rows {
             times: 1,
             row: second,
         };
-        let mut sum = vec![in self.alloc; one, other]?;
-        if self.put_bounds(&mut sum, &form.terms, None, bounds)? {
+        let mut sum = self.pool.sum(&[one, other])?;
+        let fits = self.put_bounds(&mut sum, &form.terms, None, bounds)?;
+        self.pool.take_terms(form.terms);
+        if fits {
             self.add_total(sum)
         } else {
             Ok(Added::Nothing)

@@ -130,8 +130,7 @@ fn closing(
 
 // Adds the inequality of a clash at this place, and the sum that shows it.
 fn meet(rows: &mut Rows, bounds: &Bounds, clash: Clash, place: Place) -> Result<(), AddError> {
-    let form = clash.atom.form.copy()?;
-    if let Added::Row(row) = rows.add_fact(form, place)? {
+    if let Added::Row(row) = rows.add_fact(&clash.atom.form, place)? {
         match clash.against {
             Against::Fact(_) | Against::Bounds => rows.add_with_bounds(row, None, bounds)?,
             Against::Row(other) => rows.add_pair(other, row, bounds)?,

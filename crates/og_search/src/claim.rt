@@ -1,6 +1,6 @@
 //! What a search claims.
 
-use crate::known::Known;
+use crate::known::KnownRows;
 use crate::rests::Rests;
 use crate::search::Search;
 use crate::stop::{Halt, Stop};
@@ -26,7 +26,7 @@ pub enum Claim {
 #[derive(Drop)]
 pub struct Ground {
     variables: u32,
-    known: Known,
+    known: KnownRows,
     bounds: Bounds,
 }
 
@@ -83,7 +83,7 @@ impl Ground {
 }
 
 /// Begins a search among facts over so many variables, within the budget, with the inequalities of
-/// the part: most often they need no choice to be at odds.
+/// the part: often they need no choice to be at odds.
 ///
 /// # Errors
 ///
@@ -91,7 +91,7 @@ impl Ground {
 pub fn begin(alloc: Global, part: &Part, variables: u32, budget: u64) -> Result<Start, AllocError> {
     let mut ground = Ground {
         variables,
-        known: Known::new(alloc, budget, part.count)?,
+        known: KnownRows::new(alloc, budget, part.count)?,
         bounds: Bounds::new(alloc, variables as usize)?,
     };
     let taken = ground.take(part);

@@ -8,7 +8,7 @@ use std::alloc::{AllocError, Global};
 
 /// The rows of a search.
 #[derive(Drop)]
-pub(crate) struct Known {
+pub(crate) struct KnownRows {
     pub(crate) rows: Rows,
     // The rows of the facts on the path.
     pub(crate) base: Vec<usize>,
@@ -24,10 +24,14 @@ pub(crate) struct Extent {
     index: usize,
 }
 
-impl Known {
+impl KnownRows {
     /// Nothing, within the budget, where so many facts are expected.
-    pub(crate) fn new(alloc: Global, budget: u64, expected: usize) -> Result<Known, AllocError> {
-        Ok(Known {
+    pub(crate) fn new(
+        alloc: Global,
+        budget: u64,
+        expected: usize,
+    ) -> Result<KnownRows, AllocError> {
+        Ok(KnownRows {
             rows: Rows::new(alloc, budget),
             base: Vec::new(alloc),
             index: Index::new(alloc, expected)?,
@@ -52,7 +56,7 @@ impl Known {
     /// Adds a fact as a row.
     pub(crate) fn take_atom(
         &mut self,
-        form: Inequality,
+        form: &Inequality,
         place: Place,
         bounds: &mut Bounds,
     ) -> Result<(), Halt> {
@@ -90,7 +94,7 @@ impl Known {
         for atom in &part.atoms {
             if !self.is_known(atom, bounds) {
                 let index = atom.index;
-                self.take_atom(atom.form.copy()?, Place { level, index }, bounds)?;
+                self.take_atom(&atom.form, Place { level, index }, bounds)?;
                 taken = taken.saturating_add(1);
             }
         }

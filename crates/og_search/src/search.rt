@@ -1,6 +1,6 @@
 //! The search: it takes in facts, closes or picks a choice, and goes into each part.
 
-use crate::known::Known;
+use crate::known::KnownRows;
 use crate::rests::Rests;
 use crate::steps::{Decision, Entry, Parts};
 use crate::stop::{Halt, Stop};
@@ -45,7 +45,7 @@ const MOST: u64 = 3_600_000;
 pub(crate) struct Search<'a> {
     alloc: Global,
     variables: u32,
-    known: Known,
+    known: KnownRows,
     // The choices on the path.
     open: Vec<Open<'a>>,
     // Their marks.
@@ -96,7 +96,7 @@ impl<'a> Search<'a> {
         facts: &'a Part,
         rests: &'a Rests,
         variables: u32,
-        known: Known,
+        known: KnownRows,
     ) -> Result<Search<'a>, AllocError> {
         Ok(Search {
             alloc,
@@ -248,7 +248,7 @@ impl<'a> Search<'a> {
         match entry {
             Entry::Side(form) => self
                 .known
-                .take_atom(form, Place { level, index: 0 }, bounds),
+                .take_atom(&form, Place { level, index: 0 }, bounds),
             Entry::Part(part) => {
                 let choices = self.take_choices(part, level)?;
                 let atoms = self.known.take_atoms(part, level, bounds)?;
@@ -570,7 +570,12 @@ impl<'a> Search<'a> {
     // Refutes a part: by a choice of the condition or at once, of which that goes first which is
     // mostly shorter, or by a level of its own.
     #[cycle(search)]
-    fn refute_part(&mut self, part: &'a Part, level: u32, bounds: &Bounds) -> Result<Proof, Stop> {
+    fn refute_part(
+        &mut self,
+        part: &'a Part,
+        level: u32,
+        bounds: &mut Bounds,
+    ) -> Result<Proof, Stop> {
         let reach = Reach::of_level(level.saturating_add(1));
         let is_plain = part.choices.is_empty();
         if !is_plain {
@@ -591,12 +596,19 @@ impl<'a> Search<'a> {
 
     // Searches at a level, and leaves the path as it was.
     #[cycle(search)]
-    fn at_level(&mut self, level: u32, entry: Entry<'a>, bounds: &Bounds) -> Result<Proof, Stop> {
+    fn at_level(
+        &mut self,
+        level: u32,
+        entry: Entry<'a>,
+        bounds: &mut Bounds,
+    ) -> Result<Proof, Stop> {
         let (known, open, marks) = (self.known.extent(), self.open.len(), self.marks.len());
         let (narrowed, unrefuted, unforced) = (self.narrowed, self.unrefuted, self.unforced);
-        let mut own = bounds.copy()?;
-        let decided = self.begin(entry, level, bounds.changed(), &mut own);
-        let proof = self.refute(level, decided, &own)?;
+        let late = bounds.changed();
+        let mark = bounds.mark();
+        let decided = self.begin(entry, level, late, bounds);
+        let proof = self.refute(level, decided, bounds)?;
+        bounds.forget(mark);
         self.narrowed = narrowed;
         self.unrefuted = unrefuted;
         self.unforced = unforced;
@@ -612,7 +624,7 @@ impl<'a> Search<'a> {
         &mut self,
         level: u32,
         decided: Result<Decision, Halt>,
-        bounds: &Bounds,
+        bounds: &mut Bounds,
     ) -> Result<Proof, Stop> {
         let decision = match decided {
             Ok(decision) => decision,
@@ -641,7 +653,7 @@ impl<'a> Search<'a> {
 
     // Goes into the parts of a choice, or first into the sides of the forms that were met there.
     #[cycle(search)]
-    fn split_at(&mut self, below: u32, i: usize, bounds: &Bounds) -> Result<Proof, Stop> {
+    fn split_at(&mut self, below: u32, i: usize, bounds: &mut Bounds) -> Result<Proof, Stop> {
         match self.split(below, i, bounds)? {
             Parts::Refuted(proof) => Ok(proof),
             Parts::Lifted(forms) => {
@@ -677,7 +689,7 @@ impl<'a> Search<'a> {
 
     // Goes into the parts of a choice. A refutation that needs no fact of its part stands for all.
     #[cycle(search)]
-    fn split(&mut self, below: u32, i: usize, bounds: &Bounds) -> Result<Parts, Stop> {
+    fn split(&mut self, below: u32, i: usize, bounds: &mut Bounds) -> Result<Parts, Stop> {
         let choice = self.set_taken(i, true).ok_or(Stop::Stuck)?;
         let is_first = choice.is_sharing() && !self.is_shared;
         if is_first {
@@ -709,7 +721,7 @@ impl<'a> Search<'a> {
         below: u32,
         form: Inequality,
         next: Option<usize>,
-        bounds: &Bounds,
+        bounds: &mut Bounds,
     ) -> Result<Proof, Stop> {
         let other = form.otherwise(self.alloc)?.ok_or(Stop::Stuck)?;
         let trunk = self.trunk;

@@ -1,4 +1,4 @@
-use Rattle.std.proofs.Common.{◌≡◌, ◌<◌, length, refl, rules, arith}
+use Rattle.std.proofs.Common.{refl, arith}
 use Rattle.std.proofs.lemmas.List.{ext_get_or}
 use Rattle.og_inequalities.proofs.Merges.{no_term}
 use Rattle.og_inequalities.proofs.inequality.are_same.Goals as goal

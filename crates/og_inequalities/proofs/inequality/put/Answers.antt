@@ -1,6 +1,4 @@
-use Rattle.std.proofs.Common.{◌≡◌, ℤ, List, FitsSigned, rules, arith, ap, ◌∙◌}
-use mir.Syntax.{w128}
-use Rattle.std.proofs.lemmas.Int.{to_z-of_z}
+use Rattle.std.proofs.Common.{ap, ◌∙◌}
 use Rattle.og_inequalities.specs.Inequality.{sum_at}
 use Rattle.og_inequalities.proofs.Sums.{sum_at-push}
 use Rattle.og_inequalities.proofs.inequality.put.Goals as goal

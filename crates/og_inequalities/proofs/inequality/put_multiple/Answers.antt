@@ -1,4 +1,4 @@
-use Rattle.std.proofs.Common.{◌≡◌, ℤ, ◌+ℤ◌, List, FitsSigned, rules, arith, ap, ◌∙◌}
+use Rattle.std.proofs.Common.{◌+ℤ◌, FitsSigned, rules, ap, ◌∙◌}
 use mir.Syntax.{w128}
 use Rattle.std.proofs.lemmas.Int.{to_z-of_z}
 use Rattle.og_inequalities.specs.Inequality.{sum_at}

@@ -1,7 +1,6 @@
-use Rattle.std.proofs.Common.{◌≡◌, ℤ, ◌+ℤ◌, ◌*ℤ◌, ◌<◌, length, drop, arith, rules, to_z, of_z, FitsSigned}
+use Rattle.std.proofs.Common.{◌<◌, length, arith, to_z, of_z, FitsSigned}
 use mir.Syntax.{w128}
 use Rattle.std.proofs.lemmas.Int.{to_z-of_z}
-use Rattle.og_inequalities.specs.Inequality.{sum_at}
 use Rattle.og_inequalities.proofs.Merges.{take_first, take_second, take_both, take_rest, rest_of}
 use Rattle.og_inequalities.proofs.inequality.put_sum.Goals as goal
 

@@ -1,3 +1,4 @@
+use Rattle.std.proofs.Common.{rules, FitsSigned}
 use mir.Syntax.{w128}
 use Rattle.std.proofs.lemmas.Int.{to_z-of_z}
 use Rattle.og_inequalities.proofs.Quotients.{floor_of}
@@ -5,5 +6,5 @@ use Rattle.og_inequalities.proofs.number.divided_down.Goals as goal
 
 pub returns : goal.returns
 returns c =
-    floor_of c.checked_div_euclid.result _ c.args.a c.args.divisor _ _ (to_z-of_z w128 c.args.a c.ranges.a) (to_z-of_z w128 c.args.divisor c.ranges.divisor) c.requires
-    c.checked_div_euclid.ensures
+    let q_fits : FitsSigned w128 c.div_euclid.result = search rules in
+    simp to_z-of_z (floor_of c.div_euclid.result c.args.a c.args.divisor _ _ (to_z-of_z w128 c.args.a c.ranges.a) (to_z-of_z w128 c.args.divisor c.ranges.divisor) c.requires c.div_euclid.ensures)

@@ -1,4 +1,4 @@
-use Rattle.std.proofs.Common.{◌≡◌, ℤ, List, rules, arith, FitsSigned, pos, ap, sym, ◌∙◌}
+use Rattle.std.proofs.Common.{rules, arith, FitsSigned, ap, sym, ◌∙◌}
 use mir.Syntax.{w128}
 use Rattle.std.proofs.lemmas.Int.{ints, to_z-of_z}
 use Rattle.og_inequalities.specs.Inequality.{sum_at}
@@ -10,7 +10,7 @@ returns-in-Some-2 c = λ s.
     let d_fits : FitsSigned w128 c.args.divisor = c.ranges.divisor in
     let q_fits : FitsSigned w128 c.in-Some.constant = search rules in
     let r_fits : FitsSigned w128 c.args.self.now.constant = search rules in
-    let e = simp to_z-of_z at c.in-Some.ensures in
+    let e = simp to_z-of_z at c.in-Some.ensures.quotient in
     let f = rw c.in-Some-2.is at c.in_ok-terms.ensures in
     let g = simp to_z-of_z at (f s) in
     simp to_z-of_z

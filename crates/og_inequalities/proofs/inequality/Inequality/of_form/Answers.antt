@@ -1,4 +1,4 @@
-use Rattle.std.proofs.Common.{◌≡◌, ℤ, FitsSigned, rules, sym, ◌∙◌}
+use Rattle.std.proofs.Common.{FitsSigned, rules, sym, ◌∙◌}
 use mir.Syntax.{w128}
 use Rattle.std.proofs.lemmas.Int.{to_z-of_z}
 use Rattle.og_inequalities.proofs.Forms.{form_turn, form_end}

@@ -1,4 +1,4 @@
-use Rattle.std.proofs.Common.{◌≡◌, ◌<◌, length, below_more, get_or, subst, sym, arith, rules}
+use Rattle.std.proofs.Common.{◌<◌, below_more, get_or, subst, sym, arith}
 use Rattle.std.specs.Prelude.{slice_get}
 use Rattle.std.proofs.lemmas.Grind.{get_or_default_zero}
 use Rattle.og_inequalities.specs.Rows.{HoldsAt}

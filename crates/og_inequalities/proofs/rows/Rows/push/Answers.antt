@@ -1,4 +1,4 @@
-use Rattle.std.proofs.Common.{◌≡◌, ◌++◌, ◌∷◌, [], List, length, rules, arith, subst, sym, ap, ◌∙◌}
+use Rattle.std.proofs.Common.{◌≡◌, ◌++◌, ◌∷◌, [], length, rules, subst, sym, ap, ◌∙◌}
 use Rattle.og_inequalities.specs.declared.rows.Row.{Row}
 use Rattle.og_inequalities.specs.Inequality.{Holds}
 use Rattle.og_inequalities.specs.Rows.{AllFollow, Extends, IsRowOf}

@@ -1,4 +1,4 @@
-use Rattle.std.proofs.Common.{◌≡◌, ℤ, pos, ◌+ℤ◌, ◌*ℤ◌, rules, ap₂, ◌∙◌, FitsSigned}
+use Rattle.std.proofs.Common.{◌+ℤ◌, ◌*ℤ◌, rules, ap₂, ◌∙◌, FitsSigned}
 use mir.Syntax.{w128}
 use Rattle.std.proofs.lemmas.Int.{to_z-of_z}
 use Rattle.og_inequalities.specs.Inequality.{left_side}

@@ -4,4 +4,7 @@ use Rattle.og_inequalities.specs.Rows.{weighted}
 use Rattle.og_inequalities.proofs.rows.Rows.total.Given as goal
 
 abbrev pub invariant-loop-part : goal.invariant-loop-part
-invariant-loop-part l = (s : List ℤ) → left_side l.total s +ℤ weighted l.self.rows (drop l.part-index l.sum) s ≡ weighted l.self.rows l.sum s
+invariant-loop-part l = record {
+  same : l.self ≡ l.fn.self;
+  sum : (s : List ℤ) → left_side l.total s +ℤ weighted l.fn.self.rows (drop l.part-index l.sum) s ≡ weighted l.fn.self.rows l.sum s;
+}

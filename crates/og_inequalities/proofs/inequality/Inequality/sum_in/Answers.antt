@@ -1,9 +1,9 @@
-use Rattle.std.proofs.Common.{◌≡◌, ℤ, List, FitsSigned, rules, arith}
+use Rattle.std.proofs.Common.{FitsSigned, rules}
 use mir.Syntax.{w128}
 use Rattle.std.proofs.lemmas.Int.{to_z-of_z}
 use Rattle.og_inequalities.specs.Inequality.{sum_at}
 use Rattle.og_inequalities.proofs.Sums.{sum_parts}
-use Rattle.og_inequalities.proofs.inequality.Inequality.sum.Goals as goal
+use Rattle.og_inequalities.proofs.inequality.Inequality.sum_in.Goals as goal
 
 pub returns-in-Some-2 : goal.returns-in-Some-2
 returns-in-Some-2 c = λ s.
