@@ -1,6 +1,6 @@
 //! Reading assertions.
 
-ghost use Rattle.std.specs.Prelude.{◌<◌, ◌≤◌, length, OnOk};
+ghost use Rattle.std.specs.Prelude.{◌≡◌, ◌<◌, ◌≤◌, length, true, OnOk};
 
 use crate::binders::binder;
 use crate::cursor::Cursor;
@@ -24,23 +24,41 @@ fn has_quantifier(left: &Disjunction) -> bool {
     false
 }
 
+// Whether the sum is one term without a sign of its own.
+fn is_one_term(sum: &Sum) -> bool
+    ensures { result ≡ true → length sum.now.terms.items ≡ 1 }
+{
+    match sum.terms.as_slice() {
+        [term] => term.sign == Sign::Plus && term.span.start == sum.span.start,
+        _ => false,
+    }
+}
+
+// The use of a named assertion that a factor is.
+fn use_in(alloc: Global, factor: Factor) -> Option<Unit> {
+    match factor {
+        Factor::Name(name) => Some(Unit::Use(name, Vec::new(alloc))),
+        Factor::Use(name, arguments) => Some(Unit::Use(name, arguments)),
+        other => {
+            drop(other);
+            None
+        }
+    }
+}
+
 // The use of a named assertion that a sum without a relation is, if it is one factor without a sign.
-fn use_of(mut sum: Sum) -> Option<Unit> {
-    if sum.terms.len() != 1 {
+fn use_of(alloc: Global, sum: Sum) -> Option<Unit> {
+    if !is_one_term(&sum) {
+        drop(sum);
         return None;
     }
-    let term = sum.terms.remove(0);
-    if term.span.start != sum.span.start {
-        return None;
-    }
-    match (term.sign, term.kind) {
-        (Sign::Plus, TermKind::Factor(Factor::Name(name))) => {
-            Some(Unit::Use(name, Vec::new(*sum.terms.allocator())))
+    let mut terms = sum.terms;
+    match terms.remove(0).kind {
+        TermKind::Factor(factor) => use_in(alloc, factor),
+        other => {
+            drop(other);
+            None
         }
-        (Sign::Plus, TermKind::Factor(Factor::Use(name, arguments))) => {
-            Some(Unit::Use(name, arguments))
-        }
-        _ => None,
     }
 }
 
@@ -51,7 +69,7 @@ fn comparison(alloc: Global, depth: u32, cursor: &mut Cursor) -> Result<Unit, Re
     let left = sum(alloc, depth, cursor)?;
     match cursor.relation() {
         Some(relation) => Ok(Unit::Compare(left, relation, sum(alloc, depth, cursor)?)),
-        None => match use_of(left) {
+        None => match use_of(alloc, left) {
             Some(unit) => Ok(unit),
             None => Err(Refusal::Fault(FaultKind::Expected)),
         },
