@@ -1,5 +1,5 @@
-//! Worked examples of programs that run: a source text goes in, and what boards, arenas and runs
-//! answer is compared with values that were worked out by hand.
+//! Worked examples of workers and of runs: what several threads find, check and do, also while gates
+//! hold them.
 //!
 //! There is nothing to run here but the tests.
 #![tactic(auto)]
@@ -9,16 +9,20 @@ mod acts;
 #[cfg(test)]
 mod answered;
 #[cfg(test)]
-mod boards;
+mod checks;
+#[cfg(test)]
+mod claims;
+#[cfg(test)]
+mod finder;
 #[cfg(test)]
 mod gates;
+#[cfg(test)]
+mod histories;
+#[cfg(test)]
+mod made;
 #[cfg(test)]
 mod proved;
 #[cfg(test)]
 mod runs;
 #[cfg(test)]
 mod sources;
-#[cfg(test)]
-mod states;
-#[cfg(test)]
-mod texts;

@@ -1,11 +1,10 @@
-//! Acts of seats.
+//! Turns of boards, and acts of seats.
 
 ghost use Rattle.std.specs.Prelude.{◌≡◌, []};
 
-use crate::sources::{ONE_OVERFLOWS, ONE_WAITS};
-use crate::states::state_of;
+use crate::sources::{ONE_OVERFLOWS, ONE_WAITS, state_of};
 use og_run::{Arena, ArenaName, Blank, Board, RunTurn, Seat};
-use og_samples::outline_of;
+use og_samples::{TWO_ADD, WITH_MAIN, outline_of};
 use og_typed::Outline;
 use std::alloc::{AllocError, Global};
 use std::marker::Brand;
@@ -28,6 +27,22 @@ struct Row<'a> {
     values: &'a [i64],
     // Seats, by the numbers of their processes, with their deeds.
     deeds: &'a [(u32, Deed)],
+    // What a board comes to by the same turns.
+    history: &'a [u32],
+    halted: Option<u32>,
+    is_finished: bool,
+}
+
+// A board answers each turn alike.
+fn expect_turns<R: Abort>(rt: &R, board: &mut Board<'_>, row: &Row<'_>) {
+    for (process, deed) in row.deeds {
+        if let Deed::Acts(turn, _, _) = deed {
+            assert!(rt; board.step(*process) == *turn);
+        }
+    }
+    assert!(rt; board.history() == row.history);
+    assert!(rt; board.halted() == row.halted);
+    assert!(rt; board.moment().is_finished() == row.is_finished);
 }
 
 fn expect_deed<K: ArenaName, R: Wait + Abort>(
@@ -91,17 +106,21 @@ fn expect_board<R: Wait + Abort>(
     Ok(expect_arena::<Brand, _>(rt, alloc, blank, board, row.deeds)?)
 }
 
-fn expect_row<R: Wait + Abort>(rt: &R, alloc: Global, row: &Row<'_>) -> Result<(), Fail> {
-    let outline = outline_of(alloc, row.source)?;
-    let told = expect_board(rt, alloc, &outline, row);
-    drop(outline);
-    told
+fn expect_both<R: Wait + Abort>(
+    rt: &R,
+    alloc: Global,
+    outline: &Outline,
+    row: &Row<'_>,
+) -> Result<(), Fail> {
+    let mut board = Board::begin(alloc, outline, state_of(alloc, row.values)?, 10)?;
+    expect_turns(rt, &mut board, row);
+    drop(board);
+    expect_board(rt, alloc, outline, row)
 }
 
-// A guard is judged at the newest history, and a wait ends once that is longer.
-#[test]
-fn acts_in_turn(rt: HostRuntime) -> Result<(), Fail> {
-    let row = Row {
+const ROWS: &[Row] = &[
+    // A guard is judged at the newest history, and a wait ends once that is longer.
+    Row {
         source: ONE_WAITS,
         values: &[0],
         deeds: &[
@@ -111,14 +130,13 @@ fn acts_in_turn(rt: HostRuntime) -> Result<(), Fail> {
             (0, Deed::Acts(RunTurn::Done, 1, 2)),
             (1, Deed::Waits),
         ],
-    };
-    expect_row(&rt, rt.alloc(), &row)
-}
-
-// A halt is told to every seat, and ends a wait.
-#[test]
-fn acts_after_an_overflow(rt: HostRuntime) -> Result<(), Fail> {
-    let row = Row {
+        history: &[1, 0],
+        halted: None,
+        is_finished: true,
+    },
+    // The first overflow is noted, and after it every turn is one. A halt is told to every seat, and
+    // ends a wait.
+    Row {
         source: ONE_OVERFLOWS,
         values: &[i64::MAX],
         deeds: &[
@@ -127,6 +145,48 @@ fn acts_after_an_overflow(rt: HostRuntime) -> Result<(), Fail> {
             (0, Deed::Waits),
             (0, Deed::Acts(RunTurn::Overflow, 0, 0)),
         ],
-    };
-    expect_row(&rt, rt.alloc(), &row)
+        history: &[],
+        halted: Some(1),
+        is_finished: false,
+    },
+    Row {
+        source: TWO_ADD,
+        values: &[0],
+        deeds: &[
+            (1, Deed::Acts(RunTurn::Moved, 1, 1)),
+            (0, Deed::Acts(RunTurn::Moved, 1, 2)),
+            (0, Deed::Acts(RunTurn::Done, 1, 2)),
+        ],
+        history: &[1, 0],
+        halted: None,
+        is_finished: true,
+    },
+    // The main process has the number after the last, and each waits for its part to begin.
+    Row {
+        source: WITH_MAIN,
+        values: &[7],
+        deeds: &[
+            (0, Deed::Acts(RunTurn::Early, 0, 0)),
+            (1, Deed::Acts(RunTurn::Moved, 1, 1)),
+            (1, Deed::Acts(RunTurn::Early, 1, 1)),
+            (0, Deed::Acts(RunTurn::Moved, 1, 2)),
+            (0, Deed::Acts(RunTurn::Done, 1, 2)),
+            (1, Deed::Acts(RunTurn::Moved, 2, 3)),
+            (1, Deed::Acts(RunTurn::Done, 2, 3)),
+        ],
+        history: &[1, 0, 1],
+        halted: None,
+        is_finished: true,
+    },
+];
+
+#[test]
+fn acts_in_turn(rt: HostRuntime) -> Result<(), Fail> {
+    for row in ROWS {
+        let outline = outline_of(rt.alloc(), row.source)?;
+        let told = expect_both(&rt, rt.alloc(), &outline, row);
+        drop(outline);
+        told?;
+    }
+    Ok(())
 }

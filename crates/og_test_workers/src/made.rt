@@ -1,21 +1,6 @@
-//! Source texts, and texts that are made of many equal parts.
+//! Source texts that are made of many equal parts.
 
 use std::alloc::{AllocError, Global};
-
-pub(crate) const NOT_EVEN: &str =
-    "var x, y;\n{2*x = 2*y + 1}\ncobegin\n{false} skip {false}\ncoend\n{false}\n";
-
-// What is even is not odd, with numbers that are as large as a search uses them.
-pub(crate) const LARGE: &str =
-    "var x, y;\n{2147483646*x = 2147483646*y + 1073741823}\ncobegin\n{true}\nawait true then begin x := 2147483648*x; y := 2147483646*y end\n{2147483648*x <> 2147483646*y + 1}\n//\n{false} skip {false}\ncoend\n{true}\n";
-
-// A condition that has no facts at all: it is false.
-pub(crate) const NO_FACTS: &str = "{false}\ncobegin\n{true} skip {false}\ncoend\n{false}\n";
-
-// Conditions 3 and 4 have facts that differ only in a sign: their second one is -x - 4 <= 0 in the
-// one and x - 4 <= 0 in the other.
-pub(crate) const TURNED: &str =
-    "var x;\n{x <= 5 and x <= 4 and x >= -4}\ncobegin\n{x <= 5 and x >= -4} skip {x <= 5}\n//\n{x <= 5 and x <= 4} skip {x <= 5}\ncoend\n{x <= 5}\n";
 
 // A process that multiplies x so often by 2^31.
 pub(crate) fn multiplied(alloc: Global, times: usize) -> Result<String, AllocError> {

@@ -1,0 +1,78 @@
+//! What is printed of runs whose gates say which process goes first.
+
+use crate::gates::Holds;
+use og_limits::RunLimit;
+use og_run::Gate;
+use og_running::{Ran, Reply, ran, ran_proved};
+use og_samples::{TOLD_ADD, TWO_ADD, TWO_ADD_CERTS};
+use std::alloc::Global;
+use std::process::Abort;
+use std::sync::Wait;
+use std::test::Fail;
+use std::thread::Threads;
+
+#[derive(Clone, Copy)]
+enum Way {
+    Plain,
+    // Of the outline that certificates prove.
+    Proved,
+    // Without its auxiliaries.
+    Erased,
+}
+
+// A reply is this text, of a run that finished.
+fn expect_answer<R: Abort>(rt: &R, reply: Reply<'_>, text: &str) {
+    match reply {
+        Reply::Told(Ran { answer, note: _ }) => {
+            assert!(rt;
+                answer.text.as_slice() == text.as_bytes() && answer.status == 0,
+                "{text}"
+            );
+        }
+        Reply::BadValue(word) => panic!(rt; "bad value: {word}"),
+        Reply::NotMade(_) => panic!(rt; "{text}"),
+    }
+}
+
+// A run under a gate is told so.
+fn expect_run<G: Gate, R: Threads + Wait + Sync + Abort>(
+    rt: &R,
+    alloc: Global,
+    way: Way,
+    gate: &G,
+    text: &str,
+) -> Result<(), Fail> {
+    let limit = RunLimit::new(10).expect(rt, "within its limit");
+    let (two, told) = (TWO_ADD.as_bytes(), TOLD_ADD.as_bytes());
+    let certs = TWO_ADD_CERTS.as_bytes();
+    let reply = match way {
+        Way::Plain => ran(rt, alloc, two, &["x=0"], limit, false, gate)?,
+        Way::Proved => ran_proved(rt, alloc, two, certs, &["x=0"], limit, gate)?,
+        Way::Erased => ran(rt, alloc, told, &[], limit, true, gate)?,
+    };
+    expect_answer(rt, reply, text);
+    Ok(())
+}
+
+const FIRST: &str = "history: 1 2\noutcome: finished\nstate: x = 3\n";
+
+const SECOND: &str = "history: 2 1\noutcome: finished\nstate: x = 3\n";
+
+const ERASED: &str = "history: 2 1\noutcome: finished\nstate: x = 2\n";
+
+// Either process goes first, as the caller's gate says.
+#[test]
+fn runs_ask_their_gate(rt: HostRuntime) -> Result<(), Fail> {
+    for (way, held, first, text) in [
+        (Way::Plain, 1, 2, SECOND),
+        (Way::Plain, 2, 1, FIRST),
+        (Way::Proved, 1, 2, SECOND),
+        (Way::Proved, 2, 1, FIRST),
+        (Way::Erased, 1, 2, ERASED),
+    ] {
+        let gate = Holds::new(held, Some(first), 1);
+        expect_run(&rt, rt.alloc(), way, &gate, text)?;
+        assert!(rt; !gate.has_missed());
+    }
+    Ok(())
+}

@@ -1,0 +1,136 @@
+//! Workers that draw conditions and check them, also while a gate holds one of them.
+
+ghost use Rattle.std.specs.Prelude.{◌<◌, ◌≤◌, length};
+
+use crate::claims::{Claim, expect};
+use crate::gates::{Counts, Holds};
+use og_cert_text::CertFile;
+use og_cond::Condition;
+use og_draws::Draws;
+use og_engine::{Options, checked};
+use og_limits::Workers;
+use og_pool::check_all;
+use og_samples::{TWO_ADD, TWO_ADD_CERTS, alike};
+use std::alloc::Global;
+use std::process::Abort;
+use std::sync::Wait;
+use std::test::Fail;
+use std::thread::Threads;
+
+#[test]
+fn two_drawers_in_turn(rt: HostRuntime) -> Result<(), Fail> {
+    let (draws, mut one) = Draws::new(rt.alloc(), 2, 2)?;
+    let mut other = draws.split(&mut one);
+    let drawn = [
+        draws.draw(&mut one),
+        draws.draw(&mut other),
+        draws.draw(&mut one),
+        draws.draw(&mut other),
+    ];
+    assert!(rt; drawn == [Some(1), Some(2), None, None]);
+    assert!(rt; draws.draw(&mut one).is_none());
+    draws.join(&mut one, other);
+    draws.close(one);
+    Ok(())
+}
+
+fn expect_each_once_by<R: Threads + Wait + Sync + Abort>(
+    rt: &R,
+    alloc: Global,
+    list: &[Condition],
+    workers: u32,
+) -> Result<(), Fail>
+    requires workers { (0 < workers) × (workers ≤ 64) }
+    requires few { length list.now ≤ 999999999 }
+{
+    let counts = Counts::new(alloc, list.len() + 1)?;
+    check_all(rt, alloc, list, &CertFile::new(alloc), workers, &counts)?;
+    for number in 1..list.len() + 1 {
+        assert!(rt;
+            counts.of(number) == (1, 1),
+            "{number} by {workers} workers"
+        );
+    }
+    assert!(rt; counts.of(0) == (0, 0) && counts.others() == 0);
+    Ok(())
+}
+
+pub(crate) fn expect_each_once<R: Threads + Wait + Sync + Abort>(
+    rt: &R,
+    alloc: Global,
+    list: &[Condition],
+) -> Result<(), Fail>
+    requires few { length list.now ≤ 999999999 }
+{
+    assert_eq!(rt; list.len(), 4938);
+    for workers in [1, 2, 64] {
+        expect_each_once_by(rt, alloc, list, workers)?;
+    }
+    Ok(())
+}
+
+#[test]
+fn gates_are_told_once_of_each(rt: HostRuntime) -> Result<(), Fail> {
+    let source = alike(rt.alloc(), 2, 38, 7)?;
+    expect(&rt, rt.alloc(), source.as_str(), &Claim::EachOnce)
+}
+
+// Condition 1 is held until another one is done.
+pub(crate) fn expect_no_hold<R: Threads + Wait + Sync + Abort>(
+    rt: &R,
+    alloc: Global,
+    list: &[Condition],
+) -> Result<(), Fail>
+    requires few { length list.now ≤ 999999999 }
+{
+    for other in [2, 3] {
+        let gate = Holds::new(1, Some(other), 1);
+        check_all(rt, alloc, list, &CertFile::new(alloc), 2, &gate)?;
+        assert!(rt; !gate.has_missed(), "until {other}");
+    }
+    Ok(())
+}
+
+// Two workers really run at once, and the one that is not held draws on.
+#[test]
+fn a_worker_draws_on(rt: HostRuntime) -> Result<(), Fail> {
+    let source = alike(rt.alloc(), 2, 38, 7)?;
+    expect(&rt, rt.alloc(), source.as_str(), &Claim::NoHold)
+}
+
+const REPORT: &[u8] = b"conditions: 12\nproved: 12\nsafe: yes\nunblocked: yes\n";
+
+// A check by so many workers answers as ever, with one of its conditions held until all others are
+// done.
+fn expect_report<R: Threads + Wait + Sync + Abort>(
+    rt: &R,
+    alloc: Global,
+    count: u32,
+    held: u32,
+) -> Result<(), Fail> {
+    let gate = Holds::new(held, None, 11);
+    let options = Options {
+        workers: Workers::new(count).expect(rt, "from 1 to 64"),
+        json: false,
+    };
+    let (source, certs) = (TWO_ADD.as_bytes(), TWO_ADD_CERTS.as_bytes());
+    let answer = checked(rt, alloc, source, certs, options, &gate)?;
+    assert!(rt;
+        answer.text.as_slice() == REPORT,
+        "{count} workers, condition {held}"
+    );
+    assert!(rt; !gate.has_missed(), "{count} workers, condition {held}");
+    Ok(())
+}
+
+// Each condition is held in turn, so each worker at each place where it may stand, and the others do
+// all that is left.
+#[test]
+fn each_condition_is_held(rt: HostRuntime) -> Result<(), Fail> {
+    for held in 1..13 {
+        expect_report(&rt, rt.alloc(), 2, held)?;
+        expect_report(&rt, rt.alloc(), 3, held)?;
+        expect_report(&rt, rt.alloc(), 64, held)?;
+    }
+    Ok(())
+}
