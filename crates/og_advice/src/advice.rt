@@ -88,39 +88,3 @@ pub fn advise(
     put_hint(&mut text, line_of(hint))?;
     Ok(text)
 }
-
-#[cfg(test)]
-mod tests {
-    use super::*;
-    use og_source::{Source, SourceError};
-    use std::test::Fail;
-
-    // What is told of a source that is refused.
-    fn told(alloc: Global, source: &[u8]) -> Result<Vec<u8>, Fail> {
-        let names = Names {
-            source: "a.og",
-            certs: "a.cert",
-        };
-        match Source::read(alloc, source) {
-            Ok(source) => {
-                drop(source);
-                Ok(Vec::new(alloc))
-            }
-            Err(SourceError::Memory) => Err(AllocError.into()),
-            Err(SourceError::Fault(fault)) => {
-                Ok(advise(alloc, names, &InputFault::Source(fault), source)?)
-            }
-        }
-    }
-
-    #[test]
-    fn assignment(rt: HostRuntime) -> Result<(), Fail> {
-        let source =
-            b"var x;\n{x = 0}\ncobegin\n  {x = 0}\n  x = x + 1\n  {x = 1}\ncoend\n{x = 1}\n";
-        let text = told(rt.alloc(), source.as_slice())?;
-        let wanted =
-            b"a.og:5:5: refused: 7 Expected\n  x = x + 1\n    ^ found '=', expected ':='\nhelp: an assignment is written 'x := 1'\n";
-        assert_eq!(rt; text.as_slice(), wanted.as_slice());
-        Ok(())
-    }
-}

@@ -1,0 +1,56 @@
+//! Checks and searches by so many workers.
+
+use og_engine::{Answer, FindReply, Options, checked, found};
+use og_find::Missing;
+use og_limits::{Budget, CertVersion, Workers};
+use og_pool::{Gate, OpenGate};
+use std::alloc::Global;
+use std::sync::Wait;
+use std::test::Fail;
+use std::thread::Threads;
+
+/// The answer of a check.
+pub(crate) fn checked_by<G: Gate, R: Threads + Wait + Sync>(
+    rt: &R,
+    alloc: Global,
+    source: &str,
+    certs: &[u8],
+    workers: u32,
+    gate: &G,
+) -> Result<Answer, Fail> {
+    let options = Options {
+        workers: Workers::new(workers).ok_or("no number of workers")?,
+        json: false,
+    };
+    Ok(checked(rt, alloc, source.as_bytes(), certs, options, gate)?)
+}
+
+/// What a search finds.
+pub(crate) fn found_by<R: Threads + Wait + Sync>(
+    rt: &R,
+    alloc: Global,
+    source: &str,
+    workers: u32,
+    version: CertVersion,
+) -> Result<FindReply, Fail> {
+    let budget = Budget::new(100_000).ok_or("no budget")?;
+    let workers = Workers::new(workers).ok_or("no number of workers")?;
+    let source = source.as_bytes();
+    Ok(found(rt, alloc, source, budget, workers, version, &OpenGate)?)
+}
+
+/// A text of certificates that a search found, its status, and how many conditions have none.
+pub(crate) fn certs_by<R: Threads + Wait + Sync>(
+    rt: &R,
+    alloc: Global,
+    source: &str,
+    workers: u32,
+    version: CertVersion,
+) -> Result<(Vec<u8>, u8, Missing), Fail> {
+    let FindReply::Found(found) = found_by(rt, alloc, source, workers, version)? else {
+        return Err(Fail::new("the source is refused"));
+    };
+    let mut text = Vec::new(alloc);
+    let status = found.write(alloc, &mut text).or(Err("not written"))?;
+    Ok((text, status, found.missing))
+}

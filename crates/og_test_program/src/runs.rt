@@ -1,0 +1,51 @@
+//! Runs of sources.
+
+use og_limits::RunLimit;
+use og_pool::{OpenGate, PoolFault};
+use og_running::{Ran, Reply, ran, ran_by_schedule, ran_proved};
+use og_samples::{TWO_ADD, TWO_ADD_CERTS};
+use std::alloc::Global;
+use std::sync::Wait;
+use std::thread::Threads;
+
+// How a run of `TWO_ADD` from x = 0 ends.
+const END: &[u8] = b"\noutcome: finished\nstate: x = 3\n";
+
+// Its two histories; the second is that of the schedule.
+const HISTORIES: [&[u8]; 2] = [b"history: 1 2", b"history: 2 1"];
+
+// Whether a reply is a run with one of these histories.
+fn is_ended(reply: &Reply<'_>, histories: &[&[u8]]) -> bool {
+    let Reply::Told(Ran { answer, note: None }) = reply else {
+        return false;
+    };
+    let history = answer.text.strip_suffix(END).unwrap_or_default();
+    answer.status == 0 && histories.iter().any(|known| *known == history)
+}
+
+pub(crate) fn is_run<R: Threads + Wait + Sync>(rt: &R, alloc: Global) -> Result<bool, PoolFault> {
+    let Some(limit) = RunLimit::new(10) else {
+        return Ok(false);
+    };
+    let source = TWO_ADD.as_bytes();
+    let reply = ran(rt, alloc, source, &["x=0"], limit, false, &OpenGate)?;
+    Ok(is_ended(&reply, &HISTORIES))
+}
+
+pub(crate) fn is_proved_run<R: Threads + Wait + Sync>(
+    rt: &R,
+    alloc: Global,
+) -> Result<bool, PoolFault> {
+    let Some(limit) = RunLimit::new(10) else {
+        return Ok(false);
+    };
+    let (source, certs) = (TWO_ADD.as_bytes(), TWO_ADD_CERTS.as_bytes());
+    let reply = ran_proved(rt, alloc, source, certs, &["x=0"], limit, &OpenGate)?;
+    Ok(is_ended(&reply, &HISTORIES))
+}
+
+pub(crate) fn is_run_by_schedule(alloc: Global) -> Result<bool, PoolFault> {
+    let source = TWO_ADD.as_bytes();
+    let reply = ran_by_schedule(alloc, source, &["x=0"], "2,1", false)?;
+    Ok(is_ended(&reply, &HISTORIES[1..]))
+}
