@@ -5,11 +5,11 @@ use Rattle.std.specs.Fmt.{decimal}
 use Rattle.og_source.specs.Refused.{IsSourceFault}
 use Rattle.og_source.specs.Faults.{number_of_source, name_of_source, place_of_source}
 use Rattle.og_cert_text.specs.Faults.{text_fault_number, text_fault_name, text_fault_line}
-use Rattle.og_answer.specs.declared.fault.InputFault.{InputFault}
-use Rattle.og_answer.specs.declared.fault.InputFault.TheVariants as faults
-use Rattle.og_answer.specs.Faults.{place_of_input}
-use Rattle.og_answer.specs.Line.{opening_text}
-use Rattle.og_listing.specs.Places.{◌&◌, position_of, position_text}
+use Rattle.og_report_text.specs.declared.fault.InputFault.{InputFault}
+use Rattle.og_report_text.specs.declared.fault.InputFault.TheVariants as faults
+use Rattle.og_report_text.specs.Faults.{place_of_input}
+use Rattle.og_report_text.specs.Line.{opening_text}
+use Rattle.og_report_text.specs.Places.{◌&◌, position_of, position_text}
 use Rattle.og_advice.specs.Quotes.{quote_text}
 use Rattle.og_advice.specs.Reasons.{IsReason}
 

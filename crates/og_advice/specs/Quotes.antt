@@ -2,7 +2,7 @@
 use Rattle.std.specs.Prelude.{ℕ, ◌+◌, ◌-◌, nat_le, nat_lt, Bool, ◌&&◌, ◌==◌, not, List, length, take, drop, map, if◌then◌else◌, codes}
 use Rattle.std.specs.List.{prefix_len, suffix_len}
 use Rattle.og_text.specs.Place.{is_line_end}
-use Rattle.og_listing.specs.Places.{◌&◌}
+use Rattle.og_report_text.specs.Places.{◌&◌}
 
 -- space to tilde
 abbrev pub is_printable : ℕ → Bool

@@ -14,10 +14,10 @@ use Rattle.og_typed.specs.declared.fault.TypeFault.TheVariants as names
 use Rattle.og_cert_text.specs.declared.fault.CertTextFault.{CertTextFault}
 use Rattle.og_cert_text.specs.declared.fault.CertTextFault.TheVariants as certs
 use Rattle.og_source.specs.declared.fault.SourceFault.TheVariants as sources
-use Rattle.og_answer.specs.declared.fault.InputFault.{InputFault}
-use Rattle.og_answer.specs.declared.fault.InputFault.TheVariants as faults
+use Rattle.og_report_text.specs.declared.fault.InputFault.{InputFault}
+use Rattle.og_report_text.specs.declared.fault.InputFault.TheVariants as faults
 use Rattle.og_expected.specs.Expected.{IsWhole, GoesOn, AreThose, all_kinds}
-use Rattle.og_listing.specs.Places.{◌&◌, position_of, position_text}
+use Rattle.og_report_text.specs.Places.{◌&◌, position_of, position_text}
 use Rattle.og_advice.specs.Quotes.{is_printable}
 use Rattle.og_advice.specs.Words.{words_of, listed}
 

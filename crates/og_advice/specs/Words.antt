@@ -3,7 +3,7 @@ use Rattle.std.specs.Prelude.{ℕ, List, [], ◌∷◌, ◌++◌, map, Bool, tru
 use Rattle.og_text.specs.Lexemes.{text_of}
 use Rattle.og_text.specs.declared.token.TokenKind.{TokenKind}
 use Rattle.og_text.specs.declared.token.TokenKind.TheVariants as kinds
-use Rattle.og_listing.specs.Places.{◌&◌}
+use Rattle.og_report_text.specs.Places.{◌&◌}
 
 -- a keyword or a symbol in quotes; a name and a number stand for all of them
 abbrev pub word_of : TokenKind → List ℕ

@@ -1,14 +1,14 @@
 //! What is told of a refusal on standard error.
 
 ghost use Rattle.std.specs.Prelude.{◌≡◌, ◌++◌, OnOk, IfOk, IfSome, IsTrue, option_map};
-ghost use Rattle.og_answer.specs.Faults.{place_of_input};
+ghost use Rattle.og_report_text.specs.Faults.{place_of_input};
 ghost use Rattle.og_advice.specs.Advice.{IsKnown, is_one_line, front_text, hint_text, IsAdvice};
 
 use crate::head::put_head;
 use crate::hint::Hint;
 use crate::quotes::put_quote;
 use crate::reasons::reason;
-use og_answer::InputFault;
+use og_report_text::InputFault;
 use std::alloc::{AllocError, Global};
 
 /// How a source and its certificates are named.

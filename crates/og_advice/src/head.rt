@@ -1,12 +1,11 @@
 //! The first line of advice: where a refusal stands, and which it is.
 
 ghost use Rattle.std.specs.Prelude.{◌≡◌, ◌≤◌, ◌^◌, ◌++◌, OnOk, IsSome, length};
-ghost use Rattle.og_answer.specs.Faults.{place_of_input};
+ghost use Rattle.og_report_text.specs.Faults.{place_of_input};
 ghost use Rattle.og_advice.specs.Advice.{place_text, line_text, refusal_text, head_text};
 
 use crate::advice::Names;
-use og_answer::{InputFault, put_opening};
-use og_listing::{Position, put_number, put_position};
+use og_report_text::{InputFault, Position, put_number, put_opening, put_position};
 use og_text::line_col;
 use std::alloc::AllocError;
 

@@ -2,9 +2,9 @@
 
 ghost use Rattle.std.specs.Prelude.{◌≡◌, ◌≤◌, ◌^◌, ◌++◌, IfOk, OnOk, position, length, codes};
 ghost use Rattle.std.specs.Fmt.{decimal};
-ghost use Rattle.og_listing.specs.Places.{◌&◌, position_of, position_text};
+ghost use Rattle.og_report_text.specs.Places.{◌&◌, position_of, position_text};
 ghost use Rattle.og_source.specs.Refused.{IsSourceFault};
-ghost use Rattle.og_answer.specs.declared.fault.InputFault.TheVariants as faults;
+ghost use Rattle.og_report_text.specs.declared.fault.InputFault.TheVariants as faults;
 ghost use Rattle.og_source.specs.declared.fault.SourceFault.TheVariants as sources;
 ghost use Rattle.og_advice.specs.Advice.{IsKnown};
 ghost use Rattle.og_advice.specs.Reasons.{wrong_text, certs_text, is_word, first_start, start_from, HasTokens, declared_text, IsDeclaredText, IsReason};
@@ -14,10 +14,9 @@ use crate::bytes::{put_bad_byte, rest_of, word_at};
 use crate::choosing::{byte_hint, expected_hint};
 use crate::expected::{expected_reason, tokens_from, tokens_of};
 use crate::hint::Hint;
-use og_answer::InputFault;
 use og_cert_text::CertTextFault;
-use og_listing::{Position, put_number, put_position};
 use og_parse::ParseFault;
+use og_report_text::{InputFault, Position, put_number, put_position};
 use og_source::SourceFault;
 use og_text::{LexFault, Token, line_col};
 use og_typed::TypeFault;

@@ -7,22 +7,23 @@ use Rattle.og_cond.specs.Condition.{Condition}
 use Rattle.og_cond.specs.Conditions.{conditions, safety_conditions, blocking_condition}
 use Rattle.og_cond.specs.Limits.{condition_limit}
 use Rattle.og_theorem.specs.Proved.{IsProved}
-use Rattle.og_answer.specs.Told.{Says}
-use Rattle.og_answer.specs.declared.answer.Answer.{Answer}
+use Rattle.og_report_text.specs.Told.{Says}
+use Rattle.og_report_text.specs.declared.answer.Answer.{Answer}
 use Rattle.og_engine.specs.Proving.{told_in, told_status, IsToldText, IsToldOf}
 use Rattle.og_find.specs.Found.{IsVerdict}
 use Rattle.og_find.specs.declared.verdict.Verdict.{Verdict}
 use Rattle.og_finder.specs.Findings.{AreVerdicts, verdict_of}
 use Rattle.og_finder.specs.declared.findings.Findings.{Findings}
 use Rattle.og_report.specs.Report.{answer_text}
-use Rattle.og_report.specs.Yes.{EndsWith}
-use Rattle.og_report.proofs.Yes.{ends_with, ends_after, text_answers}
-use Rattle.og_prove.specs.Report.{is_proved, is_false, is_open, is_safe, is_unblocked, number_line, yes_line, told_lines, report_text}
-use Rattle.og_prove.specs.Together.{keys_of, mores}
-use Rattle.og_prove.specs.Told.{AreTold}
-use Rattle.og_origins.specs.Origins.{Rows}
-use Rattle.og_prove.specs.declared.telling.Told.{Told}
-use Rattle.og_prove.proofs.Answered.{safe_is_valid, unblocked_is_valid}
+use Rattle.og_json.specs.Yes.{EndsWith}
+use Rattle.og_json.proofs.Ends.{ends_with, ends_after}
+use Rattle.og_report.proofs.Yes.{text_answers}
+use Rattle.og_report_prove.specs.Report.{is_proved, is_false, is_open, is_safe, is_unblocked, number_line, yes_line, told_lines, report_text}
+use Rattle.og_report_prove.specs.Together.{keys_of, mores}
+use Rattle.og_report_prove.specs.Told.{AreTold}
+use Rattle.og_report_text.specs.Origins.{Rows}
+use Rattle.og_report_prove.specs.declared.telling.Told.{Told}
+use Rattle.og_report_prove.proofs.Answered.{safe_is_valid, unblocked_is_valid}
 
 pub proved_by : (o : Program) (cs : List Condition) (ts : List Told) → cs ≡ conditions o → AreTold o cs ts → is_safe ts ≡ true → IsProved o (is_unblocked ts)
 proved_by o cs ts is told safe =

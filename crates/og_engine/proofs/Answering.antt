@@ -7,10 +7,10 @@ use Rattle.og_cond.specs.Conditions.{conditions}
 use Rattle.og_cond.specs.Limits.{condition_limit}
 use Rattle.og_cond.specs.declared.fault.TooMany.{TooMany}
 use Rattle.og_source.specs.Source.{IsSource}
-use Rattle.og_answer.specs.Told.{Says, IsTold, IsUnread}
-use Rattle.og_answer.specs.declared.answer.Answer.{Answer}
-use Rattle.og_answer.specs.declared.fault.InputFault.{InputFault}
-use Rattle.og_answer.specs.declared.fault.InputFault.TheVariants as faults
+use Rattle.og_report_text.specs.Told.{Says, IsTold, IsUnread}
+use Rattle.og_report_text.specs.declared.answer.Answer.{Answer}
+use Rattle.og_report_text.specs.declared.fault.InputFault.{InputFault}
+use Rattle.og_report_text.specs.declared.fault.InputFault.TheVariants as faults
 use Rattle.og_judge.specs.declared.entry.Entry.{Entry}
 use Rattle.og_judge.specs.Answered.{IsAnswered}
 use Rattle.og_judge.specs.NotJudged.{IsNotJudged}
@@ -20,11 +20,11 @@ use Rattle.og_judge.specs.declared.refusal.Refusal.TheVariants as refusal
 use Rattle.og_judge.proofs.Answering.{refusal_status}
 use Rattle.og_judge.specs.Proven.{IsProvenSource}
 use Rattle.og_judge.specs.NeverStuck.{IsNeverStuckSource}
-use Rattle.og_report.specs.Yes.{SaysUnblocked}
+use Rattle.og_json.specs.Yes.{SaysUnblocked}
 use Rattle.og_pool.specs.declared.fault.PoolFault.{PoolFault}
 use Rattle.og_engine.specs.Answers.{report_in, status_of, IsOutput, IsChecked}
 use Rattle.og_engine.specs.Written.{Writes}
-use Rattle.og_engine.specs.Commands.{HasTooMany}
+use Rattle.og_report_text.specs.Told.{HasTooMany}
 use Rattle.og_engine.specs.Making.{HasCertificates, IsFoundOf, IsFound}
 use Rattle.og_engine.specs.declared.making.FindReply.{FindReply}
 use Rattle.og_engine.specs.declared.making.FindReply.TheVariants as replies

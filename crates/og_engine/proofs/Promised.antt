@@ -6,8 +6,8 @@ use Rattle.og_typed.specs.Syntax.{Program}
 use Rattle.og_source.specs.Source.{IsSource}
 use Rattle.og_judge.specs.Proven.{IsProvenSource}
 use Rattle.og_judge.specs.NeverStuck.{IsNeverStuckSource}
-use Rattle.og_report.specs.Yes.{SaysUnblocked}
-use Rattle.og_answer.specs.declared.answer.Answer.{Answer}
+use Rattle.og_json.specs.Yes.{SaysUnblocked}
+use Rattle.og_report_text.specs.declared.answer.Answer.{Answer}
 use Rattle.og_engine.specs.Warrants.{Warrants}
 use Rattle.og_engine.specs.Promised.{Promises}
 use Rattle.og_engine.specs.Wrote.{Wrote}

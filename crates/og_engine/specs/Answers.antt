@@ -6,9 +6,9 @@ use Rattle.og_judge.specs.Entries.{is_safe}
 use Rattle.og_judge.specs.Report.{IsReport, IsRefused}
 use Rattle.og_report.specs.Report.{report_text}
 use Rattle.og_report.specs.Json.{json_text}
-use Rattle.og_answer.specs.Line.{refused_line}
-use Rattle.og_answer.specs.declared.answer.Answer.{Answer}
-use Rattle.og_answer.specs.declared.fault.InputFault.{InputFault}
+use Rattle.og_report_text.specs.Line.{refused_line}
+use Rattle.og_report_text.specs.declared.answer.Answer.{Answer}
+use Rattle.og_report_text.specs.declared.fault.InputFault.{InputFault}
 
 -- JSON with an LF, or text
 abbrev pub report_in : Bool → List ℕ → List Entry → List ℕ

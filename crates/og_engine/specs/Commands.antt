@@ -1,23 +1,14 @@
 -- What is printed for the outline of a source, and the status.
-use Rattle.std.specs.Prelude.{◌<◌, ◌⊎◌, ℕ, Bool, true, false, List, length}
+use Rattle.std.specs.Prelude.{◌⊎◌, ℕ, Bool, true, false, List}
 use Rattle.og_typed.specs.Syntax.{Program}
 use Rattle.og_typed.specs.Erase.{erased}
 use Rattle.og_erase.specs.Collected.{raw_of}
 use Rattle.og_print.specs.Print.{program_text}
-use Rattle.og_cond.specs.Conditions.{conditions}
-use Rattle.og_cond.specs.Limits.{condition_limit}
-use Rattle.og_cond.specs.declared.fault.TooMany.{TooMany}
 use Rattle.og_parse.specs.Trees.{Outline}
 use Rattle.og_readable.specs.Readable.{readable}
 use Rattle.og_source.specs.Source.{IsSource}
-use Rattle.og_answer.specs.Told.{Says, IsTold, IsUnread}
-use Rattle.og_answer.specs.declared.answer.Answer.{Answer}
-use Rattle.og_answer.specs.declared.fault.InputFault.TheVariants as faults
-
--- there are too many conditions, and this is the line that says so
-abbrev pub HasTooMany : Program → List ℕ → Answer → Type 0
-HasTooMany o source answer =
-    (condition_limit < length (conditions o)) × ((fault : TooMany) × IsTold source (faults.Conditions fault) answer)
+use Rattle.og_report_text.specs.Told.{Says, IsUnread}
+use Rattle.og_report_text.specs.declared.answer.Answer.{Answer}
 
 -- the tree of the program without its auxiliaries, with readable relations or collected ones
 abbrev pub erased_tree : Bool → Program → Outline

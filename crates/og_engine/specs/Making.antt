@@ -12,11 +12,11 @@ use Rattle.og_cert_read.specs.Shared.{shared_text}
 use Rattle.og_find.specs.Found.{AreOf}
 use Rattle.og_find.specs.Missing.{missing_up_to}
 use Rattle.og_source.specs.Source.{IsSource}
-use Rattle.og_answer.specs.Told.{IsTold, IsUnread}
-use Rattle.og_answer.specs.declared.answer.Answer.{Answer}
-use Rattle.og_answer.specs.declared.fault.InputFault.TheVariants as faults
+use Rattle.og_report_text.specs.Told.{IsTold, IsUnread}
+use Rattle.og_report_text.specs.declared.answer.Answer.{Answer}
+use Rattle.og_report_text.specs.declared.fault.InputFault.TheVariants as faults
 use Rattle.og_judge.specs.Migrated.{IsMigration, HasSameAnswers}
-use Rattle.og_engine.specs.Commands.{HasTooMany}
+use Rattle.og_report_text.specs.Told.{HasTooMany}
 use Rattle.og_engine.specs.declared.making.CertificateText.{CertificateText}
 use Rattle.og_engine.specs.declared.making.CertificateText.TheVariants as texts
 use Rattle.og_engine.specs.declared.making.FindReply.{FindReply}

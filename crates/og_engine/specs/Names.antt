@@ -1,7 +1,7 @@
 -- The number and the name of a fault.
 use Rattle.std.specs.Prelude.{ℕ, List, Option, Some, None, codes}
-use Rattle.og_input.specs.declared.reading.ReadFault.{ReadFault}
-use Rattle.og_input.specs.declared.reading.ReadFault.TheVariants as read
+use Rattle.og_io.specs.declared.reading.ReadFault.{ReadFault}
+use Rattle.og_io.specs.declared.reading.ReadFault.TheVariants as read
 use Rattle.og_pool.specs.declared.fault.PoolFault.{PoolFault}
 use Rattle.og_pool.specs.declared.fault.PoolFault.TheVariants as pool
 use Rattle.og_engine.specs.declared.fault.EngineFault.{EngineFault}

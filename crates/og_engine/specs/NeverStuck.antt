@@ -1,6 +1,6 @@
 -- The source that an input begins with never gets stuck.
 use Rattle.std.specs.Prelude.{ℕ, List}
-use Rattle.og_input.specs.Joined.{IsSplit}
+use Rattle.og_io.specs.Joined.{IsSplit}
 use Rattle.og_judge.specs.NeverStuck.{IsNeverStuckSource}
 
 abbrev pub HasNeverStuckSource : List ℕ → Type 0

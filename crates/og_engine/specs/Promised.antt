@@ -4,8 +4,8 @@ use Rattle.og_typed.specs.Syntax.{Program}
 use Rattle.og_typed.specs.Erase.{erased}
 use Rattle.og_theorem.specs.Sound.{IsSound, IsSoundErased}
 use Rattle.og_theorem.specs.NeverStuck.{IsNeverStuck}
-use Rattle.og_report.specs.Yes.{SaysUnblocked}
-use Rattle.og_answer.specs.declared.answer.Answer.{Answer}
+use Rattle.og_json.specs.Yes.{SaysUnblocked}
+use Rattle.og_report_text.specs.declared.answer.Answer.{Answer}
 
 -- by status 0, and by a text that says that the outline is unblocked
 abbrev pub Promises : Bool → Program → Answer → Type 0

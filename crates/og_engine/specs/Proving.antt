@@ -5,14 +5,14 @@ use Rattle.og_cond.specs.Condition.{Condition}
 use Rattle.og_cond.specs.Conditions.{conditions}
 use Rattle.og_cond.specs.Limits.{condition_limit}
 use Rattle.og_source.specs.Source.{IsSource}
-use Rattle.og_prove.specs.Report.{report_text, is_safe}
-use Rattle.og_prove.specs.Told.{AreTold}
-use Rattle.og_prove.specs.declared.telling.Told.{Told}
-use Rattle.og_prove_json.specs.Json.{json_text}
-use Rattle.og_origins.specs.Origins.{Rows}
-use Rattle.og_answer.specs.Told.{Says, IsUnread}
-use Rattle.og_answer.specs.declared.answer.Answer.{Answer}
-use Rattle.og_engine.specs.Commands.{HasTooMany}
+use Rattle.og_report_prove.specs.Report.{report_text, is_safe}
+use Rattle.og_report_prove.specs.Told.{AreTold}
+use Rattle.og_report_prove.specs.declared.telling.Told.{Told}
+use Rattle.og_report_prove.specs.Json.{json_text}
+use Rattle.og_report_text.specs.Origins.{Rows}
+use Rattle.og_report_text.specs.Told.{Says, IsUnread}
+use Rattle.og_report_text.specs.declared.answer.Answer.{Answer}
+use Rattle.og_report_text.specs.Told.{HasTooMany}
 
 -- JSON with an LF, with places of the outline's text; or a text, with places of a source, which is the same or a template with rows
 abbrev pub told_in : Bool → List (List ℕ) → List ℕ → List ℕ → Rows → List Condition → List Told → List ℕ

@@ -1,7 +1,7 @@
 -- What a failed write leaves of a check.
 use Rattle.std.specs.Prelude.{ℕ, Bool, List, Option}
-use Rattle.og_input.specs.Joined.{IsSplit}
-use Rattle.og_output.specs.Written.{AppendsFront}
+use Rattle.og_io.specs.Joined.{IsSplit}
+use Rattle.og_io.specs.Written.{AppendsFront}
 use Rattle.og_engine.specs.Answers.{IsOutput}
 use Rattle.og_engine.specs.Warrants.{Warrants}
 

@@ -1,7 +1,7 @@
 -- What a writer gets of a check.
 use Rattle.std.specs.Prelude.{ℕ, Bool, List, Option}
 use Rattle.std.specs.Io.KnownBytes.{Appends}
-use Rattle.og_input.specs.Joined.{IsSplit}
+use Rattle.og_io.specs.Joined.{IsSplit}
 use Rattle.og_engine.specs.Answers.{IsOutput}
 use Rattle.og_engine.specs.Warrants.{Warrants}
 

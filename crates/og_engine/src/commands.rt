@@ -5,14 +5,14 @@ ghost use Rattle.og_parse.specs.TreeOf.{tree_of};
 ghost use Rattle.og_readable.specs.Readable.{readable};
 ghost use Rattle.og_erase.specs.Collected.{raw_of};
 ghost use Rattle.og_print.specs.Print.{program_text};
-ghost use Rattle.og_answer.specs.Told.{Says};
+ghost use Rattle.og_report_text.specs.Told.{Says};
 ghost use Rattle.og_engine.specs.Commands.{erased_tree, IsErased};
 
-use og_answer::Answer;
 use og_erase::{Program, erase};
 use og_parse::Raw;
 use og_print::print_program;
 use og_readable::print_readable;
+use og_report_text::Answer;
 use og_source::Source;
 use og_typed::Outline;
 use std::alloc::{AllocError, Global};

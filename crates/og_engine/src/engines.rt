@@ -10,14 +10,13 @@ ghost use Rattle.og_engine.specs.Wrote.{Wrote};
 ghost use Rattle.og_engine.specs.Unfinished.{WritesFront, WritesJoinedFront};
 ghost use Rattle.og_judge.specs.Proven.{IsProvenSource};
 ghost use Rattle.og_judge.specs.NeverStuck.{IsNeverStuckSource};
-ghost use Rattle.og_report.specs.Yes.{SaysUnblocked};
+ghost use Rattle.og_json.specs.Yes.{SaysUnblocked};
 
 use crate::answer::checked;
 use crate::fault::EngineFault;
 use crate::inputs::{read_certificates, read_joined, read_source};
 use crate::writing::write_answer;
-use og_input::split;
-use og_limits::Workers;
+use og_io::{Workers, split};
 use og_pool::Gate;
 use std::alloc::Global;
 use std::io::{Read, Write};

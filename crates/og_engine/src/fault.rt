@@ -4,8 +4,7 @@ ghost use Rattle.std.specs.Prelude.{◌≡◌};
 ghost use Rattle.og_engine.specs.Names.{number_of_fault, name_of_fault, of_read, of_pool};
 ghost use Rattle.og_engine.specs.declared.fault.EngineFault.TheVariants.{Memory, WriteFailed};
 
-use og_input::ReadFault;
-use og_output::WriteFault;
+use og_io::{ReadFault, WriteFault};
 use og_pool::PoolFault;
 use std::alloc::{AllocError, AllocFailed};
 use thiserror::Error;

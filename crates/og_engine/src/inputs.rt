@@ -4,7 +4,7 @@ ghost use Rattle.std.specs.Prelude.{◌≡◌, IfOk, IfSome};
 ghost use Rattle.std.specs.Io.KnownBytes.{Consumes};
 ghost use Rattle.og_engine.specs.Inputs.{source_of, certs_of, joined_of};
 
-use og_input::{ReadFault, read_up_to};
+use og_io::{ReadFault, read_up_to};
 use std::alloc::Global;
 use std::io::Read;
 

@@ -16,6 +16,6 @@ pub use engines::{Options, engine, engine_joined};
 pub use fault::EngineFault;
 pub use inputs::{read_certificates, read_joined, read_source};
 pub use making::{CertificateText, FindReply, FoundCertificates, found, migrated};
-pub use og_answer::Answer;
+pub use og_report_text::Answer;
 pub use proving::{Search, Texts, proved, proved_outline, tell_all, told_by};
 pub use writing::write_answer;

@@ -2,10 +2,10 @@
 
 ghost use Rattle.std.specs.Prelude.{◌≡◌, OnOk, IfOk, IfErr};
 ghost use Rattle.std.specs.Io.KnownBytes.{Appends};
-ghost use Rattle.og_output.specs.Written.{AppendsFront};
+ghost use Rattle.og_io.specs.Written.{AppendsFront};
 
-use og_answer::Answer;
-use og_output::{WriteFault, write_whole};
+use og_io::{WriteFault, write_whole};
+use og_report_text::Answer;
 use std::io::Write;
 
 /// Writes the answer's text and tells its status.

@@ -9,10 +9,10 @@ use Rattle.og_print.specs.Print.{outline_text}
 use Rattle.og_typed.specs.Syntax.{Program}
 use Rattle.og_source.specs.Source.{IsSource}
 use Rattle.og_source.specs.declared.fault.SourceFault.TheVariants as sources
-use Rattle.og_answer.specs.declared.fault.InputFault.TheVariants as inputs
-use Rattle.og_answer.specs.declared.answer.Answer.{Answer}
-use Rattle.og_answer.specs.Line.{opening_text, place_text, refused_line}
-use Rattle.og_answer.specs.Told.{Says, IsUnread}
+use Rattle.og_report_text.specs.declared.fault.InputFault.TheVariants as inputs
+use Rattle.og_report_text.specs.declared.answer.Answer.{Answer}
+use Rattle.og_report_text.specs.Line.{opening_text, place_text, refused_line}
+use Rattle.og_report_text.specs.Told.{Says, IsUnread}
 use Rattle.og_template.specs.Faults.{number_of_kind, name_of_kind}
 use Rattle.og_template_words.specs.Front.{is_template}
 use Rattle.og_expander.specs.Faults.{number_of_fault, name_of_fault}

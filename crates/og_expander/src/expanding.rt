@@ -2,15 +2,14 @@
 
 ghost use Rattle.std.specs.Prelude.{◌≤◌, ◌^◌, [], length, map, IfOk, if◌then◌else◌};
 ghost use Rattle.og_template_words.specs.Front.{is_template};
-ghost use Rattle.og_answer.specs.Told.{Says};
+ghost use Rattle.og_report_text.specs.Told.{Says};
 ghost use Rattle.og_expander.specs.Expanded.{HasOutline, IsExpansion, IsOutlineText, IsPrinted, IsTold, IsOfOutline, IsOfTemplate, IsReply};
 
 use crate::fault::{ExpandError, ExpandFault, Refusal};
 use crate::line::fault_line;
 use crate::rows::rows_text;
 use crate::template::of_text;
-use og_answer::Answer;
-use og_origins::Rows;
+use og_report_text::{Answer, Rows};
 use og_source::Source;
 use og_template_words::is_template;
 use og_text::{LexFault, SOURCE_LIMIT};

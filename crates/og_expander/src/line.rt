@@ -1,13 +1,12 @@
 //! The line of a refusal.
 
 ghost use Rattle.std.specs.Prelude.{◌≡◌, ◌++◌, ◌≤◌, ◌^◌, length, IfOk, OnOk};
-ghost use Rattle.og_listing.specs.Places.{position_of, position_text};
-ghost use Rattle.og_answer.specs.Line.{opening_text};
+ghost use Rattle.og_report_text.specs.Places.{position_of, position_text};
+ghost use Rattle.og_report_text.specs.Line.{opening_text};
 ghost use Rattle.og_expander.specs.Expanded.{fault_line, placed_line, unplaced_line};
 
 use crate::fault::ExpandFault;
-use og_answer::{InputFault, put_opening, refused_line};
-use og_listing::{Position, put_position};
+use og_report_text::{InputFault, Position, put_opening, put_position, refused_line};
 use og_source::SourceFault;
 use og_text::line_col;
 use std::alloc::{AllocError, Global};

@@ -9,8 +9,8 @@ use crate::fault::ExpandError;
 use crate::places::parts;
 use crate::rows::rows;
 use og_expand::Expanded;
-use og_origins::Rows;
 use og_print::print_outline;
+use og_report_text::Rows;
 use og_typed::{Outline, resolve};
 use std::alloc::Global;
 

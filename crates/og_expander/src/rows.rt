@@ -4,8 +4,7 @@ ghost use Rattle.std.specs.Prelude.{◌≤◌, ◌^◌, length};
 
 use crate::places::Part;
 use og_expand::{Binding, Origin};
-use og_listing::{Places, put_position};
-use og_origins::{Row, Rows};
+use og_report_text::{Places, Row, Rows, put_position};
 use std::alloc::{AllocError, Global};
 use std::mem;
 

@@ -8,7 +8,7 @@ use Rattle.og_subst.specs.Actions.{stmt_action}
 use Rattle.og_cond.specs.Condition.{Condition}
 use Rattle.og_places.specs.Seen.{IsOneOf}
 use Rattle.og_places.specs.Sites.{NoteSite, StatementSite, all_notes, all_statements}
-use Rattle.og_wording.specs.Conjuncts.{conjuncts}
+use Rattle.og_report_text.specs.Conjuncts.{conjuncts}
 
 -- ---- what stands in an outline
 

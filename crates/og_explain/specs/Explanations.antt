@@ -9,7 +9,7 @@ use Rattle.og_typed.specs.Machine.{act}
 use Rattle.og_cond.specs.Condition.{Condition, assignments}
 use Rattle.og_places.specs.Seen.{statement_of}
 use Rattle.og_values.specs.Large.{first_large}
-use Rattle.og_wording.specs.Seen.{formulas_of}
+use Rattle.og_report_text.specs.Seen.{formulas_of}
 use Rattle.og_explain.specs.declared.explanation.Explanation.{Explanation}
 use Rattle.og_explain.specs.declared.explanation.Fault.{Fault}
 use Rattle.og_explain.specs.declared.explanation.Fault.TheVariants as fault

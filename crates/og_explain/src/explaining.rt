@@ -7,7 +7,7 @@ ghost use Rattle.og_typed.specs.Machine.{act};
 ghost use Rattle.og_cond.specs.Seen.{seen};
 ghost use Rattle.og_cond.specs.Condition.{assignments};
 ghost use Rattle.og_places.specs.Seen.{statement_of};
-ghost use Rattle.og_wording.specs.Seen.{formulas_of};
+ghost use Rattle.og_report_text.specs.Seen.{formulas_of};
 ghost use Rattle.og_subst.specs.Actions.{action_tree};
 ghost use Rattle.og_explain.specs.Explained.{IsNoteOf, IsTrueNote, IsAction, IsOneAction, HaveValues, false_ones};
 ghost use Rattle.og_explain.specs.Explanations.{IsFault, IsFalseNote, IsTooLarge, IsExplained, TestIs};
@@ -20,10 +20,10 @@ use crate::unexplained::Unexplained;
 use og_cond::{Condition, Goal, Kind};
 use og_linear::State;
 use og_places::{Index, StatementSite};
+use og_report_text::add_conjuncts;
 use og_subst::Action;
 use og_typed::{Assert, Note, Outline};
 use og_values::Values;
-use og_wording::add_conjuncts;
 use std::alloc::{AllocError, Global};
 
 // The state after the condition's action.

@@ -4,19 +4,18 @@ ghost use Rattle.std.specs.Prelude.{◌≡◌, ◌≤◌, ◌^◌, length, map, 
 ghost use Rattle.std.specs.List.{AllByRecursion};
 ghost use Rattle.og_cond.specs.Seen.{seen};
 ghost use Rattle.og_explore.specs.Told.{AreWithin};
-ghost use Rattle.og_exploring.specs.Totals.{safe_of, unblocked_of};
+ghost use Rattle.og_report_explore.specs.Totals.{safe_of, unblocked_of};
 ghost use Rattle.og_explorer.specs.Told.{IsOneFinding, AreViolations};
 ghost use Rattle.og_explorer.specs.Explored.{is_yes, status_of, printed, IsExplored};
-ghost use Rattle.og_exploring.specs.declared.totals.Found.TheVariants as yes_or_no;
+ghost use Rattle.og_report_explore.specs.declared.totals.Found.TheVariants as yes_or_no;
 
 use crate::request::Request;
 use crate::told::{Told, add};
-use og_answer::Answer;
 use og_cond::Condition;
 use og_explore::{Exploration, Range, explore};
-use og_exploring::{Finding, Found, Totals, report};
-use og_exploring_json::json;
 use og_places::Index;
+use og_report_explore::{Finding, Found, Totals, json, report};
+use og_report_text::Answer;
 use og_typed::Outline;
 use std::alloc::{AllocError, Global};
 

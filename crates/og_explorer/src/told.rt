@@ -8,8 +8,8 @@ ghost use Rattle.og_explorer.specs.Told.{IsAdded};
 
 use og_cond::Condition;
 use og_explore::Range;
-use og_exploring::{Finding, tell};
 use og_places::Index;
+use og_report_explore::{Finding, tell};
 use og_typed::Outline;
 use og_violation::Violation;
 use std::alloc::{AllocError, Global};

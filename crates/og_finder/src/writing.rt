@@ -9,7 +9,7 @@ ghost use Rattle.og_find.specs.Missing.{missing_up_to};
 ghost use Rattle.og_finder.specs.Findings.{verdict_of};
 ghost use Rattle.og_finder.specs.Texts.{certificate_in, lines_of, lines_from, entry_lines, entries_of, AreLines};
 ghost use Rattle.og_finder.specs.Written.{IsWritten};
-ghost use Rattle.og_output.specs.Written.{AppendsFront, Passes};
+ghost use Rattle.og_io.specs.Written.{AppendsFront, Passes};
 ghost use Rattle.og_pool.specs.declared.fault.PoolFault.TheVariants.{Spawn};
 
 use crate::finder::examine_all;
@@ -20,7 +20,7 @@ use og_cert_text::put_cert;
 use og_cond::Condition;
 use og_draws::answers;
 use og_find::{Missing, Verdict};
-use og_output::{OutputFault, write_long, write_whole};
+use og_io::{OutputFault, write_long, write_whole};
 use og_pool::{Gate, PoolFault};
 use std::alloc::{AllocError, Global};
 use std::io::Write;

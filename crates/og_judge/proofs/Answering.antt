@@ -1,6 +1,6 @@
 -- What a command answers to a refusal.
 use Rattle.std.proofs.Common.{◌≡◌, ℕ, ◌<◌, List, Result, Ok, Err, IfOk, IfErr, refl}
-use Rattle.og_answer.specs.declared.answer.Answer.{Answer}
+use Rattle.og_report_text.specs.declared.answer.Answer.{Answer}
 use Rattle.og_pool.specs.declared.fault.PoolFault.{PoolFault}
 use Rattle.og_pool.specs.declared.fault.PoolFault.TheVariants as pool
 use Rattle.og_judge.specs.Answered.{IsAnswered}

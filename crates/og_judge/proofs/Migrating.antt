@@ -9,8 +9,8 @@ use Rattle.og_cert_read.specs.Read.{Gives}
 use Rattle.og_cert_read.specs.Shared.{shared_text}
 use Rattle.og_cert_read.specs.Laws.{OneAnswer, GivenIsRead, SharedIsRead, SharedIsShortest}
 use Rattle.og_cert_text.specs.declared.fault.CertTextError.TheVariants as errors
-use Rattle.og_answer.specs.declared.fault.InputFault.{InputFault}
-use Rattle.og_answer.specs.declared.fault.InputFault.TheVariants as faults
+use Rattle.og_report_text.specs.declared.fault.InputFault.{InputFault}
+use Rattle.og_report_text.specs.declared.fault.InputFault.TheVariants as faults
 use Rattle.og_judge.specs.declared.entry.Entry.{Entry}
 use Rattle.og_judge.specs.Entries.{AreEntries, IsStray}
 use Rattle.og_judge.specs.Report.{IsRefused}

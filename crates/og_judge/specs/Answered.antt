@@ -1,8 +1,8 @@
 -- What a command answers to a refusal.
 use Rattle.std.specs.Prelude.{◌≡◌, ℕ, List, Option, None, Result, Ok, Err}
-use Rattle.og_answer.specs.Faults.{place_of_input}
-use Rattle.og_answer.specs.Told.{IsTold}
-use Rattle.og_answer.specs.declared.answer.Answer.{Answer}
+use Rattle.og_report_text.specs.Faults.{place_of_input}
+use Rattle.og_report_text.specs.Told.{IsTold}
+use Rattle.og_report_text.specs.declared.answer.Answer.{Answer}
 use Rattle.og_pool.specs.declared.fault.PoolFault.{PoolFault}
 use Rattle.og_pool.specs.declared.fault.PoolFault.TheVariants as pool
 use Rattle.og_judge.specs.declared.refusal.Refusal.{Refusal}

@@ -7,7 +7,7 @@ use Rattle.og_cert_text.specs.declared.fault.CertTextError.{CertTextError}
 use Rattle.og_cert_text.specs.declared.fault.CertTextError.TheVariants as certs
 use Rattle.og_pool.specs.declared.fault.PoolFault.{PoolFault}
 use Rattle.og_pool.specs.declared.fault.PoolFault.TheVariants as pool
-use Rattle.og_answer.specs.declared.fault.InputFault.TheVariants as faults
+use Rattle.og_report_text.specs.declared.fault.InputFault.TheVariants as faults
 use Rattle.og_judge.specs.declared.refusal.Refusal.{Refusal}
 use Rattle.og_judge.specs.declared.refusal.Refusal.TheVariants as refusal
 

@@ -6,7 +6,7 @@ use Rattle.og_cert_text.specs.declared.fault.CertTextError.{CertTextError}
 use Rattle.og_cert_text.specs.declared.fault.CertTextError.TheVariants as errors
 use Rattle.og_cert_read.specs.Read.{Gives, IsWrong}
 use Rattle.og_cert_read.specs.Shared.{shared_text}
-use Rattle.og_answer.specs.declared.fault.InputFault.{InputFault}
+use Rattle.og_report_text.specs.declared.fault.InputFault.{InputFault}
 use Rattle.og_judge.specs.declared.entry.Entry.{Entry}
 use Rattle.og_judge.specs.Report.{IsReport, IsRefused}
 

@@ -1,6 +1,6 @@
 -- The number and the name of a refusal.
 use Rattle.std.specs.Prelude.{ℕ, List, Option, Some, None, codes}
-use Rattle.og_answer.specs.Faults.{number_of_input, name_of_input}
+use Rattle.og_report_text.specs.Faults.{number_of_input, name_of_input}
 use Rattle.og_judge.specs.declared.refusal.Refusal.{Refusal}
 use Rattle.og_judge.specs.declared.refusal.Refusal.TheVariants as refusal
 

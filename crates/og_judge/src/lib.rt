@@ -14,6 +14,6 @@ pub use findings::Findings;
 pub use judgement::Judgement;
 pub use judging::{judge, judge_outline};
 pub use migration::migrate;
-pub use og_answer::InputFault;
+pub use og_report_text::InputFault;
 pub use og_theorem::{Proved, erased_soundness, progress, soundness};
 pub use refusal::Refusal;

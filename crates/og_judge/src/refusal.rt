@@ -6,10 +6,10 @@ ghost use Rattle.og_judge.specs.Names.{number_of_refusal, name_of_refusal};
 ghost use Rattle.og_judge.specs.Errors.{of_source, of_conditions, of_certs, of_pool};
 ghost use Rattle.og_judge.specs.declared.refusal.Refusal.TheVariants.{Memory};
 
-use og_answer::{Answer, InputFault};
 use og_cert_text::CertTextError;
 use og_cond::ConditionsError;
 use og_pool::PoolFault;
+use og_report_text::{Answer, InputFault};
 use og_source::SourceError;
 use std::alloc::{AllocError, AllocFailed, Global};
 use thiserror::Error;

@@ -2,7 +2,7 @@
 use Rattle.std.proofs.Common.{◌≡◌, inr, subst, ℕ, List, Result, Ok, Err, IfOk}
 use Rattle.og_typed.specs.Syntax.{Program}
 use Rattle.og_source.specs.Source.{IsSource}
-use Rattle.og_answer.specs.declared.answer.Answer.{Answer}
+use Rattle.og_report_text.specs.declared.answer.Answer.{Answer}
 use Rattle.og_notes.specs.Noted.{IsNotes, IsNoted}
 
 pub of_source : {E : Type 0} (source bytes : List ℕ) (o : Program) (r : Result Answer E) → IsSource source o → bytes ≡ source → IfOk r (IsNotes o bytes) → IfOk r (IsNoted source)

@@ -2,8 +2,8 @@
 use Rattle.std.specs.Prelude.{◌≡◌, ◌⊎◌, ℕ, List}
 use Rattle.og_typed.specs.Syntax.{Program}
 use Rattle.og_source.specs.Source.{IsSource}
-use Rattle.og_answer.specs.Told.{IsUnread}
-use Rattle.og_answer.specs.declared.answer.Answer.{Answer}
+use Rattle.og_report_text.specs.Told.{IsUnread}
+use Rattle.og_report_text.specs.declared.answer.Answer.{Answer}
 use Rattle.og_notes.specs.Claims.{Claim, AreClaims}
 use Rattle.og_notes.specs.Notes.{notes_text}
 

@@ -5,9 +5,9 @@ use Rattle.og_typed.specs.Syntax.{Noted, Statement, Skip, Assign, If, While, Awa
 use Rattle.og_typed.specs.Erase.{erased}
 use Rattle.og_erase.specs.Collected.{raw_of}
 use Rattle.og_print.specs.Print.{program_text}
-use Rattle.og_listing.specs.Places.{◌&◌, position_of, position_text}
-use Rattle.og_wording.specs.Assertions.{assertion_text}
-use Rattle.og_wording.specs.Values.{names_text}
+use Rattle.og_report_text.specs.Places.{◌&◌, position_of, position_text}
+use Rattle.og_report_text.specs.Assertions.{assertion_text}
+use Rattle.og_report_text.specs.Values.{names_text}
 use Rattle.og_notes.specs.Steps.{Step, all_steps, shared}
 use Rattle.og_notes.specs.Claims.{Claim}
 use Rattle.og_notes.specs.declared.claims.Role.{Role}

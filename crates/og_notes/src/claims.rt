@@ -9,7 +9,7 @@ ghost use Rattle.og_notes.specs.Seen.{claim_of, claims_of, notes_of, Gains};
 
 use og_cond::{Condition, Goal, Hypothesis, Kind, Part};
 use og_find::find;
-use og_limits::Budget;
+use og_io::Budget;
 use og_typed::{Assert, Note, Outline};
 use std::alloc::{AllocError, Global};
 

@@ -8,10 +8,9 @@ ghost use Rattle.og_notes.specs.Seen.{claim_of, claims_of, steps_of};
 use crate::claims::{Claim, Role};
 use crate::steps::shared;
 use crate::walk::Step;
-use og_listing::{Places, put_position};
+use og_report_text::{Places, put_assertion, put_names, put_position};
 use og_text::Name;
 use og_typed::{Item, Note, Stmt};
-use og_wording::{put_assertion, put_names};
 use std::alloc::AllocError;
 
 impl Role {

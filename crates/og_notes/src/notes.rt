@@ -13,14 +13,12 @@ ghost use Rattle.og_notes.specs.Steps.{all_steps};
 use crate::claims::{Claim, claims_of};
 use crate::lines::{put_all_unmet, put_claim, put_steps};
 use crate::walk::{Step, walk_of};
-use og_answer::Answer;
 use og_erase::erase;
-use og_limits::Budget;
-use og_listing::Places;
+use og_io::Budget;
 use og_print::print_program;
+use og_report_text::{Answer, Places, put_names};
 use og_source::Source;
 use og_typed::Outline;
-use og_wording::put_names;
 use std::alloc::{AllocError, Global};
 
 // The auxiliary variables by number.

@@ -1,6 +1,6 @@
 -- An answer, and what goes to standard error beside it, of the bytes that were read.
 use Rattle.std.proofs.Common.{◌≡◌, sym, subst, ℕ, List}
-use Rattle.og_answer.specs.declared.answer.Answer.{Answer}
+use Rattle.og_report_text.specs.declared.answer.Answer.{Answer}
 use Rattle.og_program.specs.declared.outcome.Told.{Told}
 
 pub shown : (P : List ℕ → Answer → Type 0) (R : List ℕ → Told → Type 0) (source first second : List ℕ) (answer : Answer) (t : Told)

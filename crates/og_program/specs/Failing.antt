@@ -1,9 +1,9 @@
 -- Why a job cannot be done, and how that is told.
 use Rattle.std.specs.Prelude.{◌≡◌, ◌⊎◌, ℕ, Bool, true, false, List, [], codes, Result, Ok, Err, ⊤}
-use Rattle.og_output.specs.declared.fault.WriteFault.TheVariants as writes
-use Rattle.og_listing.specs.Places.{◌&◌}
-use Rattle.og_output.specs.declared.fault.OutputFault.{OutputFault}
-use Rattle.og_output.specs.declared.fault.OutputFault.TheVariants as outputs
+use Rattle.og_io.specs.declared.fault.WriteFault.TheVariants as writes
+use Rattle.og_report_text.specs.Places.{◌&◌}
+use Rattle.og_io.specs.declared.fault.OutputFault.{OutputFault}
+use Rattle.og_io.specs.declared.fault.OutputFault.TheVariants as outputs
 use Rattle.og_pool.specs.declared.fault.PoolFault.{PoolFault}
 use Rattle.og_pool.specs.declared.fault.PoolFault.TheVariants as pool
 use Rattle.og_program.specs.declared.fault.Fault.{Fault}

@@ -4,9 +4,9 @@ use Rattle.std.specs.Global.{Global}
 use Rattle.std.specs.Io.KnownBytes.{Appends, Keeps}
 use Rattle.std.specs.declared.alloc.AllocError.{AllocError}
 use Rattle.og_engine.specs.Making.{text_of, status_of_found}
-use Rattle.og_output.specs.Written.{AppendsFront}
-use Rattle.og_output.specs.declared.fault.OutputFault.{OutputFault}
-use Rattle.og_output.specs.declared.fault.WriteFault.{WriteFault}
+use Rattle.og_io.specs.Written.{AppendsFront}
+use Rattle.og_io.specs.declared.fault.OutputFault.{OutputFault}
+use Rattle.og_io.specs.declared.fault.WriteFault.{WriteFault}
 use Rattle.og_program.specs.Failing.{fault_text, is_not_written, of_output}
 use Rattle.og_program.specs.declared.ended.Ended.{Ended}
 use Rattle.og_program.specs.declared.fault.Fault.{Fault}

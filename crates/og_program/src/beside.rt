@@ -11,18 +11,18 @@ ghost use Rattle.og_program.specs.Served.{Remarks, RemarksBoth, IsMissingNote, T
 
 use crate::outcome::{BadValue, Outcome, Told, ToldFound};
 use og_advice::Names;
-use og_answer::Answer;
+use og_command_prove::Reply as Proved;
 use og_engine::{FindReply, FoundCertificates};
 use og_expander::{ExpandFault, Reply as Expanded};
 use og_explorer::Reply as Explored;
 use og_find::Missing;
-use og_listings::Reply as Listed;
-use og_reaching::Reply as Proved;
 use og_remark::{
     Gives, certificates_remark, check_remark, conditions_remark, expansion_remark, missing_line,
     missing_remark, proved_run_remark, run_remark, schedule_remark, source_remark, too_many_remark,
     value_remark,
 };
+use og_report_conditions::Reply as Listed;
+use og_report_text::Answer;
 use og_running::{Ran, Reply};
 use og_template_words::is_template;
 use std::alloc::{AllocError, Global};

@@ -12,9 +12,9 @@ use crate::files::Files;
 use crate::outcome::Outcome;
 use crate::reading::{certificate_bytes, source_bytes};
 use og_engine::{erased, migrated};
-use og_limits::Budget;
-use og_listings::{Form, listed};
+use og_io::Budget;
 use og_notes::noted;
+use og_report_conditions::{Form, listed};
 use std::alloc::Global;
 use std::io::Read;
 

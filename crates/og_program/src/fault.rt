@@ -4,7 +4,7 @@ ghost use Rattle.std.specs.Prelude.{◌≡◌};
 ghost use Rattle.og_program.specs.Failing.{why_text, of_output, of_pool};
 ghost use Rattle.og_program.specs.declared.fault.Fault.TheVariants.{Memory};
 
-use og_output::{OutputFault, WriteFault};
+use og_io::{OutputFault, WriteFault};
 use og_pool::PoolFault;
 use std::alloc::{AllocError, AllocFailed};
 use std::io::{Error, ErrorKind};

@@ -1,8 +1,8 @@
 //! What a job comes to, before anything of it is written.
 
-use og_answer::Answer;
 use og_engine::FoundCertificates;
-use og_listings::Listing;
+use og_report_conditions::Listing;
+use og_report_text::Answer;
 use std::alloc::AllocError;
 
 /// An answer, and what goes to standard error beside it.

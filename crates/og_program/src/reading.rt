@@ -9,7 +9,7 @@ use crate::fault::{Fault, Why};
 use crate::files::Files;
 use og_advice::Names;
 use og_engine::{read_certificates, read_joined, read_source};
-use og_input::ReadFault;
+use og_io::ReadFault;
 use std::alloc::Global;
 use std::io::Read;
 

@@ -15,7 +15,7 @@ use crate::outcome::Outcome;
 use crate::program::Program;
 use crate::reading::{both_bytes, source_bytes};
 use og_advice::Names;
-use og_limits::RunLimit;
+use og_io::RunLimit;
 use og_pool::{Gate, OpenGate};
 use og_running::{ran, ran_by_schedule, ran_proved};
 use std::io::Read;

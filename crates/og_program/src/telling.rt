@@ -8,8 +8,8 @@ use crate::ended::Ended;
 use crate::fault::{Fault, Why};
 use crate::outcome::{BadValue, Outcome, Told, ToldFound};
 use og_engine::write_answer;
-use og_listings::Listing;
-use og_output::{WriteFault, write_text};
+use og_io::{WriteFault, write_text};
+use og_report_conditions::Listing;
 use std::alloc::{AllocError, Global};
 use std::io::Write;
 

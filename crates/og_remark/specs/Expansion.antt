@@ -1,6 +1,6 @@
 -- What is told of a template of which nothing is printed.
 use Rattle.std.specs.Prelude.{◌≡◌, ◌^◌, nat_lt, if◌then◌else◌, ℕ, List, length, Option, None, IsTrue, codes}
-use Rattle.og_listing.specs.Places.{◌&◌}
+use Rattle.og_report_text.specs.Places.{◌&◌}
 use Rattle.og_advice.specs.Advice.{is_one_line, place_text, refusal_text, front_text}
 use Rattle.og_expander.specs.Faults.{number_of_fault, name_of_fault, place_of_fault}
 use Rattle.og_expander.specs.declared.fault.ExpandFault.{ExpandFault}

@@ -12,7 +12,7 @@ use Rattle.og_cert_text.specs.declared.fault.CertTextFault.{CertTextFault}
 use Rattle.og_cert_read.specs.Read.{Gives, IsWrong}
 use Rattle.og_find.specs.Missing.{missing_up_to}
 use Rattle.og_find.specs.declared.counting.Missing.{Missing}
-use Rattle.og_listing.specs.Places.{◌&◌}
+use Rattle.og_report_text.specs.Places.{◌&◌}
 
 -- MISSING of COUNT
 abbrev pub counts_text : ℕ → ℕ → List ℕ

@@ -7,8 +7,8 @@ use Rattle.og_cond.specs.declared.fault.TooMany.{TooMany}
 use Rattle.og_source.specs.Source.{IsSource}
 use Rattle.og_source.specs.Refused.{IsSourceFault}
 use Rattle.og_source.specs.declared.fault.SourceFault.{SourceFault}
-use Rattle.og_answer.specs.declared.fault.InputFault.{InputFault}
-use Rattle.og_answer.specs.declared.fault.InputFault.TheVariants as faults
+use Rattle.og_report_text.specs.declared.fault.InputFault.{InputFault}
+use Rattle.og_report_text.specs.declared.fault.InputFault.TheVariants as faults
 use Rattle.og_cert_text.specs.Files.{Entries}
 use Rattle.og_cert_text.specs.declared.fault.CertTextFault.{CertTextFault}
 use Rattle.og_cert_read.specs.Read.{IsWrong}

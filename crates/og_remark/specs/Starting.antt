@@ -4,10 +4,10 @@ use Rattle.std.specs.Global.{Global}
 use Rattle.og_typed.specs.Syntax.{Program}
 use Rattle.og_typed.specs.declared.assertion.Assert.{Assert}
 use Rattle.og_source.specs.Source.{IsSource}
-use Rattle.og_listing.specs.Places.{◌&◌, position_of, position_text}
-use Rattle.og_wording.specs.Values.{values_text}
+use Rattle.og_report_text.specs.Places.{◌&◌, position_of, position_text}
+use Rattle.og_report_text.specs.Values.{values_text}
 use Rattle.og_explain.specs.Explanations.{IsFalseNote}
-use Rattle.og_prove.specs.Blocks.{false_lines}
+use Rattle.og_report_prove.specs.Blocks.{false_lines}
 use Rattle.og_running.specs.Words.{Give}
 use Rattle.og_remark.specs.Remarks.{IsSourceRemark, IsCheckRemark}
 use denote.Ref.{Bor}

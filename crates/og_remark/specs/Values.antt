@@ -4,7 +4,7 @@ use Rattle.std.specs.List.{position_or_len, before_first, after_first}
 use Rattle.og_typed.specs.Syntax.{Program}
 use Rattle.og_typed.specs.Resolved.{number_in}
 use Rattle.og_source.specs.Source.{IsSource}
-use Rattle.og_listing.specs.Places.{◌&◌}
+use Rattle.og_report_text.specs.Places.{◌&◌}
 use Rattle.og_running.specs.Words.{is_equals, IsInteger}
 use Rattle.og_remark.specs.declared.values.Gives.{Gives}
 use Rattle.og_remark.specs.declared.values.Gives.TheVariants as gives

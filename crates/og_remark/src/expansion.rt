@@ -6,9 +6,8 @@ ghost use Rattle.og_expander.specs.Faults.{number_of_fault, name_of_fault, place
 ghost use Rattle.og_remark.specs.Expansion.{IsExpansionRemark, IsRemarkAt};
 
 use og_advice::put_quote;
-use og_answer::put_opening;
 use og_expander::ExpandFault;
-use og_listing::{Position, put_position};
+use og_report_text::{Position, put_opening, put_position};
 use og_template::FaultKind;
 use og_text::{LexFault, SOURCE_LIMIT, line_col};
 use og_typed::TypeFault;

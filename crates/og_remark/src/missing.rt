@@ -7,7 +7,7 @@ use og_cert_read::read_certs;
 use og_cert_text::CertTextError;
 use og_cond::{ConditionsError, conditions};
 use og_find::Missing;
-use og_listing::put_number;
+use og_report_text::put_number;
 use og_source::{Source, SourceError};
 use og_typed::Outline;
 use std::alloc::{AllocError, Global};

@@ -4,11 +4,11 @@ ghost use Rattle.std.specs.Prelude.{option_map, Some, IfOk};
 ghost use Rattle.og_remark.specs.Remarks.{IsSourceRemark, IsCounted, IsListed, IsConditionsRemark, IsTooManyRemark, IsCheckRemark, IsCertificatesRemark};
 
 use og_advice::{Names, advise};
-use og_answer::InputFault;
 use og_cert_text::CertTextError;
 use og_cond::{ConditionsError, TooMany, conditions};
 use og_judge::{Refusal, judge, migrate};
 use og_pool::OpenGate;
+use og_report_text::InputFault;
 use og_source::{Source, SourceError};
 use og_typed::Outline;
 use std::alloc::{AllocError, Global};

@@ -1,4 +1,3 @@
 pub mod Json
 pub mod Refusal
 pub mod Report
-pub mod Yes

@@ -1,7 +1,7 @@
 -- The line of a refusal.
 use Rattle.std.specs.Prelude.{ℕ, List, [], Option, None}
-use Rattle.og_answer.specs.Faults.{place_of_input}
-use Rattle.og_answer.specs.Line.{refused_line}
+use Rattle.og_report_text.specs.Faults.{place_of_input}
+use Rattle.og_report_text.specs.Line.{refused_line}
 use Rattle.og_judge.specs.declared.refusal.Refusal.{Refusal}
 use Rattle.og_judge.specs.declared.refusal.Refusal.TheVariants as refusal
 

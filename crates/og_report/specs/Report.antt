@@ -5,7 +5,7 @@ use Rattle.og_cond.specs.Names as cond
 use Rattle.og_cert.specs.Names as cert
 use Rattle.og_pool.specs.declared.status.Status.{Status}
 use Rattle.og_pool.specs.declared.status.Status.TheVariants as status
-use Rattle.og_listing.specs.Places.{◌&◌, position_of, position_text, with_text}
+use Rattle.og_report_text.specs.Places.{◌&◌, position_of, position_text, with_text}
 use Rattle.og_judge.specs.declared.entry.Entry.{Entry}
 use Rattle.og_judge.specs.Entries.{is_proved, is_safe, is_unblocked}
 

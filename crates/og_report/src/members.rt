@@ -7,15 +7,15 @@ ghost use Rattle.og_json.specs.Numbers.{natural};
 ghost use Rattle.og_cond.specs.Names.{name_of_kind};
 ghost use Rattle.og_judge.specs.Entries.{is_unblocked};
 ghost use Rattle.og_judge.specs.Shown.{entries_of};
-ghost use Rattle.og_listing.specs.Places.{position_of};
+ghost use Rattle.og_report_text.specs.Places.{position_of};
 ghost use Rattle.og_report.specs.Json.{status_word, entry_data, unproved_data, report_data, json_text};
-ghost use Rattle.og_report.specs.Yes.{SaysUnblocked};
+ghost use Rattle.og_json.specs.Yes.{SaysUnblocked};
 
 use crate::report::count_proved;
 use og_json::{bytes_of, list_value, put_number, put_text};
 use og_judge::{Entry, Judgement};
-use og_listing::Places;
 use og_pool::Status;
+use og_report_text::Places;
 use serde_json::{Map, Value, json};
 use std::alloc::{AllocError, Global};
 

@@ -3,11 +3,11 @@
 ghost use Rattle.std.specs.Prelude.{◌≡◌, ◌≤◌, ◌^◌, length, IfOk, IsSome};
 ghost use Rattle.og_report.specs.Refusal.{place_of_refusal, refusal_text};
 
-use og_answer::refused_line;
 use og_judge::Refusal;
+use og_report_text::refused_line;
 use std::alloc::{AllocError, Global};
 
-/// The line of a refusal, as `og_answer::refused_line`; no bytes for `Spawn` and `Memory`. A source
+/// The line of a refusal, as `og_report_text::refused_line`; no bytes for `Spawn` and `Memory`. A source
 /// in which a refusal has a place has at most 1,048,576 bytes.
 ///
 /// # Errors

@@ -5,16 +5,16 @@ use Rattle.std.proofs.lemmas.Bool.Decides.{eqb_tells, nat_tests}
 use Rattle.std.proofs.lemmas.Option.{slice_get_within}
 use Rattle.atomic_table.specs.Seated.{TableId}
 use Rattle.atomic_table.specs.declared.shared.Seat.{Seat}
-use Rattle.og_board.specs.Runs.{Given}
-use Rattle.og_board.specs.Histories.{process_count, moves_of}
-use Rattle.og_board.specs.declared.turn.RunTurn.{RunTurn}
-use Rattle.og_board.specs.declared.turn.RunTurn.TheVariants.{Overflow, Done, Stuck, Limit, Early, Waits, Moved}
+use Rattle.og_run.specs.Runs.{Given}
+use Rattle.og_run.specs.Histories.{process_count, moves_of}
+use Rattle.og_run.specs.declared.turn.RunTurn.{RunTurn}
+use Rattle.og_run.specs.declared.turn.RunTurn.TheVariants.{Overflow, Done, Stuck, Limit, Early, Waits, Moved}
 use Rattle.og_run.specs.declared.rule.Card.{Card}
 use Rattle.og_run.specs.declared.rule.Listed.{Listed}
 use Rattle.og_run.specs.declared.rule.View.{View}
-use Rattle.og_board.specs.Turns.{IsTurn, Answers, SomeOverflows, after_turn, is_overflow}
+use Rattle.og_run.specs.Turns.{IsTurn, Answers, SomeOverflows, after_turn, is_overflow}
 use Rattle.og_run.specs.Cards.{listed, keeper, holder, gives, CardFits, AllFit, Acts, IsTokenOf, Lists, Position, card_at}
-use Rattle.og_board.proofs.Histories.{moves_append}
+use Rattle.og_run.proofs.Histories.{moves_append}
 use Rattle.og_run.proofs.Steps.{off, same_some, slice_get_set_same, slice_get_set_other}
 
 pub token_is : (table : TableId) (p : ℕ) (o : Option (Seat (Unit {0}) View)) (t : Seat (Unit {0}) View) → o ≡ Some t → IsTokenOf table p o → (t.table_id ≡ table) × (t.me ≡ (holder p t.me.0.card, []))

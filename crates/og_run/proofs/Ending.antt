@@ -5,15 +5,15 @@ use Rattle.std.specs.List.{AllZip}
 use Rattle.std.proofs.lemmas.Option.{slice_get_within}
 use Rattle.std.proofs.lemmas.Bool.Decides.{leb_tells}
 use Rattle.og_run.specs.declared.rule.Card.{Card}
-use Rattle.og_board.specs.Runs.{Given}
-use Rattle.og_board.specs.Histories.{process_count, IsRun}
-use Rattle.og_board.specs.declared.turn.RunTurn.{RunTurn}
-use Rattle.og_board.specs.declared.turn.RunTurn.TheVariants.{Overflow, Done, Stuck, Limit}
-use Rattle.og_board.specs.Turns.{IsTurn, SomeOverflows, after_turn, is_overflow}
+use Rattle.og_run.specs.Runs.{Given}
+use Rattle.og_run.specs.Histories.{process_count, IsRun}
+use Rattle.og_run.specs.declared.turn.RunTurn.{RunTurn}
+use Rattle.og_run.specs.declared.turn.RunTurn.TheVariants.{Overflow, Done, Stuck, Limit}
+use Rattle.og_run.specs.Turns.{IsTurn, SomeOverflows, after_turn, is_overflow}
 use Rattle.og_run.specs.Cards.{Place, Acts, CardFits, EndOf, CameBack, SeatsFor}
-use Rattle.og_board.specs.Over.{OverAt}
+use Rattle.og_run.specs.Over.{OverAt}
 use Rattle.og_run.proofs.Steps.{off}
-use Rattle.og_board.proofs.Staying.{stays_done, stays_stuck}
+use Rattle.og_run.proofs.Staying.{stays_done, stays_stuck}
 
 -- each seat came back, at its end
 pub ended_at : (xs us : List Place) (k : ℕ) (s : Place) → AllZip CameBack xs us → slice_get xs k ≡ Some s → (e : Place) × (slice_get us k ≡ Some e) × (e.process ≡ s.process) × (e.card.given ≡ s.card.given) × EndOf e

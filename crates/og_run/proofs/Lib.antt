@@ -1,5 +1,11 @@
-pub mod Steps
 pub mod Acting
-pub mod Opening
+pub mod Boards
 pub mod Ending
+pub mod Ends
+pub mod Histories
+pub mod Lists
+pub mod Opening
 pub mod Outcomes
+pub mod Staying
+pub mod Steps
+pub mod Turning

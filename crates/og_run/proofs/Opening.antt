@@ -3,8 +3,8 @@ use Rattle.std.proofs.Common.{◌≡◌, ◌≢◌, ◌⊎◌, ℕ, zero, suc, �
 use Rattle.std.specs.Prelude.{slice_get}
 use Rattle.std.proofs.lemmas.Bool.Decides.{eqb_tells}
 use Rattle.std.proofs.Math.ListN.{length-replicate}
-use Rattle.og_board.specs.Runs.{Given}
-use Rattle.og_board.specs.Histories.{process_count}
+use Rattle.og_run.specs.Runs.{Given}
+use Rattle.og_run.specs.Histories.{process_count}
 use Rattle.og_run.specs.declared.rule.Listed.{Listed}
 use Rattle.og_run.specs.declared.rule.View.{View}
 use Rattle.og_run.specs.Cards.{Place, card, listed, keeper, gives, blank_cards, Lists, Handed, FirstSeats}

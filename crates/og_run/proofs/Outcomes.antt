@@ -5,10 +5,10 @@ use Rattle.og_typed.specs.Truth.{truth}
 use Rattle.og_typed.specs.Machine.{overflows}
 use Rattle.og_theorem.specs.Sound.{IsSound}
 use Rattle.og_theorem.specs.NeverStuck.{IsNeverStuck}
-use Rattle.og_board.specs.Runs.{Given}
-use Rattle.og_board.specs.Ends.{IsFinish, IsOutcome}
-use Rattle.og_board.specs.declared.outcome.Outcome.{Outcome}
-use Rattle.og_board.proofs.Ends.{reached_run}
+use Rattle.og_run.specs.Runs.{Given}
+use Rattle.og_run.specs.Ends.{IsFinish, IsOutcome}
+use Rattle.og_run.specs.declared.outcome.Outcome.{Outcome}
+use Rattle.og_run.proofs.Ends.{reached_run}
 use Rattle.og_run.specs.Outcomes.{IsProvedOutcome}
 
 pub proved_outcome : (g : Given) (unblocked : Bool) (r : Outcome) → IsSound g.outline → (unblocked ≡ true → IsNeverStuck g.outline) → IsOutcome g r → IsProvedOutcome g unblocked r

@@ -5,7 +5,7 @@ use mathlib.Core.Option.{some, none, some-ne-none, some-injective}
 use lib.ListN.{get_elem?}
 use Rattle.atomic_table.specs.Table.{Me, step, keeps, Allows, Splits, Joins, opening}
 use Rattle.atomic_table.proofs.Lists.{at_set}
-use Rattle.og_board.specs.Runs.{Given}
+use Rattle.og_run.specs.Runs.{Given}
 use Rattle.og_run.specs.declared.rule.Card.{Card}
 use Rattle.og_run.specs.declared.rule.Listed.{Listed}
 use Rattle.og_run.specs.declared.rule.View.{View}

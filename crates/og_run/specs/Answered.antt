@@ -3,9 +3,9 @@ use Rattle.std.specs.Prelude.{◌≡◌, ⊤, Option, Some, None, Result, Ok, Er
 use Rattle.og_step.specs.Starts.{start_fault}
 use Rattle.og_step.specs.declared.fault.StartFault.{StartFault}
 use Rattle.og_step.specs.declared.fault.StartFault.TheVariants as starts
-use Rattle.og_board.specs.Runs.{Given}
-use Rattle.og_board.specs.Ends.{IsOutcome}
-use Rattle.og_board.specs.declared.outcome.Outcome.{Outcome}
+use Rattle.og_run.specs.Runs.{Given}
+use Rattle.og_run.specs.Ends.{IsOutcome}
+use Rattle.og_run.specs.declared.outcome.Outcome.{Outcome}
 use Rattle.og_run.specs.declared.fault.RunFault.TheVariants as faults
 use Rattle.og_run.specs.declared.fault.RunError.{RunError}
 use Rattle.og_run.specs.declared.fault.RunError.TheVariants as errors

@@ -5,15 +5,15 @@ use lib.ListN.{get_elem?}
 use Rattle.atomic_table.specs.Table.{State, Me, Step}
 use Rattle.atomic_table.specs.Seated.{TableId}
 use Rattle.atomic_table.specs.declared.shared.Seat.{Seat}
-use Rattle.og_board.specs.Runs.{Given}
-use Rattle.og_board.specs.Histories.{process_count, moves_of}
+use Rattle.og_run.specs.Runs.{Given}
+use Rattle.og_run.specs.Histories.{process_count, moves_of}
 use Rattle.og_typed.specs.Syntax.{Program, True}
-use Rattle.og_board.specs.declared.turn.RunTurn.{RunTurn}
+use Rattle.og_run.specs.declared.turn.RunTurn.{RunTurn}
 use Rattle.og_run.specs.declared.rule.Card.{Card}
 use Rattle.og_run.specs.declared.rule.Listed.{Listed}
 use Rattle.og_run.specs.declared.rule.View.{View}
-use Rattle.og_board.specs.declared.turn.RunTurn.TheVariants.{Overflow, Done, Stuck, Limit}
-use Rattle.og_board.specs.Turns.{IsTurn, SomeOverflows, after_turn, is_overflow}
+use Rattle.og_run.specs.declared.turn.RunTurn.TheVariants.{Overflow, Done, Stuck, Limit}
+use Rattle.og_run.specs.Turns.{IsTurn, SomeOverflows, after_turn, is_overflow}
 
 abbrev pub card : Given → List ℕ → Bool → Card
 card given heard halted = record { given = given; heard = heard; halted = halted }

@@ -1,5 +1,11 @@
-pub mod Cards
-pub mod Faults
-pub mod Errors
-pub mod Outcomes
 pub mod Answered
+pub mod Cards
+pub mod Ends
+pub mod Errors
+pub mod Faults
+pub mod Histories
+pub mod Outcomes
+pub mod Over
+pub mod Runs
+pub mod Standing
+pub mod Turns

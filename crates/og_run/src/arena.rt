@@ -1,13 +1,15 @@
 //! An arena: threads act on one machine under a lock, each by the seat of its process.
 
 ghost use Rattle.std.specs.Prelude.{◌≡◌, ℕ, ◌<◌, Bool, true, false, List, [], length, slice_get, slice_set, Some, IfOk};
-ghost use Rattle.og_board.specs.Histories.{moves_of};
+ghost use Rattle.og_run.specs.Histories.{moves_of};
 ghost use Rattle.og_run.specs.Cards.{Acts, CardFits, SeatsFor, keeper as keeper_of, Position, Lists, card, card_at, gives, holder, listed};
 ghost use Rattle.og_run.specs.declared.rule.Listed.{Listed};
 
+use crate::machine::Machine;
 use crate::rule::{ArenaName, CardName, Gives, OneCardEach, TakesIn, Tell, View};
+use crate::setting::Setting;
+use crate::turn::RunTurn;
 use atomic_table::{Seat as Token, Table};
-use og_board::{Machine, RunTurn, Setting};
 use std::alloc::{AllocError, Global};
 use std::marker::{Brand, Model, PhantomData};
 use std::snapshot::Snapshot;
@@ -28,13 +30,13 @@ pub struct Seat<K: ArenaName> {
 
 impl<K: ArenaName> Model for Seat<K> {
     ghost use Rattle.std.specs.Prelude.{◌≡◌, length};
-    ghost use Rattle.og_board.specs.Histories.{moves_of};
+    ghost use Rattle.og_run.specs.Histories.{moves_of};
     ghost use Rattle.og_run.specs.Cards.{Place, card_in, IsTokenOf};
 
     ghost Value = { Place };
 
     ghost use Rattle.std.specs.Coded.{codes};
-    ghost use Rattle.og_board.specs.Histories.{given_code};
+    ghost use Rattle.og_run.specs.Histories.{given_code};
 
     ghost coded = { Prim.hlevel (codes, given_code) };
 
@@ -81,7 +83,7 @@ impl<K: ArenaName, B: Machine> Model for Desk<K, B> {
     ghost Value = { Position };
 
     ghost use Rattle.std.specs.Coded.{codes};
-    ghost use Rattle.og_board.specs.Histories.{given_code};
+    ghost use Rattle.og_run.specs.Histories.{given_code};
 
     ghost coded = { Prim.hlevel (codes, given_code) };
 
@@ -178,7 +180,7 @@ impl Model for Blank {
     ghost Value = { For };
 
     ghost use Rattle.std.specs.Coded.{codes};
-    ghost use Rattle.og_board.specs.Histories.{given_code};
+    ghost use Rattle.og_run.specs.Histories.{given_code};
 
     ghost coded = { Prim.hlevel (codes, given_code) };
 

@@ -1,7 +1,7 @@
 //! The rule of the seats, and its kinds of step: make, split, join and tell.
 
+use crate::setting::Setting;
 use atomic_table::{Join, Play, Split, TableRule};
-use og_board::Setting;
 use std::collections::LinkedList;
 use std::marker::{Brand, PhantomData};
 

@@ -1,14 +1,16 @@
 //! Runs of an outline.
 
 ghost use Rattle.std.specs.Prelude.{◌≡◌, ℕ, ◌<◌, ◌≤◌, [], None, is_some, IfOk};
-ghost use Rattle.og_board.specs.Histories.{process_count};
-ghost use Rattle.og_board.specs.Over.{OverAt};
+ghost use Rattle.og_run.specs.Histories.{process_count};
+ghost use Rattle.og_run.specs.Over.{OverAt};
 ghost use Rattle.og_run.specs.Outcomes.{IsProvedOutcome};
 ghost use Rattle.og_run.specs.Answered.{Runs};
 
+use crate::board::Board;
 use crate::fault::RunError;
+use crate::outcome::Outcome;
+use crate::proved::ProvedBoard;
 use crate::threads::run_board;
-use og_board::{Board, Outcome, ProvedBoard};
 use og_linear::State;
 use og_pool::Gate;
 use og_theorem::Proved;

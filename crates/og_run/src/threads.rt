@@ -1,13 +1,14 @@
 //! The threads of a run: one for each process.
 
 ghost use Rattle.std.specs.Prelude.{◌≡◌, ℕ, ◌<◌, false, [], slice_get, Some, IfOk};
-ghost use Rattle.og_board.specs.Histories.{IsRun, process_count};
+ghost use Rattle.og_run.specs.Histories.{IsRun, process_count};
 ghost use Rattle.og_run.specs.Cards.{CardFits, Place};
-ghost use Rattle.og_board.specs.Over.{OverAt};
+ghost use Rattle.og_run.specs.Over.{OverAt};
 
 use crate::arena::{Arena, Blank, Seat};
+use crate::machine::Machine;
 use crate::rule::ArenaName;
-use og_board::{Machine, RunTurn};
+use crate::turn::RunTurn;
 use og_pool::Gate;
 use og_threads::{Job, ThreadFault, in_threads};
 use std::alloc::Global;

@@ -18,9 +18,9 @@ use Rattle.og_step.specs.declared.fault.StartError.{StartError}
 use Rattle.og_step.specs.declared.fault.StartError.TheVariants as start_errors
 use Rattle.og_run.specs.Errors.{error_of_start}
 use Rattle.og_step.specs.declared.fault.StartFault.TheVariants as starts
-use Rattle.og_board.specs.Runs.{Given}
-use Rattle.og_board.specs.Ends.{IsOutcome}
-use Rattle.og_board.specs.declared.outcome.Outcome.{Outcome}
+use Rattle.og_run.specs.Runs.{Given}
+use Rattle.og_run.specs.Ends.{IsOutcome}
+use Rattle.og_run.specs.declared.outcome.Outcome.{Outcome}
 use Rattle.og_run.specs.Outcomes.{IsProvedOutcome}
 use Rattle.og_run.specs.Answered.{Runs}
 use Rattle.og_run.specs.declared.fault.RunFault.TheVariants as faults
@@ -29,8 +29,8 @@ use Rattle.og_run.specs.declared.fault.RunError.TheVariants as errors
 use Rattle.og_pool.specs.declared.fault.PoolFault.{PoolFault}
 use Rattle.og_pool.specs.declared.fault.PoolFault.TheVariants as pool
 use Rattle.og_source.specs.Source.{IsSource}
-use Rattle.og_answer.specs.Told.{Says}
-use Rattle.og_answer.specs.declared.answer.Answer.{Answer}
+use Rattle.og_report_text.specs.Told.{Says}
+use Rattle.og_report_text.specs.declared.answer.Answer.{Answer}
 use Rattle.og_running.specs.Words.{Give}
 use Rattle.og_running.specs.Texts.{outcome_text, finish_status}
 use Rattle.og_running.specs.Asked.{IsNote}

@@ -1,7 +1,7 @@
 -- Words that are schedules, and words that are none.
 use Rattle.std.proofs.Common.{◌≡◌, ◌<◌, ◌≤◌, ◌∷◌, [], ℕ, Bool, false, List, length, ap, arith}
 use Rattle.std.specs.Prelude.{◌≢◌, ◌==◌}
-use Rattle.og_numbers.specs.Numbers.{AreNumbers}
+use Rattle.og_io.specs.Numbers.{AreNumbers}
 use Rattle.og_running.specs.Schedules.{IsSchedule}
 
 pub not_empty : (word : List ℕ) (b : Bool) → b ≡ (length word == 0) → b ≡ false → word ≢ []

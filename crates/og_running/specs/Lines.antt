@@ -1,7 +1,7 @@
 -- The line for standard error of a step that a schedule cannot make.
 use Rattle.std.specs.Prelude.{ℕ, suc, ◌==◌, List, Option, codes, if◌then◌else◌}
 use Rattle.std.specs.Fmt.{decimal}
-use Rattle.og_listing.specs.Places.{◌&◌}
+use Rattle.og_report_text.specs.Places.{◌&◌}
 use Rattle.og_running.specs.Texts.{process_text, place_text}
 use Rattle.og_running.specs.declared.hindrance.Hindrance.{Hindrance}
 use Rattle.og_running.specs.declared.hindrance.Hindrance.TheVariants as hindrances

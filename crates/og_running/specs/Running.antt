@@ -5,9 +5,9 @@ use Rattle.og_typed.specs.Erase.{erased}
 use Rattle.og_theorem.specs.Sound.{IsSound, IsSoundErased}
 use Rattle.og_step.specs.Starts.{start_fault}
 use Rattle.og_step.specs.declared.fault.StartFault.{StartFault}
-use Rattle.og_board.specs.Runs.{Given}
-use Rattle.og_board.specs.Ends.{IsOutcome}
-use Rattle.og_board.specs.declared.outcome.Outcome.{Outcome}
+use Rattle.og_run.specs.Runs.{Given}
+use Rattle.og_run.specs.Ends.{IsOutcome}
+use Rattle.og_run.specs.declared.outcome.Outcome.{Outcome}
 use Rattle.og_run.specs.Outcomes.{IsProvedOutcome}
 use Rattle.og_run.specs.Faults.{number_of_fault, name_of_fault, fault_of_start}
 use Rattle.og_run.specs.declared.fault.RunFault.{RunFault}
@@ -16,12 +16,12 @@ use Rattle.og_run.specs.declared.fault.RunError.{RunError}
 use Rattle.og_run.specs.declared.fault.RunError.TheVariants as errors
 use Rattle.og_judge.specs.declared.entry.Entry.{Entry}
 use Rattle.og_judge.specs.Entries.{AreEntries, AreRefused, is_safe, is_unblocked}
-use Rattle.og_listing.specs.Places.{◌&◌}
+use Rattle.og_report_text.specs.Places.{◌&◌}
 use Rattle.og_source.specs.Source.{IsSource}
-use Rattle.og_answer.specs.Line.{opening_text}
-use Rattle.og_answer.specs.Told.{Says, IsTold, IsUnread}
-use Rattle.og_answer.specs.declared.answer.Answer.{Answer}
-use Rattle.og_answer.specs.declared.fault.InputFault.{InputFault}
+use Rattle.og_report_text.specs.Line.{opening_text}
+use Rattle.og_report_text.specs.Told.{Says, IsTold, IsUnread}
+use Rattle.og_report_text.specs.declared.answer.Answer.{Answer}
+use Rattle.og_report_text.specs.declared.fault.InputFault.{InputFault}
 use Rattle.og_running.specs.Words.{Give, IsBadIn}
 use Rattle.og_running.specs.Texts.{outcome_text, finish_status}
 use Rattle.og_running.specs.Asked.{IsNote}

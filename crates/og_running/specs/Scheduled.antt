@@ -4,7 +4,7 @@ use Rattle.og_typed.specs.Syntax.{Program}
 use Rattle.og_step.specs.Starts.{start_fault}
 use Rattle.og_places.specs.Sites.{StatementSite, all_statements}
 use Rattle.og_places.specs.Seen.{IsOneOf}
-use Rattle.og_board.specs.Runs.{Given}
+use Rattle.og_run.specs.Runs.{Given}
 use Rattle.og_running.specs.Schedules.{IsSchedule, number_of, history_of, IsFirstHindered}
 use Rattle.og_running.specs.Asked.{is_of}
 use Rattle.og_running.specs.Lines.{not_made_line}

@@ -1,10 +1,10 @@
 -- Schedules: the processes that are to step, in order, by the numbers under which they are printed.
 use Rattle.std.specs.Prelude.{◌≡◌, ◌≢◌, ◌≤◌, ◌-◌, ◌==◌, ◌||◌, ℕ, Bool, false, if◌then◌else◌, nat_le, List, [], ◌∷◌, length, take, map, slice_get, Some, is_some}
-use Rattle.og_numbers.specs.Numbers.{AreNumbers}
+use Rattle.og_io.specs.Numbers.{AreNumbers}
 use Rattle.og_typed.specs.Syntax.{Program}
-use Rattle.og_board.specs.Runs.{Given}
-use Rattle.og_board.specs.Turns.{IsTurn}
-use Rattle.og_board.specs.declared.turn.RunTurn.TheVariants as turns
+use Rattle.og_run.specs.Runs.{Given}
+use Rattle.og_run.specs.Turns.{IsTurn}
+use Rattle.og_run.specs.declared.turn.RunTurn.TheVariants as turns
 use Rattle.og_running.specs.declared.hindrance.Hindrance.{Hindrance}
 use Rattle.og_running.specs.declared.hindrance.Hindrance.TheVariants as hindrances
 

@@ -1,11 +1,11 @@
 -- What is printed of a run.
 use Rattle.std.specs.Prelude.{ℕ, suc, Option, Some, None, ◌==◌, ℤ, Bool, true, false, if◌then◌else◌, List, [], ◌∷◌, length, codes}
 use Rattle.std.specs.Fmt.{decimal, signed_decimal}
-use Rattle.og_listing.specs.Places.{◌&◌, position_of, position_text}
+use Rattle.og_report_text.specs.Places.{◌&◌, position_of, position_text}
 use Rattle.og_typed.specs.Syntax.{Program}
-use Rattle.og_board.specs.declared.outcome.Finish.{Finish}
-use Rattle.og_board.specs.declared.outcome.Finish.TheVariants.{Finished, Stuck, Limit, Overflow}
-use Rattle.og_board.specs.declared.outcome.Outcome.{Outcome}
+use Rattle.og_run.specs.declared.outcome.Finish.{Finish}
+use Rattle.og_run.specs.declared.outcome.Finish.TheVariants.{Finished, Stuck, Limit, Overflow}
+use Rattle.og_run.specs.declared.outcome.Outcome.{Outcome}
 use Rattle.og_violation.specs.declared.violation.Wrong.{Wrong}
 use Rattle.og_violation.specs.declared.violation.Wrong.TheVariants as wrong
 

@@ -7,7 +7,7 @@ ghost use Rattle.og_running.specs.Lines.{no_process_text, early_text, hindrance_
 
 use crate::hindrance::Hindrance;
 use crate::outcome::printed_number;
-use og_listing::{Places, put_number, put_position};
+use og_report_text::{Places, put_number, put_position};
 use og_violation::Wrong;
 use std::alloc::{AllocError, Global};
 

@@ -3,7 +3,7 @@
 ghost use Rattle.std.specs.Prelude.{◌≡◌, ◌++◌, ◌<◌, ◌^◌, length, true, OnOk, IfOk};
 ghost use Rattle.og_running.specs.Texts.{printed_number, moves_text, history_line, finish_text, finish_line, value_text, values_text, state_line, outcome_text, finish_status};
 
-use og_listing::put_number;
+use og_report_text::put_number;
 use og_run::{Finish, Outcome};
 use og_text::Name;
 use og_typed::Outline;

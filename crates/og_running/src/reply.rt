@@ -1,6 +1,6 @@
 //! What comes of running a program.
 
-use og_answer::Answer;
+use og_report_text::Answer;
 
 /// What is told of a run.
 #[derive(Debug, Drop)]

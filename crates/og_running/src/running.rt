@@ -2,7 +2,7 @@
 
 ghost use Rattle.std.specs.Prelude.{◌≡◌, ◌↔◌, true, map, None, Err, IfOk, IfErr, codes};
 ghost use Rattle.og_source.specs.Refused.{IsNotRead};
-ghost use Rattle.og_answer.specs.Told.{Says, IsUnread};
+ghost use Rattle.og_report_text.specs.Told.{Says, IsUnread};
 ghost use Rattle.og_pool.specs.declared.fault.PoolFault.TheVariants.{Spawn};
 ghost use Rattle.og_run.specs.declared.fault.RunFault.TheVariants as faults;
 ghost use Rattle.og_run.specs.declared.fault.RunError.TheVariants as errors;
@@ -18,12 +18,12 @@ use crate::asking::{copy_of, note_on};
 use crate::outcome::{finish_status, outcome_text};
 use crate::reply::{Ran, Reply};
 use crate::words::{WordsError, values};
-use og_answer::{Answer, put_opening};
 use og_erase::erase;
+use og_io::{RunLimit, Workers};
 use og_judge::{Findings, Proved, judge_outline};
-use og_limits::{RunLimit, Workers};
 use og_linear::State;
 use og_pool::PoolFault;
+use og_report_text::{Answer, put_opening};
 use og_run::{Gate, OpenGate, Outcome, RunError, RunFault, run, run_proved};
 use og_source::{Source, SourceError};
 use og_typed::Outline;

@@ -4,8 +4,8 @@ ghost use Rattle.std.specs.Prelude.{◌≡◌, ◌<◌, ◌≤◌, ◌++◌, ◌
 ghost use Rattle.og_running.specs.Schedules.{IsSchedule, number_of, is_printed, history_of, IsHindered, IsFirstHindered};
 
 use crate::hindrance::Hindrance;
-use og_board::{Board, RunTurn};
-use og_numbers::numbers;
+use og_io::numbers;
+use og_run::{Board, RunTurn};
 use og_typed::Outline;
 use std::alloc::{AllocError, Global};
 

@@ -3,10 +3,9 @@
 use og_engine::{
     Answer, EngineFault, FindReply, Options, checked, engine, erased, found, migrated,
 };
-use og_limits::{Budget, CertVersion, Workers};
-use og_listings::{Form, Listing, Reply, listed};
-use og_output::OutputFault;
+use og_io::{Budget, CertVersion, OutputFault, Workers};
 use og_pool::{OpenGate, PoolFault};
+use og_report_conditions::{Form, Listing, Reply, listed};
 use og_samples::{
     ONE_SKIP, ONE_SKIP_CERTS, ONE_SKIP_CERTS_2, TOLD_ADD, TWO_ADD, TWO_ADD_CERTS, alike,
 };

@@ -2,7 +2,7 @@
 
 use og_engine::{Answer, FindReply, Options, checked, found};
 use og_find::Missing;
-use og_limits::{Budget, CertVersion, Workers};
+use og_io::{Budget, CertVersion, Workers};
 use og_pool::{Gate, OpenGate};
 use std::alloc::Global;
 use std::sync::Wait;

@@ -2,8 +2,7 @@
 
 use crate::devices::{Lapse, OneByOne, Paper, Restless, Spaces};
 use og_engine::{EngineFault, Options, engine, engine_joined};
-use og_input::read_up_to;
-use og_limits::Workers;
+use og_io::{Workers, read_up_to};
 use og_pool::OpenGate;
 use og_samples::{ONE_SKIP, ONE_SKIP_CERTS};
 use std::alloc::Global;
@@ -44,7 +43,11 @@ fn expect_reads<R: Threads + Wait + Sync + Abort>(
     let length = if expected.is_ok() { REPORT.len() } else { 0 };
     for at in 1..of_source + ONE_SKIP_CERTS.len() + 2 {
         let mut source = OneByOne::new(ONE_SKIP.as_bytes(), at, kind);
-        let mut certs = OneByOne::new(ONE_SKIP_CERTS.as_bytes(), at.saturating_sub(of_source), kind);
+        let mut certs = OneByOne::new(
+            ONE_SKIP_CERTS.as_bytes(),
+            at.saturating_sub(of_source),
+            kind,
+        );
         let mut paper = Paper::new(alloc, 0, Lapse::Fails);
         let got = check_from(rt, &mut source, &mut certs, &mut paper);
         assert!(rt; got == expected, "at {at}");
@@ -175,7 +178,11 @@ fn expect_refused<R: Threads + Wait + Sync + Abort, S: Read, C: Read>(
 // Texts of spaces: without end, and as many as a source may have.
 #[test]
 fn spaces(rt: HostRuntime) -> Result<(), Fail> {
-    let (alloc, mut source, mut certs) = (rt.alloc(), ONE_SKIP.as_bytes(), ONE_SKIP_CERTS.as_bytes());
+    let (alloc, mut source, mut certs) = (
+        rt.alloc(),
+        ONE_SKIP.as_bytes(),
+        ONE_SKIP_CERTS.as_bytes(),
+    );
     let line = b"refused: 4 SourceTooLong\n";
     expect_refused(&rt, alloc, &mut Spaces, &mut certs, line);
     let line = b"refused: 23 CertsTooLong\n";

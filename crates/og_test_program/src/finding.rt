@@ -2,7 +2,7 @@
 
 use crate::asked::{certs_by, checked_by};
 use og_find::Missing;
-use og_limits::CertVersion;
+use og_io::CertVersion;
 use og_pool::OpenGate;
 use og_samples::{EQUAL_ADD, TWO_ADD, alike};
 use std::alloc::Global;

@@ -2,7 +2,7 @@
 
 use crate::asked::{certs_by, checked_by};
 use og_engine::Answer;
-use og_limits::CertVersion;
+use og_io::CertVersion;
 use og_pool::OpenGate;
 use og_samples::TWO_ADD;
 use std::alloc::Global;

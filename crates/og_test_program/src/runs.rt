@@ -1,6 +1,6 @@
 //! Runs of sources.
 
-use og_limits::RunLimit;
+use og_io::RunLimit;
 use og_pool::{OpenGate, PoolFault};
 use og_running::{Ran, Reply, ran, ran_by_schedule, ran_proved};
 use og_samples::{TWO_ADD, TWO_ADD_CERTS};

@@ -1,7 +1,7 @@
 //! What is printed of runs whose gates say which process goes first.
 
 use crate::gates::Holds;
-use og_limits::RunLimit;
+use og_io::RunLimit;
 use og_run::Gate;
 use og_running::{Ran, Reply, ran, ran_proved};
 use og_samples::{TOLD_ADD, TWO_ADD, TWO_ADD_CERTS};

@@ -8,7 +8,7 @@ use og_cert_text::CertFile;
 use og_cond::Condition;
 use og_draws::Draws;
 use og_engine::{Options, checked};
-use og_limits::Workers;
+use og_io::Workers;
 use og_pool::check_all;
 use og_samples::{TWO_ADD, TWO_ADD_CERTS, alike};
 use std::alloc::Global;

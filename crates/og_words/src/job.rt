@@ -4,7 +4,7 @@ ghost use Rattle.std.specs.Prelude.{◌≡◌};
 ghost use Rattle.og_words.specs.Jobs.{SaysWrong};
 ghost use Rattle.og_words.specs.declared.job.Usage.TheVariants.{Memory};
 
-use og_limits::{Budget, CertVersion, MomentLimit, RunLimit, Workers};
+use og_io::{Budget, CertVersion, MomentLimit, RunLimit, Workers};
 use std::alloc::{AllocError, AllocFailed, Global};
 
 /// The words that name commands.

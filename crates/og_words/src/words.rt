@@ -10,7 +10,7 @@ use crate::commands::program;
 use crate::job::{Job, Usage, Verb};
 use clap::ArgMatches;
 use clap::error::{Error, ErrorKind};
-use og_limits::{Budget, CertVersion, MomentLimit, RunLimit, Workers};
+use og_io::{Budget, CertVersion, MomentLimit, RunLimit, Workers};
 use std::alloc::{AllocError, Global};
 
 fn verb_of(word: &str) -> Option<Verb>

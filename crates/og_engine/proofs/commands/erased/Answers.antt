@@ -1,7 +1,7 @@
 use Rattle.std.proofs.Common.{IfOk, subst}
 use Rattle.og_typed.specs.Syntax.{Program}
 use Rattle.og_print.specs.Print.{program_text}
-use Rattle.og_answer.specs.Told.{Says}
+use Rattle.og_report_text.specs.Told.{Says}
 use Rattle.og_engine.specs.Commands.{erased_tree}
 use Rattle.og_engine.proofs.Answering.{of_source}
 use Rattle.og_engine.proofs.commands.erased.Goals as goal

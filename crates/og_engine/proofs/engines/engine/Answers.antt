@@ -1,7 +1,7 @@
 use Rattle.std.proofs.Common.{◌≡◌, ◌∙◌, List, ℕ, subst, sym}
 use Rattle.og_judge.specs.Proven.{IsProvenSource}
 use Rattle.og_judge.specs.NeverStuck.{IsNeverStuckSource}
-use Rattle.og_report.specs.Yes.{SaysUnblocked}
+use Rattle.og_json.specs.Yes.{SaysUnblocked}
 use Rattle.og_engine.specs.Answers.{IsChecked}
 use Rattle.og_engine.specs.Inputs.{source_of, certs_of}
 use Rattle.og_engine.proofs.Answering.{warranted, written}

@@ -1,5 +1,5 @@
 use Rattle.std.proofs.Common.{◌∙◌, List, ℕ, subst, sym}
-use Rattle.og_input.specs.Joined.{IsSplit}
+use Rattle.og_io.specs.Joined.{IsSplit}
 use Rattle.og_engine.specs.Inputs.{joined_of}
 use Rattle.og_engine.proofs.Answering.{warranted, written}
 use Rattle.og_engine.proofs.Promised.{wrote_unblocked}

@@ -1,6 +1,6 @@
 use Rattle.std.proofs.Common.{◌≡◌, drop, length, map}
 use Rattle.og_cond.specs.Seen.{seen}
-use Rattle.og_prove.proofs.Answered.{MakesAll}
+use Rattle.og_report_prove.proofs.Answered.{MakesAll}
 use Rattle.og_engine.proofs.proving.tell_all.Given as goal
 
 abbrev pub invariant-loop-i : goal.invariant-loop-i

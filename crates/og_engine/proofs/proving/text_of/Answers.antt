@@ -1,6 +1,6 @@
 use Rattle.std.proofs.Common.{map, codes, subst}
 use Rattle.og_cond.specs.Seen.{seen}
-use Rattle.og_report.specs.Yes.{EndsWith}
+use Rattle.og_json.specs.Yes.{EndsWith}
 use Rattle.og_engine.proofs.AllTold.{text_says}
 use Rattle.og_engine.proofs.proving.text_of.Goals as goal
 

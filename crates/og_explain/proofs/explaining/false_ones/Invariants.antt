@@ -1,5 +1,5 @@
 use Rattle.std.proofs.Common.{◌≡◌, ◌++◌, drop}
-use Rattle.og_wording.specs.Seen.{formulas_of}
+use Rattle.og_report_text.specs.Seen.{formulas_of}
 use Rattle.og_explain.specs.Explained.{false_ones}
 use Rattle.og_explain.proofs.explaining.false_ones.Given as goal
 

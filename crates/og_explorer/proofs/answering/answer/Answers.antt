@@ -1,5 +1,5 @@
 use Rattle.std.proofs.Common.{ap, ◌∙◌}
-use Rattle.og_exploring.specs.declared.totals.Totals.{Totals}
+use Rattle.og_report_explore.specs.declared.totals.Totals.{Totals}
 use Rattle.og_explorer.specs.Explored.{printed, status_of}
 use Rattle.og_explorer.proofs.answering.answer.Goals as goal
 

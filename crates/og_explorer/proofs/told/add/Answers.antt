@@ -1,7 +1,7 @@
 use Rattle.std.proofs.Common.{IfSome, false, refl, sym, subst, map}
 use Rattle.og_cond.specs.Seen.{seen}
 use Rattle.og_explore.specs.Within.{IsWithin}
-use Rattle.og_exploring.specs.Findings.{IsFinding}
+use Rattle.og_report_explore.specs.Findings.{IsFinding}
 use Rattle.og_explorer.specs.declared.told.Told.{Told}
 use Rattle.og_explorer.specs.Told.{IsAdded}
 use Rattle.og_explorer.proofs.Adding.{added_none, added_some}

@@ -3,7 +3,7 @@ use Rattle.std.specs.Prelude.{codes, OnOk}
 use Rattle.og_erase.specs.Collected.{raw_of}
 use Rattle.og_print.specs.Print.{program_text}
 use Rattle.og_typed.specs.Erase.{erased}
-use Rattle.og_wording.specs.Values.{names_text}
+use Rattle.og_report_text.specs.Values.{names_text}
 use Rattle.og_notes.proofs.Joins.{joined, when_ok}
 use Rattle.og_notes.proofs.notes.put_some_auxiliaries.Goals as goal
 

@@ -1,5 +1,5 @@
 use Rattle.std.proofs.Common.{ℕ, List, subst}
-use Rattle.og_listings.specs.Chosen.{IsReply}
+use Rattle.og_report_conditions.specs.Chosen.{IsReply}
 use Rattle.og_program.specs.Served.{FollowsListing}
 use Rattle.og_program.proofs.commands.conditions.Goals as goal
 

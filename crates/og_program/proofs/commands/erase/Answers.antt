@@ -1,5 +1,5 @@
 use Rattle.std.proofs.Common.{ℕ, List}
-use Rattle.og_answer.specs.declared.answer.Answer.{Answer}
+use Rattle.og_report_text.specs.declared.answer.Answer.{Answer}
 use Rattle.og_engine.specs.Commands.{IsErased}
 use Rattle.og_remark.specs.Remarks.{IsSourceRemark}
 use Rattle.og_program.specs.Served.{Remarks}

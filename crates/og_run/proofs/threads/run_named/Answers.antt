@@ -1,7 +1,7 @@
 use Rattle.std.proofs.Common.{◌<◌, sym, subst}
-use Rattle.og_board.specs.Runs.{Given}
-use Rattle.og_board.specs.Histories.{process_count}
-use Rattle.og_board.specs.Over.{OverAt}
+use Rattle.og_run.specs.Runs.{Given}
+use Rattle.og_run.specs.Histories.{process_count}
+use Rattle.og_run.specs.Over.{OverAt}
 use Rattle.og_run.proofs.Ending.{back_at, over_at}
 use Rattle.og_run.proofs.threads.run_named.Goals as goal
 

@@ -1,6 +1,6 @@
 use Rattle.std.proofs.Common.{◌≡◌, ◌∙◌, ℕ, List, length, ap, inr, subst}
-use Rattle.og_board.specs.Runs.{Given}
-use Rattle.og_board.specs.Standing.{Standing}
+use Rattle.og_run.specs.Runs.{Given}
+use Rattle.og_run.specs.Standing.{Standing}
 use Rattle.og_running.specs.Schedules.{history_of}
 use Rattle.og_running.specs.Running.{given, EndsAsked}
 use Rattle.og_running.proofs.stepping.stepped.Goals as goal

@@ -2,8 +2,8 @@ use Rattle.std.proofs.Common.{ℕ, List, subst, vec_len}
 use Rattle.std.specs.Io.KnownBytes.{Appends}
 use Rattle.og_finder.specs.Texts.{lines_from}
 use Rattle.og_finder.proofs.Texts.{whole_text}
-use Rattle.og_output.specs.Written.{AppendsFront}
-use Rattle.og_output.proofs.Passing.{failed, nothing_yet, made_front, whole_written, last_stopped}
+use Rattle.og_io.specs.Written.{AppendsFront}
+use Rattle.og_io.proofs.Passing.{failed, nothing_yet, made_front, whole_written, last_stopped}
 use Rattle.og_finder.proofs.writing.Writing.write.Goals as goal
 
 pub returns-clause-written : goal.returns-clause-written

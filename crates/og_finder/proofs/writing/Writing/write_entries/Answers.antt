@@ -1,7 +1,7 @@
 use Rattle.std.proofs.Common.{◌≡◌, ◌<◌, ◌-◌, [], vec_len, ap, arith}
 use Rattle.og_finder.specs.Texts.{lines_from}
 use Rattle.og_finder.proofs.Texts.{next_lines, no_more_lines}
-use Rattle.og_output.proofs.Passing.{failed, held_back, goes_on, ended, stopped}
+use Rattle.og_io.proofs.Passing.{failed, held_back, goes_on, ended, stopped}
 use Rattle.og_finder.proofs.writing.Writing.write_entries.Goals as goal
 
 pub loop-index-init : goal.loop-index-init

@@ -1,6 +1,6 @@
 use Rattle.std.proofs.Common.{◌-◌, vec_len}
 use Rattle.og_finder.specs.Texts.{lines_from}
-use Rattle.og_output.proofs.Passing.{HasPassed}
+use Rattle.og_io.proofs.Passing.{HasPassed}
 use Rattle.og_finder.proofs.writing.Writing.write_entries.Given as goal
 
 abbrev pub invariant-loop-index : goal.invariant-loop-index

@@ -1,4 +1,4 @@
-use Rattle.og_output.proofs.Passing.{failed, made_front}
+use Rattle.og_io.proofs.Passing.{failed, made_front}
 use Rattle.og_finder.proofs.writing.Writing.write_entry.Goals as goal
 
 pub returns-in_err-write_long-clause-unfinished : goal.returns-in_err-write_long-clause-unfinished

@@ -1,5 +1,5 @@
 use Rattle.std.proofs.Common.{ℕ, List, subst}
-use Rattle.og_input.specs.Joined.{IsSplit}
+use Rattle.og_io.specs.Joined.{IsSplit}
 use Rattle.og_program.proofs.program.Program.joined.Goals as goal
 
 pub returns-clause-came : goal.returns-clause-came

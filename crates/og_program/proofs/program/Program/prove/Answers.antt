@@ -1,5 +1,5 @@
 use Rattle.std.proofs.Common.{ℕ, List, map, subst}
-use Rattle.og_prover.specs.Proof.{IsReply, WarrantsReply}
+use Rattle.og_command_prove.specs.Proof.{IsReply, WarrantsReply}
 use Rattle.og_program.specs.Served.{FollowsProving}
 use Rattle.og_program.proofs.program.Program.prove.Goals as goal
 

@@ -1,5 +1,5 @@
 use Rattle.std.proofs.Common.{ℕ, List, map, subst}
-use Rattle.og_reaching.specs.Proving.{IsReply}
+use Rattle.og_command_prove.specs.Proving.{IsReply}
 use Rattle.og_program.specs.Served.{FollowsRuns}
 use Rattle.og_program.proofs.program.Program.prove_runs.Goals as goal
 

@@ -1,5 +1,5 @@
 use Rattle.std.proofs.Common.{ℕ, List, map, subst}
-use Rattle.og_showing.specs.Running.{IsShowingRuns}
+use Rattle.og_command_prove.specs.Running.{IsShowingRuns}
 use Rattle.og_remark.specs.Remarks.{IsConditionsRemark}
 use Rattle.og_remark.specs.Values.{IsValueRemark}
 use Rattle.og_remark.specs.declared.values.Gives.TheVariants as gives

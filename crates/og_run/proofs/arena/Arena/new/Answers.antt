@@ -1,5 +1,5 @@
 use Rattle.std.proofs.Common.{◌<◌, ap, ◌∙◌, arith, ℕ, List}
-use Rattle.og_board.specs.Histories.{process_count}
+use Rattle.og_run.specs.Histories.{process_count}
 use Rattle.og_run.specs.declared.rule.View.{View}
 use Rattle.og_run.proofs.Opening.{handed_inside, handed_next, first_seats_push}
 use Rattle.og_run.proofs.arena.Arena.new.Goals as goal

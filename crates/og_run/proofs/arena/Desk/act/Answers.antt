@@ -1,6 +1,6 @@
 use Rattle.std.proofs.Common.{◌≡◌, ◌<◌, sym, ap, ◌∙◌, subst, refl, ℕ, List}
-use Rattle.og_board.specs.Runs.{Given}
-use Rattle.og_board.specs.Histories.{process_count}
+use Rattle.og_run.specs.Runs.{Given}
+use Rattle.og_run.specs.Histories.{process_count}
 use Rattle.og_run.specs.declared.rule.Card.{Card}
 use Rattle.og_run.specs.declared.rule.View.{View}
 use Rattle.og_run.specs.Cards.{Place, Position, Acts, card_at, gives, card_in}

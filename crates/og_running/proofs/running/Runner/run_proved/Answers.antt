@@ -1,7 +1,7 @@
 use Rattle.std.proofs.Common.{ℕ, IfOk, subst}
 use Rattle.og_theorem.specs.Sound.{IsSound}
 use Rattle.og_typed.specs.Syntax.{Program}
-use Rattle.og_answer.specs.Told.{Says}
+use Rattle.og_report_text.specs.Told.{Says}
 use Rattle.og_running.specs.Texts.{outcome_text, finish_status}
 use Rattle.og_running.specs.Running.{given, TellsProved}
 use Rattle.og_running.proofs.Answering.{quiet, proved_told}

@@ -1,6 +1,0 @@
-pub mod Runs
-pub mod Histories
-pub mod Turns
-pub mod Standing
-pub mod Ends
-pub mod Over

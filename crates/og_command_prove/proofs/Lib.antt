@@ -1,0 +1,6 @@
+pub mod Answered
+pub mod Lists
+pub mod PagePromised
+pub mod Promised
+pub mod Told
+pub mod Warranted

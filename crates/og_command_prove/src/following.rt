@@ -1,0 +1,89 @@
+//! What is told of the conditions of an outline, which are searched, and of the runs from some starts.
+
+ghost use Rattle.std.specs.Prelude.{◌≡◌, ◌<◌, ◌≤◌, length, map, IfOk, IfErr};
+ghost use Rattle.og_cond.specs.Limits.{condition_limit};
+ghost use Rattle.og_cond.specs.Seen.{seen};
+ghost use Rattle.og_pool.specs.declared.fault.PoolFault.TheVariants.{Spawn};
+ghost use Rattle.og_finder.specs.Findings.{AreVerdicts};
+ghost use Rattle.og_explore.specs.From.{HaveLength};
+ghost use Rattle.og_command_prove.specs.Followed.{IsFollowed};
+
+use crate::showing::{Shows, show_all};
+use crate::starting::starts;
+use og_cond::Condition;
+use og_engine::Search;
+use og_explore::{Range, gather};
+use og_finder::{Findings, examine_all};
+use og_pool::{Gate, PoolFault};
+use og_report_runs::Explored;
+use og_typed::Outline;
+use std::alloc::{AllocError, Global};
+use std::sync::Wait;
+use std::thread::Threads;
+
+/// What is told of the conditions of an outline and of the runs to each, and how far the runs were
+/// followed.
+#[derive(Drop)]
+pub struct Followed<'a> {
+    /// What is told of each condition and of the runs to it.
+    pub shows: Shows<'a>,
+    /// How far the runs were followed.
+    pub explored: Explored,
+}
+
+// The same by what is found of the conditions, from the starts within these lists of ranges.
+fn gathered<'a>(
+    alloc: Global,
+    outline: &'a Outline,
+    conditions: &[Condition<'a>],
+    findings: &Findings,
+    lists: &[Vec<Range>],
+    limit: u32,
+) -> Result<Followed<'a>, AllocError>
+    requires verdicts { AreVerdicts (map seen conditions.now) findings.now }
+    requires lists { HaveLength outline.now.vars (map (λ l. l.items) lists.now) }
+    ensures followed { IfOk result (λ f. IsFollowed outline.now (map seen conditions.now) f.shows.told.items f.shows.runs.items f.explored) }
+    ensures told { IfOk result (λ f. length f.shows.told.items ≡ length conditions.now) }
+    ensures runs { IfOk result (λ f. length f.shows.runs.items ≡ length conditions.now) }
+{
+    let reach = gather(alloc, outline, lists, limit)?;
+    let shows = show_all(alloc, outline, lists, &reach, conditions, findings)?;
+    let explored = Explored {
+        starts: reach.starts,
+        moments: reach.moments.len(),
+        complete: reach.complete,
+    };
+    Ok(Followed { shows, explored })
+}
+
+/// What searches tell of the conditions of an outline, as `og_engine::proved`, and of each false one
+/// whether a run gets to a state in which it is false: among at most `limit` moments of the runs from
+/// the starts within the ranges that are given, as in an exploration. Where none is given, the starts
+/// are one that a search finds for the precondition, and for each false condition two more, up to 64.
+///
+/// # Errors
+///
+/// `Spawn`, of two workers or more, where a thread could not be started. `Memory` where an allocation
+/// was refused.
+pub fn follow<'a, G: Gate, H: Threads + Wait + Sync>(
+    rt: &H,
+    alloc: Global,
+    outline: &'a Outline,
+    conditions: &[Condition<'a>],
+    given: &[Option<Range>],
+    search: Search,
+    limit: u32,
+    gate: &G,
+) -> Result<Followed<'a>, PoolFault>
+    requires { length conditions.now ≤ condition_limit }
+    ensures followed { IfOk result (λ f. IsFollowed outline.now (map seen conditions.now) f.shows.told.items f.shows.runs.items f.explored) }
+    ensures told { IfOk result (λ f. length f.shows.told.items ≡ length conditions.now) }
+    ensures runs { IfOk result (λ f. length f.shows.runs.items ≡ length conditions.now) }
+    ensures spawn { IfErr result (λ e. e ≡ Spawn → 1 < search.workers) }
+{
+    let (budget, workers) = (search.budget.facts(), search.workers.count());
+    let findings = examine_all(rt, alloc, conditions, budget, workers, gate)?;
+    let lists = starts(alloc, outline, conditions.len(), given, &findings)?;
+    let followed = gathered(alloc, outline, conditions, &findings, &lists, limit)?;
+    Ok(followed)
+}

@@ -1,8 +1,0 @@
-use Rattle.std.proofs.Common.{◌≡◌, ◌+◌, ◌++◌, drop}
-use Rattle.og_exploring.specs.Table.{row_lines}
-use Rattle.og_exploring.proofs.table.put_rows.Given as goal
-
-abbrev pub invariant-loop-index : goal.invariant-loop-index
-invariant-loop-index l =
-    l.text.items ++ row_lines l.page.names.now l.page.source.now l.page.main l.widths (l.index + 1) (drop l.index l.rows)
-    ≡ l.initial.text.items ++ row_lines l.page.names.now l.page.source.now l.page.main l.widths 1 l.rows

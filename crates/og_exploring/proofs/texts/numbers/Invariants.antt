@@ -1,6 +1,0 @@
-use Rattle.std.proofs.Common.{◌≡◌}
-use Rattle.og_exploring.specs.Texts.{numbers}
-use Rattle.og_exploring.proofs.texts.numbers.Given as goal
-
-abbrev pub invariant-loop-var : goal.invariant-loop-var
-invariant-loop-var l = l.vars.items ≡ numbers l.var

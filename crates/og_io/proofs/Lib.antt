@@ -1,0 +1,4 @@
+pub mod Adding
+pub mod Passing
+pub mod Taking
+pub mod Writes

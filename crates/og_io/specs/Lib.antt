@@ -1,0 +1,4 @@
+pub mod Joined
+pub mod Numbers
+pub mod Reading
+pub mod Written

@@ -1,7 +1,0 @@
-use Rattle.std.proofs.Common.{◌≡◌, ◌-◌, ◌++◌}
-use Rattle.og_page.specs.Table.{each_text}
-use Rattle.og_lanes.specs.Lanes.{lane_head}
-use Rattle.og_lanes.proofs.lanes.put_lane_heads.Given as goal
-
-abbrev pub invariant-loop-process : goal.invariant-loop-process
-invariant-loop-process l = l.text.items ++ each_text lane_head l.process (l.count - l.process) ≡ l.initial.text.items ++ each_text lane_head 0 l.count

@@ -1,3 +1,0 @@
-pub mod Marking
-pub mod Steps
-pub mod Targeting

@@ -1,6 +1,0 @@
-use Rattle.std.proofs.Common.{◌≡◌, ◌-◌, ◌++◌}
-use Rattle.og_page.specs.Table.{each_text, cell_text}
-use Rattle.og_page.proofs.table.put_cells.Given as goal
-
-abbrev pub invariant-loop-process : goal.invariant-loop-process
-invariant-loop-process l = l.text.items ++ each_text (cell_text l.clashes.wrong.now l.clashes.unknown.now) l.process (l.count - l.process) ≡ l.initial.text.items ++ each_text (cell_text l.clashes.wrong.now l.clashes.unknown.now) 0 l.count

@@ -1,4 +1,0 @@
-pub mod Floats
-pub mod Puts
-pub mod Says
-pub mod Texts

@@ -1,4 +1,0 @@
-pub mod Answered
-pub mod Lists
-pub mod Promised
-pub mod Told

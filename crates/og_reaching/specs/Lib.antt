@@ -1,3 +1,0 @@
-pub mod Followed
-pub mod Proving
-pub mod Shown

@@ -1,0 +1,4 @@
+pub mod Loops
+mod Pieces
+pub mod Refusing
+mod Sums

@@ -1,0 +1,9 @@
+use Rattle.std.proofs.Common.{◌≡◌, ◌++◌, [], drop, map}
+use Rattle.og_cond.specs.Seen.{hypothesis_of}
+use Rattle.og_report_conditions.specs.Triples.{hypotheses_text}
+use Rattle.og_report_conditions.proofs.parts.put_hypotheses.Given as goal
+
+abbrev pub invariant-loop-hypothesis : goal.invariant-loop-hypothesis
+invariant-loop-hypothesis l =
+    l.text.items ++ hypotheses_text l.names l.least l.between (map hypothesis_of (drop l.hypothesis-index l.hypotheses))
+    ≡ l.initial.text.items ++ hypotheses_text l.names l.least [] (map hypothesis_of l.hypotheses)

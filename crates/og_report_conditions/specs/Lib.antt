@@ -1,0 +1,4 @@
+pub mod Chosen
+pub mod Listings
+pub mod Script
+pub mod Triples

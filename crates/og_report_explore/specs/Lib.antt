@@ -1,0 +1,5 @@
+pub mod Findings
+pub mod Json
+pub mod Table
+pub mod Texts
+pub mod Totals

@@ -1,0 +1,131 @@
+//! The condition that is false where a run goes wrong.
+
+ghost use Rattle.std.specs.Prelude.{◌≡◌, if◌then◌else◌, map, IfOk, IfSome, IsTrue};
+ghost use Rattle.og_cond.specs.Seen.{seen};
+ghost use Rattle.og_find.specs.Found.{IsFalseAt};
+ghost use Rattle.og_report_explore.specs.Findings.{IsBlame};
+
+use crate::finding::{Blame, Fault};
+use og_cond::{Condition, Kind};
+use og_find::{Verdict, is_verdict};
+use og_linear::State;
+use og_places::Index;
+use std::alloc::{AllocError, Global};
+
+/// Where a run goes wrong: where its last step began, and what is wrong then.
+#[derive(Clone, Copy)]
+pub(crate) struct Scene<'b, 'a> {
+    pub(crate) index: &'b Index<'a>,
+    /// The byte offset of the last statement.
+    pub(crate) step_at: Option<u32>,
+    pub(crate) fault: &'b Fault<'a>,
+}
+
+impl<'b, 'a> Scene<'b, 'a> {
+    // The byte offset of the assertion that is false.
+    fn note_at(&self) -> Option<u32> {
+        match self.fault {
+            Fault::Assertion(_, note, _) => Some(note.at),
+            Fault::Post(note, _) => Some(note.at),
+            Fault::Overflow(..) | Fault::Stuck(_) => None,
+        }
+    }
+
+    // The byte offset of the statement that overflows.
+    fn next_at(&self) -> Option<u32> {
+        match self.fault {
+            Fault::Overflow(_, item, _, _) => Some(item.at),
+            _ => None,
+        }
+    }
+
+    // Where the assertion there leads on to.
+    fn leads_to(&self, at: u32) -> Option<u32> {
+        Some(self.index.note(at)?.leads?.at)
+    }
+
+    // Whether the condition is one of this step and place, before the step or after it.
+    fn side(&self, condition: &Condition) -> Option<bool> {
+        let note_at = self.note_at();
+        let at = Some(condition.at);
+        let (before, is_here) = match condition.kind {
+            Kind::Step | Kind::Then | Kind::Else | Kind::Enter | Kind::Leave => {
+                (true, note_at.is_some() && at == self.step_at)
+            }
+            Kind::Interfere => {
+                (
+                    true,
+                    self.step_at.is_some() && condition.action_at == self.step_at && at == note_at,
+                )
+            }
+            Kind::Join | Kind::Again => {
+                (
+                    false,
+                    note_at.is_some() && self.leads_to(condition.at) == note_at,
+                )
+            }
+            Kind::Prologue | Kind::Start | Kind::End | Kind::Epilogue => (false, at == note_at),
+            Kind::Range => (false, at == self.next_at()),
+            Kind::Blocking => (false, matches!(self.fault, Fault::Stuck(_))),
+        };
+        if is_here { Some(before) } else { None }
+    }
+}
+
+// Whether an evaluation shows that the condition is false in the state.
+fn is_false(alloc: Global, condition: &Condition, state: &State) -> Result<bool, AllocError>
+    ensures { IfOk result (λ yes. IsTrue yes → IsFalseAt (seen condition.now) state.now) }
+{
+    let copy = State::new(Vec::from_slice(alloc, state.as_slice())?);
+    is_verdict(alloc, condition, &Verdict::False(copy))
+}
+
+// Whether the condition is one of the scene, and false there; and if so, whether before the step.
+fn is_blamed(
+    alloc: Global,
+    scene: Scene,
+    condition: &Condition,
+    before: &State,
+    last: &State,
+) -> Result<Option<bool>, AllocError>
+    ensures { IfOk result (λ found. IfSome found (λ side. IsFalseAt (seen condition.now) (if side then before.now else last.now))) }
+{
+    let Some(side) = scene.side(condition) else {
+        return Ok(None);
+    };
+    let state = if side { before } else { last };
+    if is_false(alloc, condition, state)? {
+        Ok(Some(side))
+    } else {
+        Ok(None)
+    }
+}
+
+/// The first condition of the scene that is false in the state before its step or in the last one.
+/// Nothing is promised of which condition that is: it is evaluated.
+///
+/// # Errors
+///
+/// An allocation was refused.
+pub(crate) fn blame(
+    alloc: Global,
+    scene: Scene,
+    conditions: &[Condition],
+    before: &State,
+    last: &State,
+) -> Result<Option<Blame>, AllocError>
+    ensures { IfOk result (λ found. IfSome found (IsBlame (map seen conditions.now) before.now last.now)) }
+{
+    for index in 0..conditions.len() {
+        let condition = &conditions[index];
+        if let Some(side) = is_blamed(alloc, scene, condition, before, last)? {
+            return Ok(Some(Blame {
+                number: index + 1,
+                kind: condition.kind,
+                action_at: condition.action_at,
+                before: side,
+            }));
+        }
+    }
+    Ok(None)
+}

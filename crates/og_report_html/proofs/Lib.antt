@@ -1,0 +1,4 @@
+pub mod Charts
+pub mod Marking
+pub mod Steps
+pub mod Targeting

@@ -1,0 +1,11 @@
+pub mod Articles
+pub mod Escapes
+pub mod Findings
+pub mod Lanes
+pub mod Marks
+pub mod Numbers
+pub mod Page
+pub mod Source
+pub mod Table
+pub mod Targets
+pub mod Totals

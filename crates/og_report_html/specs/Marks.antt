@@ -1,0 +1,79 @@
+-- What is known of a place in the source, by what is told of the conditions.
+use Rattle.std.specs.Prelude.{ℕ, ◌+◌, ◌==◌, List, [], ◌∷◌, Bool, true, false, Option, Some, None}
+use Rattle.std.specs.Ordering.{nat_cmp}
+use Rattle.std.specs.BTreeMap.{BTreeMap, get_by}
+use Rattle.og_typed.specs.Plain.{noted}
+use Rattle.og_cond.specs.Condition.{Condition}
+use Rattle.og_explain.specs.declared.explanation.Fault.{Fault}
+use Rattle.og_explain.specs.declared.explanation.Fault.TheVariants as fault
+use Rattle.og_report_prove.specs.declared.telling.Told.{Told}
+use Rattle.og_report_prove.specs.declared.telling.Told.TheVariants as told
+use Rattle.og_report_html.specs.declared.marks.Mark.{Mark}
+use Rattle.og_report_html.specs.declared.marks.Mark.TheVariants as mark
+use Rattle.og_report_html.specs.declared.target.Target.{Target}
+
+-- ---- where a condition is told
+
+-- one that is false at the assertion that is false in the state of its block, else at its own place
+abbrev pub fault_place : Condition → Fault → ℕ
+fault_place c (fault.False note found) = (noted note.now).at
+fault_place c (fault.TooLarge x v) = c.at
+fault_place c (fault.Blocked stands) = c.at
+
+-- of one that is open at the assertion to which it leads
+abbrev pub told_place : Condition → Told → Target → ℕ
+told_place c told.Proved g = g.goal
+told_place c (told.False block) g = fault_place c block.explanation.fault
+told_place c told.Open g = g.goal
+
+-- and at the action of which it speaks
+abbrev pub is_action : ℕ → Option ℕ → Bool
+is_action at None = false
+is_action at (Some action) = at == action
+
+-- ---- the mark of a place
+
+-- what is told of a condition with a number: one that is proved makes no mark
+abbrev pub mark_of : ℕ → Told → Option Mark
+mark_of n told.Proved = None
+mark_of n (told.False block) = Some (mark.False n)
+mark_of n told.Open = Some (mark.Open n)
+
+abbrev pub after_open : ℕ → Mark → Mark
+after_open k (mark.False n) = mark.False n
+after_open k (mark.Open n) = mark.Open k
+
+-- of two, the first one that is false, else the first one that is open
+abbrev pub joined : Option Mark → Mark → Mark
+joined None m = m
+joined (Some (mark.False k)) m = mark.False k
+joined (Some (mark.Open k)) m = after_open k m
+
+abbrev pub with_mark : Option Mark → Option Mark → Option Mark
+with_mark None old = old
+with_mark (Some m) old = Some (joined old m)
+
+-- where it is told at the place
+abbrev pub marked : Bool → Option Mark → Option Mark → Option Mark
+marked false m old = old
+marked true m old = with_mark m old
+
+-- with a condition more
+abbrev pub with_told : ℕ → ℕ → Condition → Told → Target → Option Mark → Option Mark
+with_told at n c t g old = marked (is_action at c.action_at) (mark_of n t) (marked (at == told_place c t g) (mark_of n t) old)
+
+-- with these, numbered on
+abbrev pub with_all : ℕ → Option Mark → ℕ → List Condition → List Told → List Target → Option Mark
+with_all at old n [] ts gs = old
+with_all at old n (c ∷ cs) [] gs = old
+with_all at old n (c ∷ cs) (t ∷ ts) [] = old
+with_all at old n (c ∷ cs) (t ∷ ts) (g ∷ gs) = with_all at (with_told at n c t g old) (n + 1) cs ts gs
+
+-- of the conditions that are told at a byte offset, the first one that is false, else the first one that is open
+abbrev pub mark_at : List Condition → List Told → List Target → ℕ → Option Mark
+mark_at cs ts gs at = with_all at None 1 cs ts gs
+
+-- ---- the words of the contracts of private functions
+
+abbrev pub found : ℕ → BTreeMap ℕ Mark → Option Mark
+found at marks = get_by (nat_cmp at) marks

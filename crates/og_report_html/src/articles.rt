@@ -1,0 +1,212 @@
+//! A block for each condition that is not proved.
+
+ghost use Rattle.std.specs.Prelude.{◌≡◌, ◌+◌, ◌++◌, ℕ, List, [], length, map, Some, None, IfOk, OnOk};
+ghost use Rattle.og_text.specs.Place.{line_at};
+ghost use Rattle.og_cond.specs.Seen.{seen};
+ghost use Rattle.og_cert_read.specs.Firsts.{found as number_of};
+ghost use Rattle.og_report_prove.specs.Effects.{after_told};
+ghost use Rattle.og_report_html.specs.Articles.{beneath_at, line_link, step_place, step_link, links_text, article_start, article_end, article, printed, article_of, article_text, articles_text};
+
+use crate::escapes::put_escaped;
+use crate::finding::Finding;
+use crate::marks::told_place;
+use crate::target::Target;
+use og_cond::Condition;
+use og_report_prove::{Firsts, Page, Told, put_told};
+use og_report_text::{Places, put_number};
+use std::alloc::{AllocError, Global};
+
+/// What the blocks are written with.
+#[derive(Clone, Copy)]
+pub(crate) struct Frame<'a, 'b> {
+    /// Whether the source is UTF-8.
+    pub(crate) utf8: bool,
+    /// The names and the places.
+    pub(crate) page: Page<'a>,
+    /// What stands beneath the blocks of the first conditions, as HTML.
+    pub(crate) beneath: &'b [Vec<u8>],
+}
+
+impl<'a, 'b> Frame<'a, 'b> {
+    // What stands beneath the block of the condition at the index.
+    fn beneath(&self, index: usize) -> &'b [u8]
+        ensures { result.now ≡ beneath_at (map (λ t. t.items) self.now.beneath.now) index }
+    {
+        match self.beneath.get(index) {
+            Some(text) => text,
+            None => b"",
+        }
+    }
+}
+
+// A link to a line of the source.
+fn put_line_link(text: &mut Vec<u8>, line: u32) -> Result<(), AllocError>
+    ensures { OnOk result (text.new.items ≡ text.old.items ++ line_link line) }
+{
+    text.extend_from_slice(b"<a href=#L")?;
+    put_number(text, line as u128)?;
+    text.extend_from_slice(b">line ")?;
+    put_number(text, line as u128)?;
+    text.extend_from_slice(b"</a>")
+}
+
+// A link to the line of the step, where it is another one.
+fn put_step_link(text: &mut Vec<u8>, told: u32, step: u32) -> Result<(), AllocError>
+    ensures { OnOk result (text.new.items ≡ text.old.items ++ step_link told step) }
+{
+    if told == step {
+        return Ok(());
+    }
+    text.extend_from_slice(b", step at ")?;
+    put_line_link(text, step)
+}
+
+// Links to the lines where the condition is told, and where its step is.
+fn put_links(
+    text: &mut Vec<u8>,
+    places: &Places,
+    condition: &Condition,
+    told: &Told,
+    target: &Target,
+) -> Result<(), AllocError>
+    ensures { OnOk result (text.new.items ≡ text.old.items ++ links_text places.now (seen condition.now) told.now target.now) }
+{
+    let told = places.position(told_place(condition, told, target)).line;
+    let step = places
+        .position(condition.action_at.unwrap_or(condition.at))
+        .line;
+    put_line_link(text, told)?;
+    put_step_link(text, told, step)
+}
+
+fn put_article_start(text: &mut Vec<u8>, number: u128, finding: Finding) -> Result<(), AllocError>
+    ensures { OnOk result (text.new.items ≡ text.old.items ++ article_start number finding) }
+{
+    text.extend_from_slice(b"<article id=c")?;
+    put_number(text, number)?;
+    text.extend_from_slice(b" class=")?;
+    finding.put_word(text)?;
+    text.extend_from_slice(b"><h3>Condition ")?;
+    put_number(text, number)?;
+    text.extend_from_slice(b": ")?;
+    finding.put_word(text)?;
+    text.extend_from_slice(b"</h3>\n<pre>")
+}
+
+fn put_article_end(
+    text: &mut Vec<u8>,
+    beneath: &[u8],
+    places: &Places,
+    condition: &Condition,
+    told: &Told,
+    target: &Target,
+) -> Result<(), AllocError>
+    ensures { OnOk result (text.new.items ≡ text.old.items ++ article_end beneath.now (links_text places.now (seen condition.now) told.now target.now)) }
+{
+    text.extend_from_slice(b"</pre>\n")?;
+    text.extend_from_slice(beneath)?;
+    text.extend_from_slice(b"<p>")?;
+    put_links(text, places, condition, told, target)?;
+    text.extend_from_slice(b"</p></article>\n")
+}
+
+// What `prove` prints of a condition.
+fn printed(
+    alloc: Global,
+    page: Page,
+    firsts: &mut Firsts,
+    number: u128,
+    condition: &Condition,
+    told: &Told,
+) -> Result<Vec<u8>, AllocError>
+    requires { page.origins.now.places.now ≡ page.origins.now.source.now }
+    ensures text { IfOk result (λ t. t.items ≡ printed page.entry.names.now page.entry.origins.now.source.now page.entry.origins.now.rows (λ t. number_of t firsts.old) number (seen condition.now) told.now) }
+    ensures firsts { IfOk result (λ r. (t : List ℕ) → number_of t firsts.new
+        ≡ after_told page.entry.names.now page.entry.origins.now.source.now page.entry.origins.now.rows told.now t number (number_of t firsts.old)) }
+{
+    let mut text = Vec::new(alloc);
+    put_told(&mut text, firsts, page, number, condition, Some(0), told)?;
+    Ok(text)
+}
+
+// The block of a condition that is not proved.
+fn put_block(
+    text: &mut Vec<u8>,
+    firsts: &mut Firsts,
+    frame: Frame,
+    index: usize,
+    condition: &Condition,
+    told: &Told,
+    target: &Target,
+    finding: Finding,
+) -> Result<(), AllocError>
+    requires { frame.page.origins.now.places.now ≡ frame.page.origins.now.source.now }
+    ensures text { OnOk result (text.new.items ≡ text.old.items ++ article_of frame.entry.utf8 (map (λ t. t.items) frame.entry.beneath.now) frame.entry.page.names.now frame.entry.page.origins.now.source.now frame.entry.page.origins.now.rows (λ t. number_of t firsts.old) (index + 1) (seen condition.now) told.now target.now (Some finding)) }
+    ensures firsts { OnOk result ((t : List ℕ) → number_of t firsts.new
+        ≡ after_told frame.entry.page.names.now frame.entry.page.origins.now.source.now frame.entry.page.origins.now.rows told.now t (index + 1) (number_of t firsts.old)) }
+{
+    let alloc = *text.allocator();
+    let number = index as u128 + 1;
+    let printed = printed(alloc, frame.page, firsts, number, condition, told)?;
+    put_article_start(text, number, finding)?;
+    put_escaped(text, frame.utf8, &printed)?;
+    let beneath = frame.beneath(index);
+    put_article_end(
+        text,
+        beneath,
+        frame.page.origins.places,
+        condition,
+        told,
+        target,
+    )
+}
+
+// The same, but nothing of one that is proved.
+fn put_article(
+    text: &mut Vec<u8>,
+    firsts: &mut Firsts,
+    frame: Frame,
+    index: usize,
+    condition: &Condition,
+    told: &Told,
+    target: &Target,
+) -> Result<(), AllocError>
+    requires { frame.page.origins.now.places.now ≡ frame.page.origins.now.source.now }
+    ensures text { OnOk result (text.new.items ≡ text.old.items ++ article_text frame.entry.utf8 (map (λ t. t.items) frame.entry.beneath.now) frame.entry.page.names.now frame.entry.page.origins.now.source.now frame.entry.page.origins.now.rows (λ t. number_of t firsts.old) (index + 1) (seen condition.now) told.now target.now) }
+    ensures firsts { OnOk result ((t : List ℕ) → number_of t firsts.new
+        ≡ after_told frame.entry.page.names.now frame.entry.page.origins.now.source.now frame.entry.page.origins.now.rows told.now t (index + 1) (number_of t firsts.old)) }
+{
+    match Finding::of(told) {
+        None => Ok(()),
+        Some(finding) => put_block(text, firsts, frame, index, condition, told, target, finding),
+    }
+}
+
+/// Adds a block for each condition that is not proved, numbered from 1.
+pub(crate) fn put_articles(
+    text: &mut Vec<u8>,
+    frame: Frame,
+    conditions: &[Condition],
+    told: &[Told],
+    targets: &[Target],
+) -> Result<(), AllocError>
+    requires places { frame.page.origins.now.places.now ≡ frame.page.origins.now.source.now }
+    requires each { length told.now ≡ length conditions.now }
+    requires targets { length targets.now ≡ length conditions.now }
+    ensures { OnOk result (text.new.items ≡ text.old.items ++ articles_text frame.entry.utf8 (map (λ t. t.items) frame.entry.beneath.now) frame.entry.page.names.now frame.entry.page.origins.now.source.now frame.entry.page.origins.now.rows [] (map seen conditions.now) told.now targets.now) }
+{
+    let mut firsts = Firsts::new(*text.allocator());
+    for index in 0..conditions.len() {
+        let (condition, target) = (&conditions[index], &targets[index]);
+        put_article(
+            text,
+            &mut firsts,
+            frame,
+            index,
+            condition,
+            &told[index],
+            target,
+        )?;
+    }
+    Ok(())
+}

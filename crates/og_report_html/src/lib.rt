@@ -1,0 +1,26 @@
+//! The page of `show`: what is said of each condition, and the runs to it as charts.
+//!
+//! specs/Page.antt defines the page, Lanes.antt the charts.
+#![tactic(auto)]
+
+mod articles;
+mod charting;
+mod constants;
+mod escapes;
+mod finding;
+mod lanes;
+mod marks;
+mod mode;
+mod numbers;
+mod source;
+mod table;
+mod target;
+mod telling;
+mod totals;
+mod whole;
+
+pub use charting::chart;
+pub use escapes::{is_utf8, put_escaped};
+pub use target::{Interference, Target, targets};
+pub use telling::{about, told_runs};
+pub use whole::{Additions, page};

@@ -1,0 +1,127 @@
+//! What is known of the places in the source.
+
+ghost use Rattle.std.specs.Prelude.{◌≡◌, ◌++◌, ◌==◌, ◌<◌, ◌^◌, ℕ, length, map, Some, IfOk, OnOk};
+ghost use Rattle.og_cond.specs.Seen.{seen};
+ghost use Rattle.og_report_html.specs.Marks.{fault_place, told_place, is_action, mark_of, after_open, joined, with_mark, marked, with_told, mark_at, found};
+
+use crate::target::Target;
+use og_cond::Condition;
+use og_explain::Fault;
+use og_report_prove::Told;
+use std::alloc::{AllocError, Global};
+use std::collections::BTreeMap;
+
+/// What is known of a place: the number of a condition that is told there.
+#[derive(Clone, Copy, Debug, PartialEq, Eq, Drop)]
+pub(crate) enum Mark {
+    /// The first one that is false.
+    False(u128),
+    /// None is false: the first one that is open.
+    Open(u128),
+}
+
+impl Mark {
+    // What is told of a condition with this number.
+    fn of(number: u128, told: &Told) -> Option<Mark>
+        ensures { result ≡ mark_of number told.now }
+    {
+        match told {
+            Told::Proved => None,
+            Told::False(_) => Some(Mark::False(number)),
+            Told::Open => Some(Mark::Open(number)),
+        }
+    }
+
+    // After an open one.
+    fn after_open(self, first: u128) -> Mark
+        ensures { result ≡ after_open first self }
+    {
+        match self {
+            Mark::False(number) => Mark::False(number),
+            Mark::Open(_) => Mark::Open(first),
+        }
+    }
+
+    // With the mark that the place has.
+    fn joined(self, old: Option<Mark>) -> Mark
+        ensures { result ≡ joined old self }
+    {
+        match old {
+            None => self,
+            Some(Mark::False(first)) => Mark::False(first),
+            Some(Mark::Open(first)) => self.after_open(first),
+        }
+    }
+}
+
+/// The marks of places, by byte offsets.
+pub(crate) type Marks = BTreeMap<u32, Mark>;
+
+// Where the condition is told.
+pub(crate) fn told_place(condition: &Condition, told: &Told, target: &Target) -> u32
+    ensures { result ≡ told_place (seen condition.now) told.now target.now }
+{
+    let Told::False(block) = told else {
+        return target.goal;
+    };
+    match &block.explanation.fault {
+        Fault::False(note, _) => note.at,
+        Fault::TooLarge(..) | Fault::Blocked(_) => condition.at,
+    }
+}
+
+// One mark more.
+fn add_mark(marks: &mut Marks, at: u32, mark: Mark) -> Result<(), AllocError>
+    ensures { OnOk result ((p : ℕ) → found p marks.new ≡ marked (p == at) (Some mark) (found p marks.old)) }
+{
+    let joined = mark.joined(marks.get(&at).copied());
+    marks.insert(at, joined)?;
+    Ok(())
+}
+
+// One mark more, where there is such a place.
+fn add_action_mark(marks: &mut Marks, at: Option<u32>, mark: Mark) -> Result<(), AllocError>
+    ensures { OnOk result ((p : ℕ) → found p marks.new ≡ marked (is_action p at) (Some mark) (found p marks.old)) }
+{
+    match at {
+        None => Ok(()),
+        Some(at) => add_mark(marks, at, mark),
+    }
+}
+
+// The marks of a condition.
+fn add_told(
+    marks: &mut Marks,
+    number: u128,
+    condition: &Condition,
+    told: &Told,
+    target: &Target,
+) -> Result<(), AllocError>
+    ensures { OnOk result ((p : ℕ) → found p marks.new ≡ with_told p number (seen condition.now) told.now target.now (found p marks.old)) }
+{
+    let Some(mark) = Mark::of(number, told) else {
+        return Ok(());
+    };
+    add_mark(marks, told_place(condition, told, target), mark)?;
+    add_action_mark(marks, condition.action_at, mark)
+}
+
+/// The marks of all conditions.
+pub(crate) fn marks_of(
+    alloc: Global,
+    conditions: &[Condition],
+    told: &[Told],
+    targets: &[Target],
+) -> Result<Marks, AllocError>
+    requires told { length told.now ≡ length conditions.now }
+    requires targets { length targets.now ≡ length conditions.now }
+    ensures { IfOk result (λ marks. (p : ℕ) → found p marks ≡ mark_at (map seen conditions.now) told.now targets.now p) }
+{
+    let mut marks = Marks::new(alloc);
+    for index in 0..conditions.len() {
+        let number = index as u128 + 1;
+        let (condition, target) = (&conditions[index], &targets[index]);
+        add_told(&mut marks, number, condition, &told[index], target)?;
+    }
+    Ok(marks)
+}

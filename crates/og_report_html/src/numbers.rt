@@ -1,0 +1,87 @@
+//! The numbers of the conditions that are not proved.
+
+ghost use Rattle.std.specs.Prelude.{◌≡◌, ◌++◌, OnOk};
+ghost use Rattle.std.specs.List.{list_any};
+ghost use Rattle.og_report_html.specs.Findings.{is_found};
+ghost use Rattle.og_report_html.specs.Numbers.{number_link, number_where, number_links, numbers_line, numbers_of, numbers_text};
+
+use crate::finding::Finding;
+use og_report_prove::Told;
+use og_report_text::put_number;
+use std::alloc::AllocError;
+
+// A link to the block of a condition.
+fn put_number_link(text: &mut Vec<u8>, number: u128) -> Result<(), AllocError>
+    ensures { OnOk result (text.new.items ≡ text.old.items ++ number_link number) }
+{
+    text.extend_from_slice(b" <a href=#c")?;
+    put_number(text, number)?;
+    text.extend_from_slice(b">")?;
+    put_number(text, number)?;
+    text.extend_from_slice(b"</a>")
+}
+
+// The same, of a condition of which this is told.
+fn put_number_where(
+    text: &mut Vec<u8>,
+    finding: Finding,
+    number: u128,
+    told: &Told,
+) -> Result<(), AllocError>
+    ensures { OnOk result (text.new.items ≡ text.old.items ++ number_where finding number told.now) }
+{
+    if finding.is_of(told) {
+        put_number_link(text, number)
+    } else {
+        Ok(())
+    }
+}
+
+// Links to the blocks of all conditions of which this is told.
+fn put_number_links(text: &mut Vec<u8>, finding: Finding, told: &[Told]) -> Result<(), AllocError>
+    ensures { OnOk result (text.new.items ≡ text.old.items ++ number_links finding 1 told.now) }
+{
+    for index in 0..told.len() {
+        put_number_where(text, finding, index as u128 + 1, &told[index])?;
+    }
+    Ok(())
+}
+
+// These, behind the sign and the word.
+fn put_numbers_line(text: &mut Vec<u8>, finding: Finding, told: &[Told]) -> Result<(), AllocError>
+    ensures { OnOk result (text.new.items ≡ text.old.items ++ numbers_line finding told.now) }
+{
+    text.extend_from_slice(b"<p>")?;
+    finding.put_sign(text)?;
+    text.extend_from_slice(b" ")?;
+    finding.put_word(text)?;
+    text.extend_from_slice(b":")?;
+    put_number_links(text, finding, told)?;
+    text.extend_from_slice(b"</p>\n")
+}
+
+// Whether this is told of some condition.
+fn is_of_some(finding: Finding, told: &[Told]) -> bool
+    ensures { result ≡ list_any (is_found finding) told.now }
+{
+    told.iter().any(|each| finding.is_of(each))
+}
+
+// The line, where there is something in it.
+fn put_numbers_of(text: &mut Vec<u8>, finding: Finding, told: &[Told]) -> Result<(), AllocError>
+    ensures { OnOk result (text.new.items ≡ text.old.items ++ numbers_of finding told.now) }
+{
+    if is_of_some(finding, told) {
+        put_numbers_line(text, finding, told)
+    } else {
+        Ok(())
+    }
+}
+
+/// Adds the numbers of the conditions that are false, and of those that are open.
+pub(crate) fn put_numbers(text: &mut Vec<u8>, told: &[Told]) -> Result<(), AllocError>
+    ensures { OnOk result (text.new.items ≡ text.old.items ++ numbers_text told.now) }
+{
+    put_numbers_of(text, Finding::False, told)?;
+    put_numbers_of(text, Finding::Open, told)
+}

@@ -1,0 +1,9 @@
+pub mod Answered
+pub mod Effects
+pub mod Floats
+pub mod Joins
+pub mod Keys
+pub mod Lists
+pub mod Puts
+pub mod Says
+pub mod Texts

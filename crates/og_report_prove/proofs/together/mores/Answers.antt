@@ -1,0 +1,18 @@
+use Rattle.std.proofs.Common.{◌≡◌, length, map, ap, sym, ◌∙◌, arith}
+use Rattle.std.proofs.lemmas.List.{length-map}
+use Rattle.og_cond.specs.Seen.{seen}
+use Rattle.og_report_prove.specs.Together.{key_seen}
+use Rattle.og_report_prove.proofs.Keys.{keys_length}
+use Rattle.og_report_prove.proofs.together.mores.Goals as goal
+
+pub mores_of-requires : goal.mores_of-requires
+mores_of-requires c =
+    let told = c.args.told.now in
+    let cs = map seen c.args.conditions.now in
+    let each : length told ≡ length cs = c.requires.each ∙ sym (length-map c.args.conditions.now seen) in
+    let items = ap length c.deref.ensures.value in
+    let mapped = length-map c.in_ok-keys.keys.items key_seen in
+    let same = ap length c.in_ok-keys.ensures in
+    let all = keys_length c.args.rows cs told each in
+    let few = c.requires.few in
+    omega (arith, items, mapped, same, all, few)

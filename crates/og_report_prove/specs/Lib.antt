@@ -1,0 +1,9 @@
+pub mod Blocks
+pub mod Effects
+pub mod Json
+pub mod Members
+pub mod Numbers
+pub mod Report
+pub mod Sentences
+pub mod Together
+pub mod Told

@@ -1,0 +1,105 @@
+-- What is told of all conditions of an outline.
+use Rattle.std.specs.Prelude.{ℕ, ◌+◌, ◌-◌, List, [], ◌∷◌, ◌++◌, length, count_by, take, slice_get, Bool, true, false, if◌then◌else◌, Option, Some, None, codes}
+use Rattle.std.specs.Fmt.{decimal}
+use Rattle.std.specs.List.{list_all}
+use Rattle.og_typed.specs.Syntax.{Formula}
+use Rattle.og_cond.specs.Condition.{Condition}
+use Rattle.og_cond.specs.Names.{name_of_kind}
+use Rattle.og_report_text.specs.Places.{◌&◌}
+use Rattle.og_report_text.specs.Origins.{Rows, told_at, with_told}
+use Rattle.og_report_prove.specs.Blocks.{block_text}
+use Rattle.og_report_prove.specs.Effects.{effect_of, effect_text, first_with, alike_line}
+use Rattle.og_report_prove.specs.Together.{keys_of, mores, shown, more_text}
+use Rattle.og_report_prove.specs.declared.block.Block.{Block}
+use Rattle.og_report_prove.specs.declared.telling.Told.{Told}
+use Rattle.og_report_prove.specs.declared.telling.Told.TheVariants as told
+
+-- and how many more are told with it
+abbrev pub head_text : List ℕ → Rows → ℕ → Condition → List ℕ → ℕ → List ℕ
+head_text source rows n c word more =
+    told_at source rows c.at & codes ": condition " & decimal n & codes " " & name_of_kind c.kind
+    & with_told source rows c.action_at & codes ": " & word & more_text more & codes "\n"
+
+-- ---- totals
+
+abbrev pub is_proved : Told → Bool
+is_proved told.Proved = true
+is_proved (told.False block) = false
+is_proved told.Open = false
+
+abbrev pub is_false : Told → Bool
+is_false told.Proved = false
+is_false (told.False block) = true
+is_false told.Open = false
+
+abbrev pub is_open : Told → Bool
+is_open told.Proved = false
+is_open (told.False block) = false
+is_open told.Open = true
+
+-- every condition but the last is proved
+abbrev pub is_safe : List Told → Bool
+is_safe ts = list_all is_proved (take (length ts - 1) ts)
+
+abbrev pub is_there_and_proved : Option Told → Bool
+is_there_and_proved None = false
+is_there_and_proved (Some t) = is_proved t
+
+-- the last one is
+abbrev pub is_unblocked : List Told → Bool
+is_unblocked ts = is_there_and_proved (slice_get ts (length ts - 1))
+
+abbrev pub yes_or_no : Bool → List ℕ
+yes_or_no true = codes "yes\n"
+yes_or_no false = codes "no\n"
+
+abbrev pub yes_line : List ℕ → Bool → List ℕ
+yes_line word is = word & codes ": " & yes_or_no is
+
+-- a word and a number
+abbrev pub number_line : List ℕ → ℕ → List ℕ
+number_line word n = word & codes ": " & decimal n & codes "\n"
+
+abbrev pub totals_text : List Told → List ℕ
+totals_text ts =
+    number_line (codes "conditions") (length ts) & number_line (codes "proved") (count_by is_proved ts)
+    & number_line (codes "false") (count_by is_false ts) & number_line (codes "open") (count_by is_open ts)
+    & yes_line (codes "safe") (is_safe ts) & yes_line (codes "unblocked") (is_unblocked ts)
+
+-- ---- all of it
+
+module _ (names : List (List ℕ)) (source : List ℕ) (rows : Rows) where
+  -- the block, or that the condition is as an earlier one
+  abbrev pub alike_or_block : Option ℕ → List Formula → Block → List ℕ
+  alike_or_block None found block = block_text names source rows block
+  alike_or_block (Some k) found block = alike_line names k found
+
+  -- where it is known which conditions told an effect before
+  abbrev pub effect_or_block : (List ℕ → Option ℕ) → Option (ℕ × List Formula) → Block → List ℕ
+  effect_or_block known None block = block_text names source rows block
+  effect_or_block known (Some effect) block = alike_or_block (known (effect_text names source rows effect)) effect.1 block
+
+  abbrev pub body_text : (List ℕ → Option ℕ) → Block → List ℕ
+  body_text known block = effect_or_block known (effect_of block.explanation.action block.explanation.fault) block
+
+  -- nothing of a condition that is proved
+  abbrev pub one_text : (List ℕ → Option ℕ) → ℕ → Condition → ℕ → Told → List ℕ
+  one_text known n c more told.Proved = []
+  one_text known n c more (told.False block) = head_text source rows n c (codes "false") more & body_text known block
+  one_text known n c more told.Open = head_text source rows n c (codes "open") more
+
+  -- and of one that is told with an earlier one
+  abbrev pub told_text : (List ℕ → Option ℕ) → ℕ → Condition → Option ℕ → Told → List ℕ
+  told_text known n c None t = []
+  told_text known n c (Some more) t = one_text known n c more t
+
+  -- after these
+  abbrev pub told_lines : List Told → List Condition → List (Option ℕ) → List Told → List ℕ
+  told_lines done [] ms ts = []
+  told_lines done (c ∷ cs) [] ts = []
+  told_lines done (c ∷ cs) (m ∷ ms) [] = []
+  told_lines done (c ∷ cs) (m ∷ ms) (t ∷ ts) =
+      told_text (λ text. first_with names source rows text 1 done) (length done + 1) c m t & told_lines (done ++ shown m t ∷ []) cs ms ts
+
+  abbrev pub report_text : List Condition → List Told → List ℕ
+  report_text cs ts = told_lines [] cs (mores (keys_of rows cs ts)) ts & totals_text ts

@@ -1,0 +1,84 @@
+//! What is told of a false condition.
+
+ghost use Rattle.std.specs.Prelude.{◌≡◌, ◌++◌, OnOk};
+ghost use Rattle.og_report_prove.specs.Blocks.{head_lines, true_lines, block_text};
+
+use crate::lines::{
+    put_action, put_fault, put_known_lines, put_more_line, put_test, put_values_line,
+};
+use crate::sentences::put_sentence;
+use og_cond::Kind;
+use og_explain::{Actors, Explanation};
+use og_report_text::Origins;
+use og_text::Name;
+use og_values::Values;
+use std::alloc::AllocError;
+
+/// What is told of a condition that is false in a state.
+#[derive(Debug, Drop)]
+pub struct Block<'a> {
+    pub kind: Kind,
+    pub actors: Actors,
+    /// The state.
+    pub values: Values,
+    /// Why the condition is false there.
+    pub explanation: Explanation<'a>,
+    /// The numbers, from 0, of the conjuncts that are false among all of their assertion.
+    pub conjuncts: Vec<usize>,
+    /// The variables of what is false.
+    pub focus: Vec<u32>,
+    /// The variables whose values are told first, and then those of the others.
+    pub state: Vec<u32>,
+    pub besides: Vec<u32>,
+    /// The auxiliaries, where their initial values are told; and what the action assigns.
+    pub initial: Vec<u32>,
+    pub assigned: Vec<u32>,
+}
+
+// The sentence and the state.
+fn put_head(text: &mut Vec<u8>, names: &[Name], block: &Block) -> Result<(), AllocError>
+    ensures { OnOk result (text.new.items ≡ text.old.items ++ head_lines names.now block.now) }
+{
+    text.extend_from_slice(b"  ")?;
+    put_sentence(text, block.kind, &block.actors)?;
+    text.extend_from_slice(b"\n")?;
+    put_values_line(text, names, b"state", &block.values, &block.state)?;
+    put_more_line(text, names, b"besides", &block.values, &block.besides)
+}
+
+// What is true there.
+fn put_true(
+    text: &mut Vec<u8>,
+    names: &[Name],
+    origins: &Origins,
+    block: &Block,
+) -> Result<(), AllocError>
+    requires { origins.now.places.now ≡ origins.now.source.now }
+    ensures { OnOk result (text.new.items ≡ text.old.items ++ true_lines names.now origins.now.source.now origins.now.rows block.now) }
+{
+    let explanation = &block.explanation;
+    put_known_lines(text, names, origins, &block.focus, &explanation.known)?;
+    put_more_line(text, names, b"initially", &block.values, &block.initial)?;
+    put_test(text, origins, explanation.test)
+}
+
+/// Adds the block to the text: each line after two blanks.
+///
+/// # Errors
+///
+/// An allocation was refused; the text has what it had, and perhaps a part of this.
+pub fn put_block(
+    text: &mut Vec<u8>,
+    names: &[Name],
+    origins: &Origins,
+    block: &Block,
+) -> Result<(), AllocError>
+    requires { origins.now.places.now ≡ origins.now.source.now }
+    ensures { OnOk result (text.new.items ≡ text.old.items ++ block_text names.now origins.now.source.now origins.now.rows block.now) }
+{
+    let explanation = &block.explanation;
+    put_head(text, names, block)?;
+    put_true(text, names, origins, block)?;
+    put_action(text, names, origins, explanation, &block.assigned)?;
+    put_fault(text, names, origins, &explanation.fault)
+}

@@ -1,0 +1,33 @@
+//! What `prove` says of each condition, and its totals, as text and as JSON.
+//!
+//! specs/Report.antt defines the text, Json.antt the JSON, and the files that they name what stands
+//! in them.
+#![tactic(auto)]
+
+mod block;
+mod earlier;
+mod faults;
+mod focus;
+mod lines;
+mod objects;
+mod reporting;
+mod sentences;
+mod telling;
+mod together;
+mod unproved;
+mod values;
+
+pub use block::{Block, put_block};
+pub use earlier::Firsts;
+pub use faults::conjunct_values;
+pub use lines::{put_false, put_quoted, put_too_large};
+pub use objects::{json, totals_value};
+pub use reporting::{
+    Page, Totals, is_safe, is_unblocked, put_number_line, put_told, put_totals, put_yes_line,
+    report,
+};
+pub use sentences::put_part;
+pub use telling::{Told, block_of, tell};
+pub use together::mores;
+pub use unproved::told_value;
+pub use values::{put_optional, put_values};

@@ -1,0 +1,159 @@
+//! The conditions that are not proved.
+
+ghost use Rattle.std.specs.Prelude.{◌≡◌, [], ◌∷◌, ◌++◌, if◌then◌else◌, length, map, IfOk, OnOk};
+ghost use Rattle.serde_json.specs.Data.{object};
+ghost use Rattle.serde_json.specs.View.{view, members_view};
+ghost use Rattle.og_cond.specs.Seen.{seen};
+ghost use Rattle.og_report_prove.specs.Report.{is_proved};
+ghost use Rattle.og_report_prove.specs.Json.{status_word, last_members, middle_members, told_data, unproved_data};
+
+use crate::faults::{after_member, false_member, state_member, too_large_member};
+use crate::telling::Told;
+use crate::values::put_optional;
+use og_cond::Condition;
+use og_json::{put_number, put_text};
+use og_report_text::Places;
+use og_text::Name;
+use serde_json::{Map, Value};
+use std::alloc::{AllocError, Global};
+
+// The word for what is told.
+fn status_word(told: &Told) -> &'static str
+    ensures { result.now ≡ status_word told.now }
+{
+    match told {
+        Told::Proved => "proved",
+        Told::False(_) => "false",
+        Told::Open => "open",
+    }
+}
+
+// Sets the state and the status.
+fn put_last(
+    members: &mut Map<String, Value>,
+    alloc: Global,
+    names: &[Name],
+    told: &Told,
+) -> Result<(), AllocError>
+    requires { members.old.entries ≡ [] }
+    ensures { OnOk result (members_view members.new.entries ≡ last_members names.now told.now) }
+{
+    let too_large = too_large_member(alloc, names, told)?;
+    put_optional(members, alloc, "too_large", too_large)?;
+    put_text(members, alloc, "status", status_word(told))?;
+    let state = state_member(alloc, names, told)?;
+    put_optional(members, alloc, "state", state)
+}
+
+// Sets the place, the number and the kind, and what is false.
+fn put_middle(
+    members: &mut Map<String, Value>,
+    alloc: Global,
+    names: &[Name],
+    places: &Places,
+    number: u64,
+    condition: &Condition,
+    told: &Told,
+) -> Result<(), AllocError>
+    requires { members_view members.old.entries ≡ last_members names.now told.now }
+    ensures { OnOk result (members_view members.new.entries ≡ middle_members names.now places.now number (seen condition.now) told.now) }
+{
+    let place = places.position(condition.at);
+    put_number(members, alloc, "line", place.line as u64)?;
+    put_text(members, alloc, "kind", condition.kind.name())?;
+    let found = false_member(alloc, names, places, told)?;
+    put_optional(members, alloc, "false", found)?;
+    put_number(members, alloc, "condition", number)?;
+    put_number(members, alloc, "column", place.column as u64)
+}
+
+// Sets what the action assigns, and its place in interference.
+fn put_first(
+    members: &mut Map<String, Value>,
+    alloc: Global,
+    names: &[Name],
+    places: &Places,
+    number: u64,
+    condition: &Condition,
+    told: &Told,
+) -> Result<(), AllocError>
+    requires { members_view members.old.entries ≡ middle_members names.now places.now number (seen condition.now) told.now }
+    ensures { OnOk result (object (members_view members.new.entries) ≡ told_data names.now places.now number (seen condition.now) told.now) }
+{
+    let after = after_member(alloc, names, told)?;
+    put_optional(members, alloc, "after", after)?;
+    let Some(at) = condition.action_at else {
+        return Ok(());
+    };
+    let action = places.position(at);
+    put_number(members, alloc, "action_line", action.line as u64)?;
+    put_number(members, alloc, "action_column", action.column as u64)
+}
+
+/// The value of a condition, by its number from 1.
+///
+/// # Errors
+///
+/// An allocation was refused.
+pub fn told_value(
+    alloc: Global,
+    names: &[Name],
+    places: &Places,
+    number: u64,
+    condition: &Condition,
+    told: &Told,
+) -> Result<Value, AllocError>
+    ensures { IfOk result (λ v. view v ≡ told_data names.now places.now number (seen condition.now) told.now) }
+{
+    let mut members = Map::new(alloc);
+    put_last(&mut members, alloc, names, told)?;
+    put_middle(&mut members, alloc, names, places, number, condition, told)?;
+    put_first(&mut members, alloc, names, places, number, condition, told)?;
+    Ok(Value::Object(members))
+}
+
+// Adds the value of a condition, where that is not proved.
+fn add_unproved(
+    values: &mut Vec<Value>,
+    names: &[Name],
+    places: &Places,
+    number: u64,
+    condition: &Condition,
+    told: &Told,
+) -> Result<(), AllocError>
+    ensures { OnOk result (map view values.new.items ≡ map view values.old.items
+        ++ (if is_proved told.now then [] else told_data names.now places.now number (seen condition.now) told.now ∷ [])) }
+{
+    if told.is_proved() {
+        return Ok(());
+    }
+    let value = told_value(*values.allocator(), names, places, number, condition, told)?;
+    values.push(value)?;
+    Ok(())
+}
+
+/// The values of the conditions that are not proved, numbered from 1.
+pub(crate) fn unproved_values(
+    alloc: Global,
+    names: &[Name],
+    places: &Places,
+    conditions: &[Condition],
+    told: &[Told],
+) -> Result<Vec<Value>, AllocError>
+    requires { length told.now ≡ length conditions.now }
+    ensures { IfOk result (λ values. map view values.items ≡ unproved_data names.now places.now 1 (map seen conditions.now) told.now) }
+{
+    let mut values = Vec::new(alloc);
+    for index in 0..conditions.len() {
+        let number = index as u64 + 1;
+        add_unproved(
+            &mut values,
+            names,
+            places,
+            number,
+            &conditions[index],
+            &told[index],
+        )?;
+    }
+    Ok(values)
+}

@@ -1,0 +1,4 @@
+pub mod Floats
+pub mod Parts
+pub mod RunSteps
+pub mod Sought

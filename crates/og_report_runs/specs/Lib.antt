@@ -1,0 +1,6 @@
+pub mod Json
+pub mod Lines
+pub mod Places
+pub mod Report
+pub mod Runs
+pub mod Sights

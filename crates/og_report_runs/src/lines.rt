@@ -1,0 +1,200 @@
+//! The line of a false condition that tells of the runs that get there.
+
+ghost use Rattle.std.specs.Prelude.{◌≡◌, ◌≤◌, ◌++◌, [], length, nat_lt, IfOk, OnOk};
+ghost use Rattle.og_report_runs.specs.Lines.{steps_text, history_text, way_text, nonzero, else_text, begins_text, from_text, witness_text, run_text, run_line};
+
+use crate::witness::{Run, Witness};
+use og_linear::State;
+use og_report_explore::printed_number;
+use og_report_text::{put_number, put_values};
+use og_text::Name;
+use og_typed::Outline;
+use og_values::Values;
+use std::alloc::{AllocError, Global};
+
+/// The longest history that is printed.
+const MOST_STEPS: usize = 40;
+
+/// How far an exploration went.
+#[derive(Clone, Copy, Debug)]
+pub struct Explored {
+    /// How many starts there are among the moments.
+    pub starts: u32,
+    /// How many moments were reached.
+    pub moments: u32,
+    /// Whether these are all moments of all runs from these starts.
+    pub complete: bool,
+}
+
+// The processes that stepped, with a blank between two.
+fn put_steps(text: &mut Vec<u8>, main: u32, history: &[u32]) -> Result<(), AllocError>
+    ensures { OnOk result (text.new.items ≡ text.old.items ++ steps_text main [] history.now) }
+{
+    let mut between: &[u8] = b"";
+    for p in history {
+        text.extend_from_slice(between)?;
+        put_number(text, u128::from(printed_number(main, *p)))?;
+        between = b" ";
+    }
+    Ok(())
+}
+
+// These steps, or how many there are.
+fn put_history(text: &mut Vec<u8>, main: u32, history: &[u32]) -> Result<(), AllocError>
+    ensures { OnOk result (text.new.items ≡ text.old.items ++ history_text main history.now) }
+{
+    if history.len() <= MOST_STEPS {
+        text.extend_from_slice(b"a run gets there: ")?;
+        return put_steps(text, main, history);
+    }
+    text.extend_from_slice(b"a run gets there in ")?;
+    put_number(text, history.len() as u128)?;
+    text.extend_from_slice(b" steps")
+}
+
+// How a run gets there.
+fn put_way(text: &mut Vec<u8>, main: u32, history: &[u32]) -> Result<(), AllocError>
+    ensures { OnOk result (text.new.items ≡ text.old.items ++ way_text main history.now) }
+{
+    if history.is_empty() {
+        return text.extend_from_slice(b"a run begins there");
+    }
+    put_history(text, main, history)
+}
+
+// The variables that are not 0.
+fn nonzero(alloc: Global, values: &Values, count: u32) -> Result<Vec<u32>, AllocError>
+    ensures { IfOk result (λ vars. vars.items ≡ nonzero values.now count) }
+{
+    let mut vars = Vec::new(alloc);
+    for var in 0..count {
+        if values.at(var) != 0 {
+            vars.push(var)?;
+        }
+    }
+    Ok(vars)
+}
+
+// That other variables are 0, unless these are all.
+fn put_else(text: &mut Vec<u8>, are_all: bool) -> Result<(), AllocError>
+    ensures { OnOk result (text.new.items ≡ text.old.items ++ else_text are_all) }
+{
+    if are_all {
+        return Ok(());
+    }
+    text.extend_from_slice(b" and else 0")
+}
+
+// These variables, which are not 0; the others are.
+fn put_begins(
+    text: &mut Vec<u8>,
+    names: &[Name],
+    values: &Values,
+    vars: &[u32],
+) -> Result<(), AllocError>
+    ensures { OnOk result (text.new.items ≡ text.old.items ++ begins_text names.now values.now vars.now) }
+{
+    if vars.is_empty() {
+        return text.extend_from_slice(b"0");
+    }
+    put_values(text, names, values.as_slice(), vars)?;
+    put_else(text, vars.len() == names.len())
+}
+
+/// The values of all variables at the start at which those that are no auxiliaries have these.
+///
+/// # Errors
+///
+/// An allocation was refused.
+pub fn start_values(alloc: Global, outline: &Outline, values: &State) -> Result<Values, AllocError>
+    ensures { IfOk result (λ v. v ≡ values.now ++ outline.now.aux_values) }
+{
+    let mut all = Vec::from_slice(alloc, values.as_slice())?;
+    all.extend_from_slice(outline.aux_values())?;
+    let state = State::new(all);
+    Values::of(alloc, &state)
+}
+
+/// Adds the variables that are not 0 at a start, of which these are the values, and whether others are 0.
+///
+/// # Errors
+///
+/// An allocation was refused; the text has what it had, and perhaps a part of this.
+pub fn put_start(text: &mut Vec<u8>, names: &[Name], values: &Values) -> Result<(), AllocError>
+    requires { length names.now ≤ 256 }
+    ensures { OnOk result (text.new.items ≡ text.old.items ++ begins_text names.now values.now (nonzero values.now (length names.now))) }
+{
+    let vars = nonzero(*text.allocator(), values, names.len() as u32)?;
+    put_begins(text, names, values, &vars)
+}
+
+// Where a run begins, if there are several starts.
+fn put_from(
+    text: &mut Vec<u8>,
+    names: &[Name],
+    many: bool,
+    values: &Values,
+) -> Result<(), AllocError>
+    requires { length names.now ≤ 256 }
+    ensures { OnOk result (text.new.items ≡ text.old.items ++ from_text names.now many values.now) }
+{
+    if !many {
+        return Ok(());
+    }
+    text.extend_from_slice(b" from ")?;
+    put_start(text, names, values)
+}
+
+// The run.
+fn put_witness(
+    text: &mut Vec<u8>,
+    outline: &Outline,
+    many: bool,
+    witness: &Witness,
+) -> Result<(), AllocError>
+    ensures { OnOk result (text.new.items ≡ text.old.items ++ witness_text outline.now.names (length outline.now.processes) outline.now.aux_values many witness.now) }
+{
+    outline.follows_rule();
+    let values = start_values(*text.allocator(), outline, &witness.values)?;
+    let main = outline.processes().len() as u32;
+    put_way(text, main, &witness.history)?;
+    put_from(text, outline.names(), many, &values)
+}
+
+// What is known of the runs.
+fn put_run(
+    text: &mut Vec<u8>,
+    outline: &Outline,
+    explored: Explored,
+    run: &Run,
+) -> Result<(), AllocError>
+    ensures { OnOk result (text.new.items ≡ text.old.items ++ run_text outline.now.names (length outline.now.processes) outline.now.aux_values (nat_lt 1 explored.starts) explored.moments run.now) }
+{
+    match run {
+        Run::Reached(witness) => put_witness(text, outline, 1 < explored.starts, witness),
+        Run::Never => text.extend_from_slice(b"no run from these starts gets there"),
+        Run::Open => {
+            text.extend_from_slice(b"no run met it within ")?;
+            put_number(text, u128::from(explored.moments))?;
+            text.extend_from_slice(b" moments")
+        }
+    }
+}
+
+/// Adds what is known of the runs, as a line.
+///
+/// # Errors
+///
+/// An allocation was refused; the text has what it had, and perhaps a part of this.
+pub fn put_run_line(
+    text: &mut Vec<u8>,
+    outline: &Outline,
+    explored: Explored,
+    run: &Run,
+) -> Result<(), AllocError>
+    ensures { OnOk result (text.new.items ≡ text.old.items ++ run_line outline.now.names (length outline.now.processes) outline.now.aux_values (nat_lt 1 explored.starts) explored.moments run.now) }
+{
+    text.extend_from_slice(b"  ")?;
+    put_run(text, outline, explored, run)?;
+    text.extend_from_slice(b"\n")
+}

@@ -1,0 +1,217 @@
+//! The same as JSON.
+
+ghost use Rattle.std.specs.Prelude.{◌≡◌, ◌++◌, ◌≤◌, ◌^◌, [], ◌∷◌, if◌then◌else◌, length, map, IfOk, OnOk};
+ghost use Rattle.serde_json.specs.View.{view};
+ghost use Rattle.og_cond.specs.Seen.{seen};
+ghost use Rattle.og_report_prove.specs.Report.{is_proved};
+ghost use Rattle.og_report_prove.specs.Json.{told_data};
+ghost use Rattle.og_report_runs.specs.Json.{with_member, history_items, start_data, run_data, with_run, unproved_data, explored_data, report_data, json_text};
+
+use crate::lines::{Explored, start_values};
+use crate::reporting::count_reached;
+use crate::witness::{Run, Witness};
+use og_cond::Condition;
+use og_json::{bytes_of, list_value, put_number, put_text};
+use og_report_explore::{numbers, printed_number};
+use og_report_prove::{Told, put_values, told_value, totals_value};
+use og_report_text::Places;
+use og_text::Name;
+use og_typed::Outline;
+use serde_json::{Map, Value, put};
+use std::alloc::{AllocError, Global};
+
+// The object with one member more.
+fn with_member(alloc: Global, key: &str, member: Value, value: Value) -> Result<Value, AllocError>
+    ensures { IfOk result (λ v. view v ≡ with_member key.now (view member) (view value)) }
+{
+    match value {
+        Value::Object(mut members) => {
+            put(&mut members, alloc, key, member)?;
+            Ok(Value::Object(members))
+        }
+        other => Ok(other),
+    }
+}
+
+// The processes that stepped.
+fn history_values(alloc: Global, main: u32, history: &[u32]) -> Result<Vec<Value>, AllocError>
+    ensures { IfOk result (λ values. map view values.items ≡ history_items main history.now) }
+{
+    let mut values = Vec::new(alloc);
+    for p in history {
+        values.push(Value::from(printed_number(main, *p)))?;
+    }
+    Ok(values)
+}
+
+// The values at the start.
+fn start_value(alloc: Global, outline: &Outline, witness: &Witness) -> Result<Value, AllocError>
+    ensures { IfOk result (λ v. view v ≡ start_data outline.now witness.now.values) }
+{
+    outline.follows_rule();
+    let names = outline.names();
+    let all = start_values(alloc, outline, &witness.values)?;
+    let vars = numbers(alloc, names.len() as u32)?;
+    let mut members = Map::new(alloc);
+    put_values(&mut members, alloc, names, true, &all, &vars)?;
+    Ok(Value::Object(members))
+}
+
+// A run that gets there.
+fn witness_value(alloc: Global, outline: &Outline, witness: &Witness) -> Result<Value, AllocError>
+    ensures { IfOk result (λ v. view v ≡ run_data outline.now (Run.Reached witness.now)) }
+{
+    outline.follows_rule();
+    let main = outline.processes().len() as u32;
+    let history = list_value(history_values(alloc, main, &witness.history)?);
+    let start = start_value(alloc, outline, witness)?;
+    let mut members = Map::new(alloc);
+    put(&mut members, alloc, "start", start)?;
+    put(&mut members, alloc, "history", history)?;
+    put_text(&mut members, alloc, "found", "reached")?;
+    Ok(Value::Object(members))
+}
+
+// What is known of the runs.
+fn run_value(alloc: Global, outline: &Outline, run: &Run) -> Result<Value, AllocError>
+    ensures { IfOk result (λ v. view v ≡ run_data outline.now run.now) }
+{
+    let word = match run {
+        Run::Reached(witness) => return witness_value(alloc, outline, witness),
+        Run::Never => "no",
+        Run::Open => "open",
+    };
+    let mut members = Map::new(alloc);
+    put_text(&mut members, alloc, "found", word)?;
+    Ok(Value::Object(members))
+}
+
+// With the run, of a false condition.
+fn with_run(
+    alloc: Global,
+    outline: &Outline,
+    told: &Told,
+    run: &Run,
+    value: Value,
+) -> Result<Value, AllocError>
+    ensures { IfOk result (λ v. view v ≡ with_run outline.now told.now run.now (view value)) }
+{
+    match told {
+        Told::False(_) => with_member(alloc, "run", run_value(alloc, outline, run)?, value),
+        Told::Proved | Told::Open => Ok(value),
+    }
+}
+
+// Adds the value of a condition, where that is not proved.
+fn add_unproved(
+    values: &mut Vec<Value>,
+    outline: &Outline,
+    places: &Places,
+    number: u64,
+    condition: &Condition,
+    told: &Told,
+    run: &Run,
+) -> Result<(), AllocError>
+    ensures { OnOk result (map view values.new.items ≡ map view values.old.items
+        ++ (if is_proved told.now then [] else with_run outline.now told.now run.now (told_data outline.now.names places.now number (seen condition.now) told.now) ∷ [])) }
+{
+    if told.is_proved() {
+        return Ok(());
+    }
+    let alloc = *values.allocator();
+    let value = told_value(alloc, outline.names(), places, number, condition, told)?;
+    values.push(with_run(alloc, outline, told, run, value)?)?;
+    Ok(())
+}
+
+// The values of the conditions that are not proved, numbered from 1.
+fn unproved_values(
+    alloc: Global,
+    outline: &Outline,
+    places: &Places,
+    conditions: &[Condition],
+    told: &[Told],
+    runs: &[Run],
+) -> Result<Vec<Value>, AllocError>
+    requires each { length told.now ≡ length conditions.now }
+    requires run { length runs.now ≡ length conditions.now }
+    ensures { IfOk result (λ values. map view values.items ≡ unproved_data outline.now places.now 1 (map seen conditions.now) told.now runs.now) }
+{
+    let mut values = Vec::new(alloc);
+    for index in 0..conditions.len() {
+        let number = index as u64 + 1;
+        add_unproved(
+            &mut values,
+            outline,
+            places,
+            number,
+            &conditions[index],
+            &told[index],
+            &runs[index],
+        )?;
+    }
+    Ok(values)
+}
+
+// How far the exploration went.
+fn explored_value(alloc: Global, explored: Explored, runs: &[Run]) -> Result<Value, AllocError>
+    ensures { IfOk result (λ v. view v ≡ explored_data explored runs.now) }
+{
+    let complete = Value::Bool(explored.complete);
+    let mut members = Map::new(alloc);
+    put_number(&mut members, alloc, "starts", u64::from(explored.starts))?;
+    put_number(&mut members, alloc, "reached", count_reached(runs) as u64)?;
+    put_number(&mut members, alloc, "moments", u64::from(explored.moments))?;
+    put(&mut members, alloc, "complete", complete)?;
+    Ok(Value::Object(members))
+}
+
+// The whole report.
+fn report_value(
+    alloc: Global,
+    outline: &Outline,
+    places: &Places,
+    explored: Explored,
+    conditions: &[Condition],
+    told: &[Told],
+    runs: &[Run],
+) -> Result<Value, AllocError>
+    requires each { length told.now ≡ length conditions.now }
+    requires run { length runs.now ≡ length conditions.now }
+    ensures { IfOk result (λ v. view v ≡ report_data outline.now places.now explored (map seen conditions.now) told.now runs.now) }
+{
+    let unproved = unproved_values(alloc, outline, places, conditions, told, runs)?;
+    let totals = totals_value(alloc, told, list_value(unproved))?;
+    with_member(
+        alloc,
+        "runs",
+        explored_value(alloc, explored, runs)?,
+        totals,
+    )
+}
+
+/// The same as JSON, in one line without an LF: as `og_report_prove::json` tells it, with `runs`, how
+/// far the exploration went, and of each false condition `run`, what is known of the runs that get
+/// there.
+///
+/// # Errors
+///
+/// An allocation was refused.
+pub fn json(
+    alloc: Global,
+    outline: &Outline,
+    source: &[u8],
+    explored: Explored,
+    conditions: &[Condition],
+    told: &[Told],
+    runs: &[Run],
+) -> Result<Vec<u8>, AllocError>
+    requires short { length source.now ≤ 2 ^ 20 }
+    requires each { length told.now ≡ length conditions.now }
+    requires run { length runs.now ≡ length conditions.now }
+    ensures { IfOk result (λ text. text.items ≡ json_text outline.now source.now explored (map seen conditions.now) told.now runs.now) }
+{
+    let places = Places::new(alloc, source)?;
+    let value = report_value(alloc, outline, &places, explored, conditions, told, runs)?;
+    bytes_of(alloc, &value)
+}

@@ -1,0 +1,169 @@
+//! What is told of all conditions of an outline, with the runs.
+
+ghost use Rattle.std.specs.Prelude.{◌≡◌, ◌++◌, ◌<◌, ◌≤◌, ◌^◌, ℕ, List, [], length, map, IfOk, OnOk};
+ghost use Rattle.og_cond.specs.Seen.{seen};
+ghost use Rattle.og_cert_read.specs.Firsts.{found as number_of};
+ghost use Rattle.og_report_prove.specs.Effects.{after_told};
+ghost use Rattle.og_report_prove.specs.Report.{told_text};
+ghost use Rattle.og_report_prove.specs.Together.{shown, keys_of, mores};
+ghost use Rattle.og_report_runs.specs.Report.{line_of, count_reached, explored_text, told_lines, report_text};
+
+use crate::lines::{Explored, put_run_line};
+use crate::witness::Run;
+use og_cond::Condition;
+use og_report_prove::{
+    Firsts, Page, Told, mores, put_number_line, put_told, put_totals, put_yes_line,
+};
+use og_report_text::{Origins, Places, Rows};
+use og_typed::Outline;
+use std::alloc::{AllocError, Global};
+
+// The line of the run of a false condition; nothing of one that is told with an earlier one.
+fn put_line(
+    text: &mut Vec<u8>,
+    outline: &Outline,
+    explored: Explored,
+    more: Option<usize>,
+    told: &Told,
+    run: &Run,
+) -> Result<(), AllocError>
+    ensures { OnOk result (text.new.items ≡ text.old.items ++ line_of outline.now explored (shown more told.now) run.now) }
+{
+    let Some(_) = more else {
+        return Ok(());
+    };
+    match told {
+        Told::False(_) => put_run_line(text, outline, explored, run),
+        Told::Proved | Told::Open => Ok(()),
+    }
+}
+
+// What is told of a condition, and the line of its run.
+fn put_one(
+    text: &mut Vec<u8>,
+    firsts: &mut Firsts,
+    outline: &Outline,
+    page: Page,
+    explored: Explored,
+    number: u128,
+    condition: &Condition,
+    more: Option<usize>,
+    told: &Told,
+    run: &Run,
+) -> Result<(), AllocError>
+    requires places { page.origins.now.places.now ≡ page.origins.now.source.now }
+    requires names { page.names.now ≡ outline.now.names }
+    ensures text { OnOk result (text.new.items ≡ text.old.items
+        ++ (told_text outline.now.names page.entry.origins.now.source.now page.entry.origins.now.rows (λ t. number_of t firsts.old) number (seen condition.now) more told.now ++ line_of outline.now explored (shown more told.now) run.now)) }
+    ensures firsts { OnOk result ((t : List ℕ) → number_of t firsts.new
+        ≡ after_told outline.now.names page.entry.origins.now.source.now page.entry.origins.now.rows (shown more told.now) t number (number_of t firsts.old)) }
+{
+    put_told(text, firsts, page, number, condition, more, told)?;
+    put_line(text, outline, explored, more, told, run)
+}
+
+// What is told of each condition, numbered from 1.
+fn put_all(
+    text: &mut Vec<u8>,
+    outline: &Outline,
+    page: Page,
+    explored: Explored,
+    conditions: &[Condition],
+    mores: &[Option<usize>],
+    told: &[Told],
+    runs: &[Run],
+) -> Result<(), AllocError>
+    requires places { page.origins.now.places.now ≡ page.origins.now.source.now }
+    requires names { page.names.now ≡ outline.now.names }
+    requires mores { length mores.now ≡ length conditions.now }
+    requires each { length told.now ≡ length conditions.now }
+    requires run { length runs.now ≡ length conditions.now }
+    ensures { OnOk result (text.new.items ≡ text.old.items ++ told_lines outline.now explored page.entry.origins.now.source.now page.entry.origins.now.rows [] (map seen conditions.now) mores.now told.now runs.now) }
+{
+    let mut firsts = Firsts::new(*text.allocator());
+    for index in 0..conditions.len() {
+        let number = index as u128 + 1;
+        put_one(
+            text,
+            &mut firsts,
+            outline,
+            page,
+            explored,
+            number,
+            &conditions[index],
+            mores[index],
+            &told[index],
+            &runs[index],
+        )?;
+    }
+    Ok(())
+}
+
+/// How many runs get there. Takes no memory.
+pub fn count_reached(runs: &[Run]) -> usize
+    ensures value { result ≡ count_reached runs.now }
+    ensures few { result ≤ length runs.now }
+{
+    let mut count = 0;
+    for run in runs {
+        if let Run::Reached(_) = run {
+            count += 1;
+        }
+    }
+    count
+}
+
+// How far the exploration went.
+fn put_explored(text: &mut Vec<u8>, explored: Explored, runs: &[Run]) -> Result<(), AllocError>
+    ensures { OnOk result (text.new.items ≡ text.old.items ++ explored_text explored runs.now) }
+{
+    put_number_line(text, b"starts", explored.starts as usize)?;
+    put_number_line(text, b"moments", explored.moments as usize)?;
+    put_yes_line(text, b"complete", explored.complete)?;
+    put_number_line(text, b"reached", count_reached(runs))
+}
+
+/// What is told of all conditions of an outline, as a text: those that are not proved, in order,
+/// each false one with what is known of the runs that get there, and the totals. Places are lines
+/// and columns of the text in which the outline stands, or of a template, by its rows. The text has
+/// at most 1,048,576 bytes. Of a template's outline the false conditions that differ in their
+/// instances alone are told together, where the first one stands, with what is known of its runs.
+///
+/// # Errors
+///
+/// An allocation was refused.
+pub fn report(
+    alloc: Global,
+    outline: &Outline,
+    source: &[u8],
+    rows: Option<&Rows>,
+    explored: Explored,
+    conditions: &[Condition],
+    told: &[Told],
+    runs: &[Run],
+) -> Result<Vec<u8>, AllocError>
+    requires short { length source.now ≤ 2 ^ 20 }
+    requires each { length told.now ≡ length conditions.now }
+    requires run { length runs.now ≡ length conditions.now }
+    requires few { length told.now < 2 ^ 32 }
+    ensures { IfOk result (λ text. text.items ≡ report_text outline.now explored source.now rows.entry (map seen conditions.now) told.now runs.now) }
+{
+    let places = Places::new(alloc, source)?;
+    let origins = Origins {
+        source,
+        places: &places,
+        rows,
+    };
+    let mores = mores(alloc, rows, conditions, told)?;
+    let mut text = Vec::new(alloc);
+    let page = Page {
+        names: outline.names(),
+        origins: &origins,
+    };
+    put_all(
+        &mut text, outline, page, explored, conditions, &mores, told, runs,
+    )?;
+    put_totals(&mut text, told)?;
+    put_explored(&mut text, explored, runs)?;
+    Ok(text)
+}

@@ -1,0 +1,12 @@
+pub mod Assertions
+pub mod Conjuncts
+pub mod Faults
+pub mod Line
+pub mod Listing
+pub mod Origins
+pub mod Places
+pub mod Quotes
+pub mod Relations
+pub mod Seen
+pub mod Told
+pub mod Values

@@ -1,0 +1,38 @@
+//! What reports share: places and numbers, the facts of conditions, quoted lines, assertions and values,
+//! and the texts of refusals.
+//!
+//! specs/ defines each text, in a file named for it.
+#![tactic(auto)]
+
+mod answer;
+mod assertions;
+mod conditions;
+mod conjuncts;
+mod facts;
+mod fault;
+mod forms;
+mod heading;
+mod line;
+mod origins;
+mod places;
+mod quotes;
+mod relations;
+mod row;
+mod values;
+mod words;
+
+pub use answer::Answer;
+pub use assertions::{put_assertion, put_operand};
+pub use conditions::{conditions_text, put_condition};
+pub use conjuncts::{add_conjuncts, put_conjuncts, put_known, speaks_of};
+pub use fault::InputFault;
+pub use forms::{put_constant, put_name, put_times};
+pub use heading::put_heading;
+pub use line::{put_opening, refused_line};
+pub use origins::Origins;
+pub use places::{Places, Position};
+pub use quotes::put_quote;
+pub use relations::{Relation, put_relation};
+pub use row::{Row, Rows};
+pub use values::{put_names, put_value, put_values};
+pub use words::{put_action_place, put_number, put_position};

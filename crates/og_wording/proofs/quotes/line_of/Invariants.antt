@@ -1,6 +1,0 @@
-use Rattle.std.proofs.Common.{◌≡◌, ◌++◌, take, drop}
-use Rattle.og_wording.specs.Quotes.{line_of}
-use Rattle.og_wording.proofs.quotes.line_of.Given as goal
-
-abbrev pub invariant-loop-i : goal.invariant-loop-i
-invariant-loop-i l = take l.i l.bytes ++ line_of (drop l.i l.bytes) ≡ line_of l.bytes

@@ -1,6 +1,0 @@
-use Rattle.std.proofs.Common.{◌≡◌, ◌++◌, [], drop}
-use Rattle.og_wording.specs.Values.{entries_text}
-use Rattle.og_wording.proofs.values.put_values.Given as goal
-
-abbrev pub invariant-loop-var : goal.invariant-loop-var
-invariant-loop-var l = l.text.items ++ entries_text l.names l.between l.values (drop l.var-index l.vars) ≡ l.initial.text.items ++ entries_text l.names [] l.values l.vars
