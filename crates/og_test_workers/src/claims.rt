@@ -40,7 +40,10 @@ fn expect_list<R: Threads + Wait + Sync + Abort>(
     requires few { length list.now ≤ 999999999 }
 {
     match claim {
-        Claim::Found(wanted) => expect_found(rt, alloc, list, wanted).map(drop),
+        Claim::Found(wanted) => {
+            drop(expect_found(rt, alloc, list, wanted)?);
+            Ok(())
+        }
         Claim::ByAll(wanted) => expect_by_all(rt, alloc, list, wanted),
         Claim::GreaterBudget => expect_greater_budget(rt, alloc, list),
         Claim::OtherSign => expect_other_sign(rt, alloc, list),

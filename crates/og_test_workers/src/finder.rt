@@ -89,9 +89,14 @@ fn letters_of<R: Threads + Wait + Sync + Abort>(
 {
     let findings = examine_all(rt, alloc, list, budget, workers, &OpenGate)?;
     let mut letters = Vec::with_capacity(alloc, list.len())?;
-    while let Some(verdict) = findings.verdict(letters.len()) {
-        letters.push(letter(verdict))?;
+    for index in 0..list.len() {
+        let letter = match findings.verdict(index) {
+            Some(verdict) => letter(verdict),
+            None => b'-',
+        };
+        letters.push(letter)?;
     }
+    assert!(rt; findings.verdict(list.len()).is_none());
     drop(findings);
     Ok(letters)
 }

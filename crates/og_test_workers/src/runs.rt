@@ -29,9 +29,12 @@ fn ended<G: Gate, R: Threads + Wait + Sync>(
     limit: u32,
     gate: &G,
 ) -> Result<Result<Outcome, RunError>, Fail> {
+    if limit > 1_000_000 {
+        return Err("no run is as long".into());
+    }
     let values = state_of(alloc, values)?;
     let outline = outline_of(alloc, source)?;
-    let ended = run(rt, alloc, &outline, values, limit.min(1_000_000), gate);
+    let ended = run(rt, alloc, &outline, values, limit, gate);
     drop(outline);
     Ok(ended)
 }
