@@ -1,7 +1,9 @@
-"""What the tools here share: the kit's own library for crates, and the folder of this repository."""
+"""What the tools here share: the kit's own library for crates, copies of this repository, and processes."""
+import collections
 import importlib.machinery
 import importlib.util
 import os
+import shutil
 import subprocess
 import sys
 
@@ -78,3 +80,47 @@ def take_libraries(source, target):
         with open(f"{folder}/stamp", "w", encoding="utf-8") as file:
             file.write(stamp)
     return lacking
+
+
+def copy_aside(room):
+    """Copies the files that git knows or would add."""
+    listed = ["git", "ls-files", "-z", "--cached", "--others", "--exclude-standard"]
+    files = subprocess.run(listed, cwd=TOP, capture_output=True, text=True, check=True).stdout
+    for file in files.split("\0"):
+        if file and os.path.isfile(f"{TOP}/{file}"):
+            os.makedirs(os.path.dirname(f"{room}/{file}"), exist_ok=True)
+            shutil.copy2(f"{TOP}/{file}", f"{room}/{file}")
+
+
+def text_of(path):
+    """Returns what a file of /proc holds, or nothing where its process has ended."""
+    try:
+        with open(path, encoding="utf-8", errors="replace") as file:
+            return file.read()
+    except OSError:
+        return ""
+
+
+def stat_of(pid):
+    """Returns the fields of a process that follow its name: its parent is at 1, its ticks and those of its ended children from 11 to 14."""
+    return text_of(f"/proc/{pid}/stat").rpartition(")")[2].split()
+
+
+def started_by(root):
+    """Returns the numbers of the processes below this one, itself too."""
+    children = collections.defaultdict(list)
+    for name in filter(str.isdigit, os.listdir("/proc")):
+        fields = stat_of(name)
+        if fields:
+            children[int(fields[1])].append(int(name))
+    found, left = [], [root]
+    while left:
+        found.append(left.pop())
+        left += children[found[-1]]
+    return found
+
+
+def seconds_below(root):
+    """Returns the processor time of a process and of all that it started, those that have ended too."""
+    stats = filter(None, map(stat_of, started_by(root)))
+    return sum(int(ticks) for fields in stats for ticks in fields[11:15]) / os.sysconf("SC_CLK_TCK")
