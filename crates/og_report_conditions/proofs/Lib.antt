@@ -1,4 +1,4 @@
 pub mod Loops
-mod Pieces
+mod Texts
 pub mod Refusing
 mod Sums

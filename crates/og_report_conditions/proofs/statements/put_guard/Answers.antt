@@ -4,7 +4,7 @@ use Rattle.std.specs.Option.{option_copied}
 use Rattle.std.proofs.lemmas.Option.{slice_get-map}
 use Rattle.og_cond.specs.Seen.{hypothesis_of}
 use Rattle.og_report_conditions.specs.Triples.{hypothesis_text, guard_text}
-use Rattle.og_report_conditions.proofs.Pieces.{three}
+use Rattle.og_report_conditions.proofs.Texts.{three}
 use Rattle.og_report_conditions.proofs.statements.put_guard.Goals as goal
 
 pub returns : goal.returns
