@@ -73,8 +73,8 @@ pub(crate) enum Lapse {
     TakesNothing,
 }
 
-/// Takes one byte at each write, but for a lapse at the write of this number, counted from 1; or fails
-/// at the flush.
+/// Takes one byte at each write, but for a lapse at the write of this number, counted from 1; or
+/// fails at the flush.
 #[derive(Drop)]
 pub(crate) struct Paper {
     pub(crate) bytes: Vec<u8>,

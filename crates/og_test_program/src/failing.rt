@@ -30,9 +30,9 @@ fn check_from<R: Threads + Wait + Sync, S: Read, C: Read>(
     engine(rt, alloc, source, certs, paper, OPTIONS, &OpenGate)
 }
 
-// Each read lapses in turn, up to the one after the last byte of the certificates. The reads of both
-// are counted through: the source ends with the read after its last byte. Nothing is written where
-// there is no answer.
+// Each read lapses in turn, up to the one after the last byte of the certificates. The reads of
+// both are counted through: the source ends with the read after its last byte. Nothing is written
+// where there is no answer.
 fn expect_reads<R: Threads + Wait + Sync + Abort>(
     rt: &R,
     alloc: Global,

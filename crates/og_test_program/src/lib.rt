@@ -1,5 +1,5 @@
-//! The program through its libraries: devices that fail, gates that see the workers, every front of a
-//! text, certificates that are found and then checked, words, and refused memory. The cases of
+//! The program through its libraries: devices that fail, gates that see the workers, every front of
+//! a text, certificates that are found and then checked, words, and refused memory. The cases of
 //! `og_cases` have the rest.
 //!
 //! There is nothing to run here but the tests.
