@@ -6,19 +6,19 @@ use std::alloc::{AllocError, Global};
 use std::process::Abort;
 use std::test::Fail;
 
-// With these tokens alone, more is expected at the byte.
-fn expect_end(
+// Other tokens are expected at this place.
+fn expect_fault(
     rt: &impl Abort,
     alloc: Global,
     tokens: &[Token],
-    end: u32,
+    place: Span,
 ) -> Result<(), AllocError> {
     match parse(alloc, tokens) {
-        Ok(_) => panic!(rt; "no fault at {end}"),
+        Ok(_) => panic!(rt; "no fault at {place:?}"),
         Err(ParseError::Memory) => Err(AllocError),
         Err(error) => {
-            let fault = ParseFault::Expected(Span { start: end, end });
-            assert!(rt; error == ParseError::Fault(fault), "{error:?} at {end}");
+            let fault = ParseFault::Expected(place);
+            assert!(rt; error == ParseError::Fault(fault), "{error:?}");
             Ok(())
         }
     }
@@ -34,10 +34,24 @@ fn asks_for_more_at_each_prefix(rt: HostRuntime) -> Result<(), Fail> {
     assert!(rt; tokens.len() == 68);
     let mut end = 0;
     for (i, token) in tokens.iter().enumerate() {
-        expect_end(&rt, rt.alloc(), &tokens[..i], end)?;
+        let place = Span { start: end, end };
+        expect_fault(&rt, rt.alloc(), &tokens[..i], place)?;
         end = token.span.end;
     }
     Ok(())
+}
+
+// No `await` stands in a prologue: so much is told before that it is the 4,097th statement.
+#[test]
+fn asks_for_a_statement_of_main(rt: HostRuntime) -> Result<(), Fail> {
+    let skips = "skip {true} ".repeat(rt.alloc(), 4096)?;
+    let text = ["{true} begin {true} ", skips.as_str(), "await "].concat(rt.alloc())?;
+    let tokens = lex(rt.alloc(), text.as_bytes())?;
+    let place = Span {
+        start: 49172,
+        end: 49177,
+    };
+    Ok(expect_fault(&rt, rt.alloc(), &tokens, place)?)
 }
 
 // The listing of the tree that the tokens stand for.
