@@ -2,14 +2,15 @@
 
 ghost use Rattle.std.specs.Prelude.{◌≡◌, ◌<◌, ◌≤◌, length, true, OnOk};
 
-use crate::binders::binder;
+use crate::binders::binder_to_colon;
 use crate::cursor::Cursor;
+use crate::lists::{boxed, put};
 use crate::sums::sum;
-use crate::tree::{Assertion, Conjunction, Disjunction, Factor, Note, Sum, TermKind, Unit};
+use crate::tree::{Assertion, Binder, Conjunction, Disjunction, Factor, Note, Sum, TermKind, Unit};
 use og_grammar::{FaultKind, Refusal};
 use og_parse::Sign;
 use og_template_words::Special;
-use og_text::TokenKind;
+use og_text::{Span, TokenKind};
 use std::alloc::Global;
 
 // Whether a quantifier stands among the parts, outside of parentheses.
@@ -92,8 +93,8 @@ fn negation(alloc: Global, depth: u32, cursor: &mut Cursor) -> Result<Unit, Refu
     ensures { length cursor.new ≤ length cursor.old }
 {
     let span = cursor.expect(&TokenKind::Not)?;
-    let inner = closed(alloc, depth, cursor)?;
-    Ok(Unit::Not(span, Box::new(alloc, inner)?))
+    let inner = boxed(alloc, closed(alloc, depth, cursor))?;
+    Ok(Unit::Not(span, inner))
 }
 
 #[cycle(assertions)]
@@ -101,9 +102,16 @@ fn group(alloc: Global, depth: u32, cursor: &mut Cursor) -> Result<Unit, Refusal
     ensures { length cursor.new ≤ length cursor.old }
 {
     let span = cursor.expect(&TokenKind::OpenParen)?;
-    let inner = assertion(alloc, depth, cursor)?;
+    let inner = boxed(alloc, assertion(alloc, depth, cursor))?;
     cursor.expect(&TokenKind::CloseParen)?;
-    Ok(Unit::Group(span, Box::new(alloc, inner)?))
+    Ok(Unit::Group(span, inner))
+}
+
+fn quantifier(all: bool, span: Span, binder: Binder, inner: Box<Unit>) -> Unit {
+    if all {
+        return Unit::All(span, binder, inner);
+    }
+    Unit::Any(span, binder, inner)
 }
 
 // What follows `all` or `some`.
@@ -113,14 +121,9 @@ fn quantified(alloc: Global, depth: u32, all: bool, cursor: &mut Cursor) -> Resu
 {
     let span = cursor.span();
     cursor.advance();
-    let binder = binder(alloc, depth, cursor)?;
-    cursor.expect_special(Special::Colon)?;
-    let inner = unit(alloc, depth, cursor)?;
-    let inner = Box::new(alloc, inner)?;
-    if all {
-        return Ok(Unit::All(span, binder, inner));
-    }
-    Ok(Unit::Any(span, binder, inner))
+    let binder = binder_to_colon(alloc, depth, cursor)?;
+    let inner = boxed(alloc, unit(alloc, depth, cursor))?;
+    Ok(quantifier(all, span, binder, inner))
 }
 
 // What `not`, `(`, `all` or `some` opens, where `depth` levels are left.
@@ -170,9 +173,9 @@ fn conjunction(alloc: Global, depth: u32, cursor: &mut Cursor) -> Result<Conjunc
     ensures { length cursor.new ≤ length cursor.old }
 {
     let mut parts = Vec::new(alloc);
-    parts.push(unit(alloc, depth, cursor)?)?;
+    put(&mut parts, unit(alloc, depth, cursor))?;
     'more: while cursor.eat(&TokenKind::And) {
-        parts.push(unit(alloc, depth, cursor)?)?;
+        put(&mut parts, unit(alloc, depth, cursor))?;
     }
     Ok(Conjunction { parts })
 }
@@ -182,9 +185,9 @@ fn disjunction(alloc: Global, depth: u32, cursor: &mut Cursor) -> Result<Disjunc
     ensures { length cursor.new ≤ length cursor.old }
 {
     let mut parts = Vec::new(alloc);
-    parts.push(conjunction(alloc, depth, cursor)?)?;
+    put(&mut parts, conjunction(alloc, depth, cursor))?;
     'more: while cursor.eat(&TokenKind::Or) {
-        parts.push(conjunction(alloc, depth, cursor)?)?;
+        put(&mut parts, conjunction(alloc, depth, cursor))?;
     }
     Ok(Disjunction { parts })
 }
@@ -227,8 +230,7 @@ pub(crate) fn assertion(
         });
     }
     let quantified = has_quantifier(&left);
-    let right = implied(alloc, depth, quantified, cursor)?;
-    let right = Box::new(alloc, right)?;
+    let right = boxed(alloc, implied(alloc, depth, quantified, cursor))?;
     Ok(Assertion {
         left,
         implied: Some((span, right)),

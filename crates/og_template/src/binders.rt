@@ -4,6 +4,7 @@ ghost use Rattle.std.specs.Prelude.{◌≤◌, length};
 
 use crate::cursor::Cursor;
 use crate::exprs::expr;
+use crate::lists::{Listed, list};
 use crate::tree::{Binder, Bounds, Test};
 use og_grammar::{FaultKind, Refusal};
 use og_template_words::Special;
@@ -21,34 +22,29 @@ pub(crate) fn bounds(alloc: Global, depth: u32, cursor: &mut Cursor) -> Result<B
     Ok(Bounds { low, high, span })
 }
 
-fn test(alloc: Global, depth: u32, cursor: &mut Cursor) -> Result<Test, Refusal>
-    ensures { length cursor.new ≤ length cursor.old }
-{
-    let left = expr(alloc, depth, cursor)?;
-    let Some(relation) = cursor.relation() else {
-        return Err(Refusal::Fault(FaultKind::Expected));
-    };
-    let right = expr(alloc, depth, cursor)?;
-    Ok(Test {
-        left,
-        relation,
-        right,
-    })
+impl Listed for Test {
+    fn read(alloc: Global, depth: u32, cursor: &mut Cursor) -> Result<Test, Refusal> {
+        let left = expr(alloc, depth, cursor)?;
+        let Some(relation) = cursor.relation() else {
+            return Err(Refusal::Fault(FaultKind::Expected));
+        };
+        let right = expr(alloc, depth, cursor)?;
+        Ok(Test {
+            left,
+            relation,
+            right,
+        })
+    }
 }
 
 // The tests after `where`, if it stands here.
 fn tests(alloc: Global, depth: u32, cursor: &mut Cursor) -> Result<Vec<Test>, Refusal>
     ensures { length cursor.new ≤ length cursor.old }
 {
-    let mut all = Vec::new(alloc);
     if !cursor.eat_special(Special::Where) {
-        return Ok(all);
+        return Ok(Vec::new(alloc));
     }
-    all.push(test(alloc, depth, cursor)?)?;
-    'more: while cursor.eat(&TokenKind::And) {
-        all.push(test(alloc, depth, cursor)?)?;
-    }
-    Ok(all)
+    list(alloc, depth, &TokenKind::And, cursor)
 }
 
 /// Reads a binder.
@@ -60,4 +56,17 @@ pub(crate) fn binder(alloc: Global, depth: u32, cursor: &mut Cursor) -> Result<B
     let range = bounds(alloc, depth, cursor)?;
     let tests = tests(alloc, depth, cursor)?;
     Ok(Binder { name, range, tests })
+}
+
+/// Reads a binder and the `:` after it.
+pub(crate) fn binder_to_colon(
+    alloc: Global,
+    depth: u32,
+    cursor: &mut Cursor,
+) -> Result<Binder, Refusal>
+    ensures { length cursor.new ≤ length cursor.old }
+{
+    let binder = binder(alloc, depth, cursor)?;
+    cursor.expect_special(Special::Colon)?;
+    Ok(binder)
 }

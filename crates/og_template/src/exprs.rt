@@ -3,10 +3,11 @@
 ghost use Rattle.std.specs.Prelude.{◌<◌, ◌≤◌, length, IfSome};
 
 use crate::cursor::Cursor;
+use crate::lists::{Listed, list, put};
 use crate::tree::{Expr, Link, Operator};
 use og_grammar::{FaultKind, Refusal};
 use og_template_words::Special;
-use og_text::TokenKind;
+use og_text::{Span, TokenKind};
 use std::alloc::{AllocError, Global};
 
 // The operator `+` or `-`, if one stands here. Goes past it.
@@ -37,6 +38,15 @@ fn multiplicative(cursor: &mut Cursor) -> Option<Operator>
     None
 }
 
+// An operator with the operand that was read behind it.
+fn link(operator: Operator, span: Span, read: Result<Expr, Refusal>) -> Result<Link, Refusal> {
+    Ok(Link {
+        operator,
+        span,
+        operand: read?,
+    })
+}
+
 // The operators from the left; an operand alone is itself.
 fn chain(alloc: Global, first: Expr, links: Vec<Link>) -> Result<Expr, AllocError> {
     if links.is_empty() {
@@ -47,7 +57,7 @@ fn chain(alloc: Global, first: Expr, links: Vec<Link>) -> Result<Expr, AllocErro
 
 // The expression after a `-`.
 fn negated(alloc: Global, operand: Expr, minus: u32, end: u32) -> Result<Expr, AllocError> {
-    let span = og_text::Span { start: minus, end };
+    let span = Span { start: minus, end };
     match operand {
         Expr::Number(n, _) => Ok(Expr::Negative(n, span)),
         operand => Ok(Expr::Minus(Box::new(alloc, operand)?, span)),
@@ -82,22 +92,29 @@ fn operand(alloc: Global, depth: u32, cursor: &mut Cursor) -> Result<Expr, Refus
     Ok(Expr::Name(cursor.name(alloc)?))
 }
 
+// The operators `*` and `mod` with their operands, as many as stand here.
+#[cycle(expressions)]
+fn factors(alloc: Global, depth: u32, cursor: &mut Cursor) -> Result<Vec<Link>, Refusal>
+    ensures { length cursor.new ≤ length cursor.old }
+{
+    let mut links = Vec::new(alloc);
+    let mut span = cursor.span();
+    'more: while let Some(operator) = multiplicative(cursor) {
+        put(
+            &mut links,
+            link(operator, span, operand(alloc, depth, cursor)),
+        )?;
+        span = cursor.span();
+    }
+    Ok(links)
+}
+
 #[cycle(expressions)]
 fn product(alloc: Global, depth: u32, cursor: &mut Cursor) -> Result<Expr, Refusal>
     ensures { length cursor.new ≤ length cursor.old }
 {
     let first = operand(alloc, depth, cursor)?;
-    let mut links = Vec::new(alloc);
-    let mut span = cursor.span();
-    'more: while let Some(operator) = multiplicative(cursor) {
-        let operand = operand(alloc, depth, cursor)?;
-        links.push(Link {
-            operator,
-            span,
-            operand,
-        })?;
-        span = cursor.span();
-    }
+    let links = factors(alloc, depth, cursor)?;
     Ok(chain(alloc, first, links)?)
 }
 
@@ -115,24 +132,37 @@ fn signed(alloc: Global, depth: u32, cursor: &mut Cursor) -> Result<Expr, Refusa
     Ok(first)
 }
 
+// The operators `+` and `-` with their operands, as many as stand here.
+#[cycle(expressions)]
+fn terms(alloc: Global, depth: u32, cursor: &mut Cursor) -> Result<Vec<Link>, Refusal>
+    ensures { length cursor.new ≤ length cursor.old }
+{
+    let mut links = Vec::new(alloc);
+    let mut span = cursor.span();
+    'more: while let Some(operator) = additive(cursor) {
+        put(
+            &mut links,
+            link(operator, span, product(alloc, depth, cursor)),
+        )?;
+        span = cursor.span();
+    }
+    Ok(links)
+}
+
 /// Reads an expression with at most `depth` levels.
 #[cycle(expressions)]
 pub(crate) fn expr(alloc: Global, depth: u32, cursor: &mut Cursor) -> Result<Expr, Refusal>
     ensures { length cursor.new ≤ length cursor.old }
 {
     let first = signed(alloc, depth, cursor)?;
-    let mut links = Vec::new(alloc);
-    let mut span = cursor.span();
-    'more: while let Some(operator) = additive(cursor) {
-        let operand = product(alloc, depth, cursor)?;
-        links.push(Link {
-            operator,
-            span,
-            operand,
-        })?;
-        span = cursor.span();
-    }
+    let links = terms(alloc, depth, cursor)?;
     Ok(chain(alloc, first, links)?)
+}
+
+impl Listed for Expr {
+    fn read(alloc: Global, depth: u32, cursor: &mut Cursor) -> Result<Expr, Refusal> {
+        expr(alloc, depth, cursor)
+    }
 }
 
 /// Reads expressions with `,` between them, up to the `)`.
@@ -143,11 +173,7 @@ pub(crate) fn arguments(
 ) -> Result<Vec<Expr>, Refusal>
     ensures { length cursor.new ≤ length cursor.old }
 {
-    let mut all = Vec::new(alloc);
-    all.push(expr(alloc, depth, cursor)?)?;
-    'more: while cursor.eat(&TokenKind::Comma) {
-        all.push(expr(alloc, depth, cursor)?)?;
-    }
+    let all = list(alloc, depth, &TokenKind::Comma, cursor)?;
     cursor.expect(&TokenKind::CloseParen)?;
     Ok(all)
 }

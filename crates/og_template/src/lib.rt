@@ -8,6 +8,7 @@ mod binders;
 mod cursor;
 mod exprs;
 mod fault;
+mod lists;
 mod statements;
 mod sums;
 mod template;

@@ -3,9 +3,10 @@
 ghost use Rattle.std.specs.Prelude.{◌<◌, ◌≤◌, length, OnOk};
 
 use crate::assertions::{note, test};
-use crate::binders::binder;
+use crate::binders::{binder, binder_to_colon};
 use crate::cursor::Cursor;
 use crate::exprs::bracketed;
+use crate::lists::{Listed, list};
 use crate::sums::sum;
 use crate::tree::{Assertion, Basic, Binder, Element, Sequence, Statement, Step};
 use og_grammar::{FaultKind, Refusal};
@@ -53,31 +54,25 @@ fn element_binder(alloc: Global, depth: u32, cursor: &mut Cursor) -> Result<Opti
     if !cursor.eat_special(Special::For) {
         return Ok(None);
     }
-    let binder = binder(alloc, depth, cursor)?;
-    cursor.expect_special(Special::Colon)?;
-    Ok(Some(binder))
+    Ok(Some(binder_to_colon(alloc, depth, cursor)?))
 }
 
-fn bound_element(alloc: Global, depth: u32, cursor: &mut Cursor) -> Result<Element, Refusal>
-    ensures { length cursor.new ≤ length cursor.old }
-{
-    let binder = element_binder(alloc, depth, cursor)?;
-    element(alloc, depth, binder, cursor)
+impl Listed for Element {
+    fn read(alloc: Global, depth: u32, cursor: &mut Cursor) -> Result<Element, Refusal> {
+        let binder = element_binder(alloc, depth, cursor)?;
+        element(alloc, depth, binder, cursor)
+    }
 }
 
 // The body of an await.
 fn body(alloc: Global, depth: u32, cursor: &mut Cursor) -> Result<Vec<Element>, Refusal>
     ensures { length cursor.new ≤ length cursor.old }
 {
-    let mut all = Vec::new(alloc);
     if !cursor.eat(&TokenKind::Begin) {
-        all.push(element(alloc, depth, None, cursor)?)?;
-        return Ok(all);
+        let alone = element(alloc, depth, None, cursor)?;
+        return Ok(vec![in alloc; alone]?);
     }
-    all.push(bound_element(alloc, depth, cursor)?)?;
-    'more: while cursor.eat(&TokenKind::Semicolon) {
-        all.push(bound_element(alloc, depth, cursor)?)?;
-    }
+    let all = list(alloc, depth, &TokenKind::Semicolon, cursor)?;
     cursor.expect(&TokenKind::End)?;
     Ok(all)
 }

@@ -2,9 +2,10 @@
 
 ghost use Rattle.std.specs.Prelude.{◌≤◌, length};
 
-use crate::binders::binder;
+use crate::binders::binder_to_colon;
 use crate::cursor::Cursor;
 use crate::exprs::{arguments, bracketed};
+use crate::lists::put;
 use crate::tree::{Factor, Sum, Term, TermKind};
 use og_grammar::{FaultKind, Refusal};
 use og_parse::Sign;
@@ -60,7 +61,7 @@ fn summands(alloc: Global, depth: u32, cursor: &mut Cursor) -> Result<Vec<Term>,
         return Ok(all);
     }
     let mut all = Vec::new(alloc);
-    all.push(term(alloc, depth, Sign::Plus, cursor)?)?;
+    put(&mut all, term(alloc, depth, Sign::Plus, cursor))?;
     Ok(all)
 }
 
@@ -73,8 +74,7 @@ fn total(alloc: Global, depth: u32, cursor: &mut Cursor) -> Result<TermKind, Ref
         return Err(Refusal::Fault(FaultKind::TooDeep));
     }
     cursor.expect_special(Special::Sum)?;
-    let binder = binder(alloc, depth - 1, cursor)?;
-    cursor.expect_special(Special::Colon)?;
+    let binder = binder_to_colon(alloc, depth - 1, cursor)?;
     Ok(TermKind::Total(binder, summands(alloc, depth - 1, cursor)?))
 }
 
@@ -102,9 +102,9 @@ fn terms(alloc: Global, depth: u32, cursor: &mut Cursor) -> Result<Vec<Term>, Re
         Sign::Plus
     };
     let mut all = Vec::new(alloc);
-    all.push(term(alloc, depth, sign, cursor)?)?;
+    put(&mut all, term(alloc, depth, sign, cursor))?;
     'more: while let Some(sign) = cursor.sign() {
-        all.push(term(alloc, depth, sign, cursor)?)?;
+        put(&mut all, term(alloc, depth, sign, cursor))?;
     }
     Ok(all)
 }

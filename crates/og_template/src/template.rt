@@ -7,9 +7,10 @@ use crate::binders::{binder, bounds};
 use crate::cursor::Cursor;
 use crate::exprs::expr;
 use crate::fault::{FaultKind, TemplateError};
+use crate::lists::{Listed, list, put};
 use crate::statements::{Limits, rest_of_block, sequence};
 use crate::tree::{
-    Auxiliary, Bounds, Constant, Named, Note, Process, Sequence, Template, Variable,
+    Auxiliary, Binder, Bounds, Constant, Named, Note, Process, Sequence, Template, Variable,
 };
 use og_grammar::{FaultKind as Stop, Refusal};
 use og_parse::RawName;
@@ -35,106 +36,93 @@ struct Center {
     processes: Vec<Process>,
 }
 
-fn constant(alloc: Global, cursor: &mut Cursor) -> Result<Constant, Refusal>
+// What is declared in a list, and the `;` behind it.
+fn declared_list<T: Listed>(alloc: Global, cursor: &mut Cursor) -> Result<Vec<T>, Refusal>
     ensures { length cursor.new ≤ length cursor.old }
 {
-    let name = cursor.name(alloc)?;
-    cursor.expect(&TokenKind::Equal)?;
-    let value = expr(alloc, LEVELS, cursor)?;
-    Ok(Constant { name, value })
+    let all = list(alloc, LEVELS, &TokenKind::Comma, cursor)?;
+    cursor.expect(&TokenKind::Semicolon)?;
+    Ok(all)
+}
+
+impl Listed for Constant {
+    fn read(alloc: Global, depth: u32, cursor: &mut Cursor) -> Result<Constant, Refusal> {
+        let name = cursor.name(alloc)?;
+        cursor.expect(&TokenKind::Equal)?;
+        let value = expr(alloc, depth, cursor)?;
+        Ok(Constant { name, value })
+    }
 }
 
 fn constants(alloc: Global, cursor: &mut Cursor) -> Result<Vec<Constant>, Refusal>
     ensures { length cursor.new ≤ length cursor.old }
 {
-    let mut all = Vec::new(alloc);
     if !cursor.eat_special(Special::Const) {
-        return Ok(all);
+        return Ok(Vec::new(alloc));
     }
-    all.push(constant(alloc, cursor)?)?;
-    'more: while cursor.eat(&TokenKind::Comma) {
-        all.push(constant(alloc, cursor)?)?;
-    }
-    cursor.expect(&TokenKind::Semicolon)?;
-    Ok(all)
+    declared_list(alloc, cursor)
 }
 
 // The range in brackets, if one stands here.
-fn family(alloc: Global, cursor: &mut Cursor) -> Result<Option<Bounds>, Refusal>
+fn family(alloc: Global, depth: u32, cursor: &mut Cursor) -> Result<Option<Bounds>, Refusal>
     ensures { length cursor.new ≤ length cursor.old }
 {
     if !cursor.eat_special(Special::OpenBracket) {
         return Ok(None);
     }
-    let range = bounds(alloc, LEVELS, cursor)?;
+    let range = bounds(alloc, depth, cursor)?;
     cursor.expect_special(Special::CloseBracket)?;
     Ok(Some(range))
 }
 
-fn variable(alloc: Global, cursor: &mut Cursor) -> Result<Variable, Refusal>
-    ensures { length cursor.new ≤ length cursor.old }
-{
-    let name = cursor.name(alloc)?;
-    let family = family(alloc, cursor)?;
-    Ok(Variable { name, family })
+impl Listed for Variable {
+    fn read(alloc: Global, depth: u32, cursor: &mut Cursor) -> Result<Variable, Refusal> {
+        let name = cursor.name(alloc)?;
+        let family = family(alloc, depth, cursor)?;
+        Ok(Variable { name, family })
+    }
 }
 
 fn variables(alloc: Global, cursor: &mut Cursor) -> Result<Vec<Variable>, Refusal>
     ensures { length cursor.new ≤ length cursor.old }
 {
-    let mut all = Vec::new(alloc);
     if !cursor.eat(&TokenKind::Var) {
-        return Ok(all);
+        return Ok(Vec::new(alloc));
     }
-    all.push(variable(alloc, cursor)?)?;
-    'more: while cursor.eat(&TokenKind::Comma) {
-        all.push(variable(alloc, cursor)?)?;
-    }
-    cursor.expect(&TokenKind::Semicolon)?;
-    Ok(all)
+    declared_list(alloc, cursor)
 }
 
-fn auxiliary(alloc: Global, cursor: &mut Cursor) -> Result<Auxiliary, Refusal>
-    ensures { length cursor.new ≤ length cursor.old }
-{
-    let name = cursor.name(alloc)?;
-    let family = family(alloc, cursor)?;
-    cursor.expect(&TokenKind::Equal)?;
-    let value = expr(alloc, LEVELS, cursor)?;
-    Ok(Auxiliary {
-        name,
-        family,
-        value,
-    })
+impl Listed for Auxiliary {
+    fn read(alloc: Global, depth: u32, cursor: &mut Cursor) -> Result<Auxiliary, Refusal> {
+        let name = cursor.name(alloc)?;
+        let family = family(alloc, depth, cursor)?;
+        cursor.expect(&TokenKind::Equal)?;
+        let value = expr(alloc, depth, cursor)?;
+        Ok(Auxiliary {
+            name,
+            family,
+            value,
+        })
+    }
 }
 
 fn auxiliaries(alloc: Global, cursor: &mut Cursor) -> Result<Vec<Auxiliary>, Refusal>
     ensures { length cursor.new ≤ length cursor.old }
 {
-    let mut all = Vec::new(alloc);
     if !cursor.eat(&TokenKind::Aux) {
-        return Ok(all);
+        return Ok(Vec::new(alloc));
     }
-    all.push(auxiliary(alloc, cursor)?)?;
-    'more: while cursor.eat(&TokenKind::Comma) {
-        all.push(auxiliary(alloc, cursor)?)?;
-    }
-    cursor.expect(&TokenKind::Semicolon)?;
-    Ok(all)
+    declared_list(alloc, cursor)
 }
 
 // The parameters in parentheses, if some stand here.
 fn parameters(alloc: Global, cursor: &mut Cursor) -> Result<Vec<RawName>, Refusal>
     ensures { length cursor.new ≤ length cursor.old }
 {
-    let mut all = Vec::new(alloc);
     if !cursor.eat(&TokenKind::OpenParen) {
-        return Ok(all);
+        return Ok(Vec::new(alloc));
     }
-    all.push(cursor.name(alloc)?)?;
-    'more: while cursor.eat(&TokenKind::Comma) {
-        all.push(cursor.name(alloc)?)?;
-    }
+    let all = list(alloc, LEVELS, &TokenKind::Comma, cursor)?;
     cursor.expect(&TokenKind::CloseParen)?;
     Ok(all)
 }
@@ -160,7 +148,7 @@ fn all_named(alloc: Global, cursor: &mut Cursor) -> Result<Vec<Named>, Refusal>
 {
     let mut all = Vec::new(alloc);
     'more: while cursor.eat_special(Special::Let) {
-        all.push(named(alloc, cursor)?)?;
+        put(&mut all, named(alloc, cursor))?;
     }
     Ok(all)
 }
@@ -180,44 +168,30 @@ fn main_part(alloc: Global, cursor: &mut Cursor) -> Result<Option<Sequence>, Ref
 }
 
 // The binder of a family of processes, if one stands here.
-fn process_binder(
-    alloc: Global,
-    cursor: &mut Cursor,
-) -> Result<Option<crate::tree::Binder>, Refusal>
+fn process_binder(alloc: Global, depth: u32, cursor: &mut Cursor) -> Result<Option<Binder>, Refusal>
     ensures { length cursor.new ≤ length cursor.old }
 {
     if !cursor.eat_special(Special::Process) {
         return Ok(None);
     }
-    Ok(Some(binder(alloc, LEVELS, cursor)?))
+    Ok(Some(binder(alloc, depth, cursor)?))
 }
 
-fn process(alloc: Global, cursor: &mut Cursor) -> Result<Process, Refusal>
-    ensures { length cursor.new ≤ length cursor.old }
-{
-    let binder = process_binder(alloc, cursor)?;
-    let limits = Limits {
-        depth: LEVELS,
-        awaits: true,
-    };
-    let body = sequence(alloc, LEVELS, limits, cursor)?;
-    Ok(Process { binder, body })
-}
-
-fn processes(alloc: Global, cursor: &mut Cursor) -> Result<Vec<Process>, Refusal>
-    ensures { length cursor.new ≤ length cursor.old }
-{
-    let mut all = Vec::new(alloc);
-    all.push(process(alloc, cursor)?)?;
-    'more: while cursor.eat(&TokenKind::Parallel) {
-        all.push(process(alloc, cursor)?)?;
+impl Listed for Process {
+    fn read(alloc: Global, depth: u32, cursor: &mut Cursor) -> Result<Process, Refusal> {
+        let binder = process_binder(alloc, depth, cursor)?;
+        let limits = Limits {
+            depth,
+            awaits: true,
+        };
+        let body = sequence(alloc, LEVELS, limits, cursor)?;
+        Ok(Process { binder, body })
     }
-    Ok(all)
 }
 
 fn middle(alloc: Global, cursor: &mut Cursor) -> Result<Center, Refusal> {
     let cobegin = cursor.expect(&TokenKind::Cobegin)?;
-    let processes = processes(alloc, cursor)?;
+    let processes = list(alloc, LEVELS, &TokenKind::Parallel, cursor)?;
     cursor.expect(&TokenKind::Coend)?;
     Ok(Center { cobegin, processes })
 }

@@ -15,6 +15,10 @@ word name = record (new_rule name) { required = true }
 abbrev pub flag : Text → Rule
 flag name = record (new_rule name) { long = Some name; action = Some SetTrue }
 
+-- `--NAME VALUE`
+abbrev pub option : Text → Rule
+option name = record (new_rule name) { long = Some name; value_names = 1 }
+
 -- `--NAME N`, and this N where it is not given
 abbrev pub number : Text → Text → ValueParser → Rule
 number name default within = record (new_rule name) { long = Some name; value_names = 1; defaults = default ∷ []; parser = Some within }
@@ -23,17 +27,13 @@ number name default within = record (new_rule name) { long = Some name; value_na
 abbrev pub smt2_flag : Rule
 smt2_flag = record (flag (codes "smt2")) { is_free = false }
 
--- `--only N,M..`
-abbrev pub only_option : Rule
-only_option = record (new_rule (codes "only")) { long = Some (codes "only"); value_names = 1 }
-
 -- `--certs FILE`, which does not go with `--erased`
 abbrev pub certs_option : Rule
-certs_option = record (new_rule (codes "certs")) { long = Some (codes "certs"); value_names = 1; is_free = false }
+certs_option = record (option (codes "certs")) { is_free = false }
 
 -- `--schedule P,P,..`, which goes with neither `--certs` nor `--limit`
 abbrev pub schedule_option : Rule
-schedule_option = record (new_rule (codes "schedule")) { long = Some (codes "schedule"); value_names = 1; is_free = false }
+schedule_option = record (option (codes "schedule")) { is_free = false }
 
 -- words of this form, as many as there are
 abbrev pub words : Text → Rule
@@ -96,7 +96,7 @@ abbrev pub show : Shape
 show = command (codes "show") (source ∷ budget ∷ workers ∷ flag (codes "runs") ∷ run_moments ∷ run_ranges ∷ [])
 
 abbrev pub conditions : Shape
-conditions = command (codes "conditions") (source ∷ flag (codes "triples") ∷ smt2_flag ∷ only_option ∷ [])
+conditions = command (codes "conditions") (source ∷ flag (codes "triples") ∷ smt2_flag ∷ option (codes "only") ∷ [])
 
 abbrev pub finder : Shape
 finder = command (codes "find") (source ∷ budget ∷ workers ∷ version ∷ [])

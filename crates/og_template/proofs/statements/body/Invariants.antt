@@ -1,8 +1,0 @@
-use Rattle.std.proofs.Common.{◌≤◌, length}
-use Rattle.og_template.proofs.statements.body.Given as goal
-
-abbrev pub invariant-more : goal.invariant-more
-invariant-more l = length l.cursor ≤ length l.fn.cursor
-
-abbrev pub decreases-more : goal.decreases-more
-decreases-more l = length l.cursor

@@ -1,0 +1,50 @@
+//! Reading lists.
+
+ghost use Rattle.std.specs.Prelude.{◌≤◌, length};
+
+use crate::cursor::Cursor;
+use og_grammar::Refusal;
+use og_parse::RawName;
+use og_text::TokenKind;
+use std::alloc::Global;
+
+/// What stands in lists.
+pub(crate) trait Listed: Drop {
+    /// Reads one, with at most `depth` levels of expressions.
+    fn read(alloc: Global, depth: u32, cursor: &mut Cursor) -> Result<Self, Refusal>
+        ensures { length cursor.new ≤ length cursor.old };
+}
+
+impl Listed for RawName {
+    fn read(alloc: Global, _depth: u32, cursor: &mut Cursor) -> Result<RawName, Refusal> {
+        cursor.name(alloc)
+    }
+}
+
+/// Adds what was read.
+pub(crate) fn put<T: Drop>(all: &mut Vec<T>, read: Result<T, Refusal>) -> Result<(), Refusal> {
+    all.push(read?)?;
+    Ok(())
+}
+
+/// A box for what was read.
+pub(crate) fn boxed<T: Drop>(alloc: Global, read: Result<T, Refusal>) -> Result<Box<T>, Refusal> {
+    Ok(Box::new(alloc, read?)?)
+}
+
+/// Reads a list, with this separator between two: at least one.
+pub(crate) fn list<T: Listed>(
+    alloc: Global,
+    depth: u32,
+    separator: &TokenKind,
+    cursor: &mut Cursor,
+) -> Result<Vec<T>, Refusal>
+    ensures { length cursor.new ≤ length cursor.old }
+{
+    let mut all = Vec::new(alloc);
+    put(&mut all, T::read(alloc, depth, cursor))?;
+    'more: while cursor.eat(separator) {
+        put(&mut all, T::read(alloc, depth, cursor))?;
+    }
+    Ok(all)
+}
