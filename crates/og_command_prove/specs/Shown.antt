@@ -1,30 +1,23 @@
 -- What is told of conditions one for one, with the runs.
-use Rattle.std.specs.Prelude.{ℤ, List, [], ◌∷◌, Option, IfSome, Vec, ⊤}
-use Rattle.std.specs.List.{All}
-use Rattle.std.specs.Global.{Global}
+use Rattle.std.specs.Prelude.{ℤ, List, [], ◌∷◌, ⊤}
 use Rattle.og_typed.specs.Syntax.{Program}
 use Rattle.og_cond.specs.Condition.{Condition}
-use Rattle.og_explain.specs.Stands.{IsStand}
-use Rattle.og_explain.specs.declared.explanation.Stand.{Stand}
-use Rattle.og_report_prove.specs.Told.{IsTold, IsOfState}
+use Rattle.og_report_prove.specs.Told.{IsTold}
 use Rattle.og_report_prove.specs.declared.telling.Told.{Told}
 use Rattle.og_report_runs.specs.Runs.{IsRun}
+use Rattle.og_report_runs.specs.Told.{IsToldBy}
 use Rattle.og_report_runs.specs.declared.witness.Run.{Run}
 use Rattle.og_report_runs.specs.declared.witness.Run.TheVariants as run
 
--- where a run gets to a state, the condition is told of that state
-abbrev pub IsOfRun : Run → Told → Type 0
-IsOfRun (run.Reached w) told = IsOfState w.state told
-IsOfRun run.Never told = ⊤
-IsOfRun run.Open told = ⊤
-
--- where processes stand in a state, if that is told
-abbrev pub AreStandsOf : Program → List ℤ → Option (Vec Stand Global) → Type 0
-AreStandsOf o s stands = IfSome stands (λ v. All (IsStand o s) v.items)
+-- where a run gets to a state, the condition is told of that state, and of where the run has the processes
+abbrev pub IsOfRun : Program → Run → Told → Type 0
+IsOfRun o (run.Reached w) told = IsToldBy o w told
+IsOfRun o run.Never told = ⊤
+IsOfRun o run.Open told = ⊤
 
 -- what is told of a condition is so, and so is what is told of the runs from the starts within these lists of ranges
 abbrev pub IsShown : Program → List (List (ℤ × ℤ)) → Condition → Told → Run → Type 0
-IsShown o lists c t r = IsTold o c t × IsRun o lists c r × IsOfRun r t
+IsShown o lists c t r = IsTold o c t × IsRun o lists c r × IsOfRun o r t
 
 abbrev pub AreShown : Program → List (List (ℤ × ℤ)) → List Condition → List Told → List Run → Type 0
 AreShown o lists [] [] [] = ⊤

@@ -1,28 +1,21 @@
 //! What is told of a false condition where a run gets to a state that breaks it.
 
-ghost use Rattle.std.specs.Prelude.{◌≡◌, ◌⊎◌, map, true, IfOk, IfSome, MatchOption};
+ghost use Rattle.std.specs.Prelude.{◌≡◌, ◌⊎◌, map, true, IfOk};
 ghost use Rattle.og_typed.specs.Machine.{Moment as Instant};
 ghost use Rattle.og_cond.specs.Seen.{seen};
-ghost use Rattle.og_find.specs.Found.{IsFalseAt};
 ghost use Rattle.og_explore.specs.Seen.{IsKnown};
 ghost use Rattle.og_explore.specs.From.{IsReachedFrom};
-ghost use Rattle.og_explain.specs.Stands.{IsStand};
-ghost use Rattle.og_explain.specs.Explanations.{IsExplained};
-ghost use Rattle.og_report_prove.specs.Told.{IsBlock, IsTold, IsOfState};
+ghost use Rattle.og_report_prove.specs.Told.{IsTold};
 ghost use Rattle.og_report_runs.specs.Runs.{IsRun};
-ghost use Rattle.og_command_prove.specs.Shown.{IsOfRun, IsShown, AreStandsOf};
+ghost use Rattle.og_report_runs.specs.Told.{LeadsTo, IsToldBy};
+ghost use Rattle.og_command_prove.specs.Shown.{IsOfRun, IsShown};
 
-use og_cond::{Condition, Kind};
-use og_explain::{Explanation, Fault, Stand, Unexplained, explain, true_site, waiting};
+use og_cond::Condition;
 use og_explore::{Range, Reach};
-use og_linear::State;
 use og_places::Index;
-use og_report_prove::{Block, Told, block_of};
-use og_report_runs::{Run, Witness, find_run};
-use og_step::Moment;
-use og_typed::{Outline, Seq};
-use og_values::Values;
-use og_violation::moment_after;
+use og_report_prove::Told;
+use og_report_runs::{Run, Witness, find_run, told_by_run};
+use og_typed::Outline;
 use std::alloc::{AllocError, Global};
 
 /// What is told of a condition, and of the runs that get to a state in which it is false.
@@ -32,166 +25,12 @@ pub(crate) struct Shown<'a> {
     pub(crate) run: Run,
 }
 
-// Where process p stands at the moment, where it waits there or has ended, and its assertion is true.
-fn stand_of<'a>(
-    index: &Index<'a>,
-    moment: &Moment<'a>,
-    p: u32,
-    process: &Seq,
-    values: &Values,
-) -> Option<Stand<'a>>
-    ensures { IfSome result (IsStand index.now values.now) }
-{
-    match moment.head(p) {
-        Some(item) => Some(Stand::Waits(waiting(index, item.at, values)?)),
-        None => Some(Stand::Ended(true_site(index, process.last.at, values)?)),
-    }
-}
-
-// Where each process stands at the moment, where these are the values; none where one of them neither
-// waits nor has ended where its assertion is true.
-fn stands_by<'a>(
-    alloc: Global,
-    outline: &Outline,
-    index: &Index<'a>,
-    moment: &Moment<'a>,
-    values: &Values,
-) -> Result<Option<Vec<Stand<'a>>>, AllocError>
-    ensures { IfOk result (AreStandsOf index.now values.now) }
-{
-    outline.follows_rule();
-    let processes = outline.processes();
-    let mut stands = Vec::new(alloc);
-    for p in 0..processes.len() {
-        let Some(stand) = stand_of(index, moment, p as u32, &processes[p], values) else {
-            return Ok(None);
-        };
-        stands.push(stand)?;
-    }
-    Ok(Some(stands))
-}
-
-// The same of a state.
-fn stands_of<'a>(
-    alloc: Global,
-    outline: &Outline,
-    index: &Index<'a>,
-    moment: &Moment<'a>,
-    state: &State,
-) -> Result<Option<Vec<Stand<'a>>>, AllocError>
-    ensures { IfOk result (AreStandsOf index.now state.now) }
-{
-    let values = Values::of(alloc, state)?;
-    let stands = stands_by(alloc, outline, index, moment, &values)?;
-    Ok(stands)
-}
-
-// With these stands, where there are some.
-fn with_stands<'a>(explanation: Explanation<'a>, stands: Option<Vec<Stand<'a>>>) -> Explanation<'a>
-    ensures known { result.known ≡ explanation.entry.known }
-    ensures starts { result.starts ≡ explanation.entry.starts }
-    ensures test { result.test ≡ explanation.entry.test }
-    ensures action { result.action ≡ explanation.entry.action }
-    ensures after { result.after ≡ explanation.entry.after }
-    ensures fault { MatchOption stands.entry (result.fault ≡ explanation.entry.fault) (λ v. result.fault ≡ Fault.Blocked v) }
-{
-    match stands {
-        None => explanation,
-        Some(stands) => Explanation {
-            fault: Fault::Blocked(stands),
-            ..explanation
-        },
-    }
-}
-
-// Why the condition is false in the state, with these stands, where there are some.
-fn explained<'a>(
-    alloc: Global,
-    outline: &'a Outline,
-    index: &Index<'a>,
-    condition: &Condition,
-    state: &State,
-    stands: Option<Vec<Stand<'a>>>,
-) -> Result<Explanation<'a>, Unexplained>
-    requires index { index.now ≡ outline.now }
-    requires stands { AreStandsOf outline.now state.now stands }
-    ensures { IfOk result (IsExplained outline.now (seen condition.now) state.now) }
-{
-    let explanation = explain(alloc, outline, index, condition, state)?;
-    Ok(with_stands(explanation, stands))
-}
-
-// The block of a condition that is false in the state, with these stands, where there are some.
-fn block_at<'a>(
-    alloc: Global,
-    outline: &'a Outline,
-    index: &Index<'a>,
-    condition: &Condition,
-    state: &State,
-    stands: Option<Vec<Stand<'a>>>,
-) -> Result<Block<'a>, Unexplained>
-    requires index { index.now ≡ outline.now }
-    requires is_false { IsFalseAt (seen condition.now) state.now }
-    requires stands { AreStandsOf outline.now state.now stands }
-    ensures block { IfOk result (IsBlock outline.now (seen condition.now)) }
-    ensures state { IfOk result (λ b. b.values ≡ state.now) }
-{
-    let explanation = explained(alloc, outline, index, condition, state, stands)?;
-    let values = Values::of(alloc, state)?;
-    block_of(alloc, outline, index, condition, values, explanation)
-}
-
-// What is told of a condition that is false in the state to which a run gets.
-fn told_of<'a>(
-    alloc: Global,
-    outline: &'a Outline,
-    index: &Index<'a>,
-    condition: &Condition,
-    state: &State,
-    stands: Option<Vec<Stand<'a>>>,
-) -> Result<Told<'a>, AllocError>
-    requires index { index.now ≡ outline.now }
-    requires is_false { IsFalseAt (seen condition.now) state.now }
-    requires stands { AreStandsOf outline.now state.now stands }
-    ensures told { IfOk result (IsTold outline.now (seen condition.now)) }
-    ensures state { IfOk result (IsOfState state.now) }
-{
-    match block_at(alloc, outline, index, condition, state, stands) {
-        Ok(block) => Ok(Told::False(block)),
-        Err(Unexplained::Open) => Ok(Told::Open),
-        Err(Unexplained::Memory) => Err(AllocError),
-    }
-}
-
-// Where the processes stand at the end of the run, of a program that may be stuck.
-fn stands_at<'a>(
-    alloc: Global,
-    outline: &'a Outline,
-    index: &Index<'a>,
-    condition: &Condition,
-    witness: &Witness,
-) -> Result<Option<Vec<Stand<'a>>>, AllocError>
-    requires { index.now ≡ outline.now }
-    ensures { IfOk result (AreStandsOf outline.now witness.now.state) }
-{
-    let Kind::Blocking = condition.kind else {
-        return Ok(None);
-    };
-    match moment_after(alloc, outline, &witness.values, &witness.history)? {
-        Some(moment) => {
-            let stands = stands_of(alloc, outline, index, &moment, &witness.state)?;
-            Ok(stands)
-        }
-        None => Ok(None),
-    }
-}
-
 // With the run, where the condition is told as false.
-fn shown_with<'a>(told: Told<'a>, witness: Witness) -> Shown<'a>
-    requires { IsOfState witness.state told }
+fn shown_with<'a>(outline: &Outline, told: Told<'a>, witness: Witness) -> Shown<'a>
+    requires { IsToldBy outline.now witness told }
     ensures told { result.told ≡ told.entry }
     ensures run { (result.run ≡ Run.Reached witness) ⊎ (result.run ≡ Run.Open) }
-    ensures of { IsOfRun result.run result.told }
+    ensures of { IsOfRun outline.now result.run result.told }
 {
     match told {
         Told::Proved => Shown {
@@ -209,7 +48,7 @@ fn shown_with<'a>(told: Told<'a>, witness: Witness) -> Shown<'a>
     }
 }
 
-// The condition told of the state to which the run gets, with the run.
+// The condition told by the run, with the run.
 fn shown_by<'a>(
     alloc: Global,
     outline: &'a Outline,
@@ -218,14 +57,13 @@ fn shown_by<'a>(
     witness: Witness,
 ) -> Result<Shown<'a>, AllocError>
     requires index { index.now ≡ outline.now }
-    requires is_false { IsFalseAt (seen condition.now) witness.state }
+    requires run { LeadsTo outline.now (seen condition.now) witness }
     ensures told { IfOk result (λ s. IsTold outline.now (seen condition.now) s.told) }
     ensures run { IfOk result (λ s. (s.run ≡ Run.Reached witness) ⊎ (s.run ≡ Run.Open)) }
-    ensures of { IfOk result (λ s. IsOfRun s.run s.told) }
+    ensures of { IfOk result (λ s. IsOfRun outline.now s.run s.told) }
 {
-    let stands = stands_at(alloc, outline, index, condition, &witness)?;
-    let told = told_of(alloc, outline, index, condition, &witness.state, stands)?;
-    Ok(shown_with(told, witness))
+    let told = told_by_run(alloc, outline, index, condition, &witness)?;
+    Ok(shown_with(outline, told, witness))
 }
 
 // What is told of a condition that is told as false, by what is known of the runs.
@@ -258,7 +96,8 @@ fn shown_by_run<'a>(
 
 /// What is told of a condition, and of the runs from the starts within these lists of ranges that
 /// get to a state in which it is false, as `og_report_runs::find_run` finds them. Where one does, the
-/// condition is told of that state; of a condition that is not told as false no run is sought.
+/// condition is told by it, as by `og_report_runs::told_by_run`; of a condition that is not told as
+/// false no run is sought.
 ///
 /// # Errors
 ///

@@ -1,5 +1,5 @@
 -- What is promised of an explanation.
-use Rattle.std.specs.Prelude.{◌≡◌, ◌<◌, ℤ, List, Some, true, length, IfSome, Vec}
+use Rattle.std.specs.Prelude.{◌≡◌, ◌<◌, ℤ, List, Some, true, length, IfSome, Vec, ⊤}
 use Rattle.std.specs.List.{All}
 use Rattle.std.specs.Global.{Global}
 use Rattle.og_typed.specs.Syntax.{Noted, Program}
@@ -15,7 +15,7 @@ use Rattle.og_explain.specs.declared.explanation.Fault.{Fault}
 use Rattle.og_explain.specs.declared.explanation.Fault.TheVariants as fault
 use Rattle.og_explain.specs.declared.explanation.Test.{Test}
 use Rattle.og_explain.specs.Explained.{IsNoteOf, IsTrueNote, IsTested, IsAction, HaveValues, false_conjuncts}
-use Rattle.og_explain.specs.Stands.{IsStand}
+use Rattle.og_explain.specs.Stands.{IsStand, AreStands}
 use denote.Ref.{Bor}
 
 -- a statement of the outline whose test has the truth that is told
@@ -32,11 +32,17 @@ IsTooLarge c s (fault.False note found) = ⊥
 IsTooLarge c s (fault.TooLarge x v) = first_large (assignments c.action) s ≡ Some (x, v)
 IsTooLarge c s (fault.Blocked stands) = ⊥
 
--- an assertion of the outline that is false after the action, a value that is too large, or where all processes stand
+-- an assertion of the outline that is false after the action, a value that is too large, or where processes stand
 abbrev pub IsFault : Program → Condition → List ℤ → List ℤ → Fault → Type 0
 IsFault o c s after (fault.False note found) = IsNoteOf o (noted note.now) × IsFalseNote after (noted note.now) found
 IsFault o c s after (fault.TooLarge x v) = first_large (assignments c.action) s ≡ Some (x, v)
-IsFault o c s after (fault.Blocked stands) = All (IsStand o s) stands.items
+IsFault o c s after (fault.Blocked stands) = AreStands o s stands.items
+
+-- where it tells where processes stand, the assertion at each place is true
+abbrev pub AreAllowed : Program → List ℤ → Fault → Type 0
+AreAllowed o s (fault.False note found) = ⊤
+AreAllowed o s (fault.TooLarge x v) = ⊤
+AreAllowed o s (fault.Blocked stands) = All (IsStand o s) stands.items
 
 -- all that is told is so
 pub record IsExplained (o : Program) (c : Condition) (s : List ℤ) (e : Explanation) : Type 0 where

@@ -10,7 +10,7 @@ ghost use Rattle.og_places.specs.Seen.{statement_of};
 ghost use Rattle.og_report_text.specs.Seen.{formulas_of};
 ghost use Rattle.og_subst.specs.Actions.{action_tree};
 ghost use Rattle.og_explain.specs.Explained.{IsNoteOf, IsTrueNote, IsAction, IsOneAction, HaveValues, false_ones};
-ghost use Rattle.og_explain.specs.Explanations.{IsFault, IsFalseNote, IsTooLarge, IsExplained, TestIs};
+ghost use Rattle.og_explain.specs.Explanations.{IsFault, IsFalseNote, IsTooLarge, AreAllowed, IsExplained, TestIs};
 
 use crate::explanation::{Explanation, Fault, Test};
 use crate::frame::{action_at, goal_at, known_at, tested_as};
@@ -198,7 +198,8 @@ fn fault_of<'a>(
     after: &Values,
 ) -> Result<Fault<'a>, Unexplained>
     requires { index.now ≡ outline.now }
-    ensures { IfOk result (IsFault outline.now (seen condition.now) values.now after.now) }
+    ensures fault { IfOk result (IsFault outline.now (seen condition.now) values.now after.now) }
+    ensures allowed { IfOk result (AreAllowed outline.now values.now) }
 {
     match condition.goal {
         Goal::Never => Ok(Fault::Blocked(stands(alloc, outline, index, values)?)),
@@ -230,7 +231,7 @@ fn too_large<'a>(
 }
 
 /// Why the condition is false in the state: what is told of the outline is so, as
-/// `IsExplained` says.
+/// `IsExplained` says. Where it tells where processes stand, the assertion at each place is true.
 ///
 /// # Errors
 ///
@@ -244,7 +245,8 @@ pub fn explain<'a>(
     state: &State,
 ) -> Result<Explanation<'a>, Unexplained>
     requires { index.now ≡ outline.now }
-    ensures { IfOk result (IsExplained outline.now (seen condition.now) state.now) }
+    ensures explained { IfOk result (IsExplained outline.now (seen condition.now) state.now) }
+    ensures allowed { IfOk result (λ e. AreAllowed outline.now state.now e.fault) }
 {
     let values = Values::of(alloc, state)?;
     explained(alloc, outline, index, condition, &values)
@@ -259,7 +261,8 @@ fn explained<'a>(
     values: &Values,
 ) -> Result<Explanation<'a>, Unexplained>
     requires { index.now ≡ outline.now }
-    ensures { IfOk result (IsExplained outline.now (seen condition.now) values.now) }
+    ensures explained { IfOk result (IsExplained outline.now (seen condition.now) values.now) }
+    ensures allowed { IfOk result (λ e. AreAllowed outline.now values.now e.fault) }
 {
     let test = test_of(index, condition, values)?;
     let action = action_of(index, condition)?;

@@ -11,12 +11,13 @@ pub struct Test<'a> {
     pub holds: bool,
 }
 
-/// Where a process stands that has no step.
+/// Where a process stands that has no step. The assertion there is true, but perhaps not where a
+/// run gets stuck.
 #[derive(Clone, Copy, Debug)]
 pub enum Stand<'a> {
-    /// Before an await: the assertion before it is true, and its guard is false.
+    /// Before an await whose guard is false.
     Waits(StatementSite<'a>),
-    /// At its last assertion, which is true.
+    /// At its last assertion.
     Ended(NoteSite<'a>),
 }
 

@@ -16,5 +16,5 @@ mod unexplained;
 pub use actor::Actors;
 pub use explaining::{explain, false_in, goal_note};
 pub use explanation::{Explanation, Fault, Stand, Test};
-pub use lookup::{true_site, waiting};
+pub use lookup::{test_of, tested};
 pub use unexplained::Unexplained;

@@ -1,6 +1,6 @@
 //! What stands at a place of the outline.
 
-ghost use Rattle.std.specs.Prelude.{◌≡◌, false, true, IfOk, IfSome};
+ghost use Rattle.std.specs.Prelude.{◌≡◌, false, true, IfOk, IfSome, option_map};
 ghost use Rattle.og_typed.specs.Plain.{noted, statement};
 ghost use Rattle.og_typed.specs.Truth.{truth};
 ghost use Rattle.og_places.specs.Seen.{note_of, statement_of};
@@ -47,9 +47,9 @@ pub(crate) fn true_note<'a>(
     }
 }
 
-/// The test of an `if` or a `while`, or the guard of an `await`.
-pub(crate) fn test_of(stmt: &Stmt) -> Option<&Assert>
-    ensures { IfSome result (λ b. test_of (statement stmt.now) ≡ Some (formula b.now)) }
+/// The test of an `if` or a `while`, or the guard of an `await`. Takes no memory.
+pub fn test_of(stmt: &Stmt) -> Option<&Assert>
+    ensures { option_map (λ b. formula b.now) result ≡ test_of (statement stmt.now) }
 {
     match stmt {
         Stmt::If(test, _, _) => Some(test),
@@ -59,8 +59,9 @@ pub(crate) fn test_of(stmt: &Stmt) -> Option<&Assert>
     }
 }
 
-/// The statement at the byte offset `at`, where its test or guard has this truth.
-pub(crate) fn tested<'a>(
+/// The statement at the byte offset `at`, where its test or guard has this truth; none also where a
+/// value leaves 128 bits. Takes no memory.
+pub fn tested<'a>(
     index: &Index<'a>,
     at: u32,
     holds: bool,
@@ -78,8 +79,7 @@ pub(crate) fn tested<'a>(
 }
 
 /// The await at the byte offset `at`, where the assertion before it is true and its guard false.
-/// Takes no memory.
-pub fn waiting<'a>(index: &Index<'a>, at: u32, values: &Values) -> Option<StatementSite<'a>>
+pub(crate) fn waiting<'a>(index: &Index<'a>, at: u32, values: &Values) -> Option<StatementSite<'a>>
     ensures { IfSome result (λ site. IsWaiting index.now values.now (statement_of site)) }
 {
     let site = tested(index, at, false, values)?.site;
@@ -90,8 +90,8 @@ pub fn waiting<'a>(index: &Index<'a>, at: u32, values: &Values) -> Option<Statem
     }
 }
 
-/// The assertion of a process at the byte offset `at`, where it is true. Takes no memory.
-pub fn true_site<'a>(index: &Index<'a>, at: u32, values: &Values) -> Option<NoteSite<'a>>
+/// The assertion of a process at the byte offset `at`, where it is true.
+pub(crate) fn true_site<'a>(index: &Index<'a>, at: u32, values: &Values) -> Option<NoteSite<'a>>
     ensures { IfSome result (λ site. IsTrueSite index.now values.now (note_of site)) }
 {
     let site = index.note(at)?;

@@ -6,6 +6,7 @@ ghost use Rattle.og_find.specs.Found.{IsFalseAt};
 ghost use Rattle.og_report_explore.specs.Findings.{IsBlame};
 
 use crate::finding::{Blame, Fault};
+use crate::passing::goes_through;
 use og_cond::{Condition, Kind};
 use og_find::{Verdict, is_verdict};
 use og_linear::State;
@@ -16,8 +17,9 @@ use std::alloc::{AllocError, Global};
 #[derive(Clone, Copy)]
 pub(crate) struct Scene<'b, 'a> {
     pub(crate) index: &'b Index<'a>,
-    /// The byte offset of the last statement.
+    /// The byte offsets of the last statement, and of the assertion to which it led first.
     pub(crate) step_at: Option<u32>,
+    pub(crate) first_at: Option<u32>,
     pub(crate) fault: &'b Fault<'a>,
 }
 
@@ -70,6 +72,37 @@ impl<'b, 'a> Scene<'b, 'a> {
         };
         if is_here { Some(before) } else { None }
     }
+
+    // Whether the condition is one of a branch or a body that the step left on its way to a false
+    // assertion, after the step.
+    fn left(&self, condition: &Condition) -> Option<bool> {
+        let is_end = matches!(condition.kind, Kind::Join | Kind::Again);
+        if is_end
+            && self.note_at().is_some()
+            && goes_through(self.index, self.first_at, condition.at)
+        {
+            Some(false)
+        } else {
+            None
+        }
+    }
+
+    // The one or the other.
+    fn looks_at(&self, condition: &Condition, way: Way) -> Option<bool> {
+        match way {
+            Way::Place => self.side(condition),
+            Way::Left => self.left(condition),
+        }
+    }
+}
+
+// By what conditions belong to a scene.
+#[derive(Clone, Copy)]
+enum Way {
+    // They are those of its step and place.
+    Place,
+    // They are those of branches and bodies that its step left.
+    Left,
 }
 
 // Whether an evaluation shows that the condition is false in the state.
@@ -84,13 +117,14 @@ fn is_false(alloc: Global, condition: &Condition, state: &State) -> Result<bool,
 fn is_blamed(
     alloc: Global,
     scene: Scene,
+    way: Way,
     condition: &Condition,
     before: &State,
     last: &State,
 ) -> Result<Option<bool>, AllocError>
     ensures { IfOk result (λ found. IfSome found (λ side. IsFalseAt (seen condition.now) (if side then before.now else last.now))) }
 {
-    let Some(side) = scene.side(condition) else {
+    let Some(side) = scene.looks_at(condition, way) else {
         return Ok(None);
     };
     let state = if side { before } else { last };
@@ -101,8 +135,34 @@ fn is_blamed(
     }
 }
 
-/// The first condition of the scene that is false in the state before its step or in the last one.
-/// Nothing is promised of which condition that is: it is evaluated.
+// The first condition of the scene that is false in the state before its step or in the last one.
+fn first_false(
+    alloc: Global,
+    scene: Scene,
+    way: Way,
+    conditions: &[Condition],
+    before: &State,
+    last: &State,
+) -> Result<Option<Blame>, AllocError>
+    ensures { IfOk result (λ found. IfSome found (IsBlame (map seen conditions.now) before.now last.now)) }
+{
+    for index in 0..conditions.len() {
+        let condition = &conditions[index];
+        if let Some(side) = is_blamed(alloc, scene, way, condition, before, last)? {
+            return Ok(Some(Blame {
+                number: index + 1,
+                kind: condition.kind,
+                action_at: condition.action_at,
+                before: side,
+            }));
+        }
+    }
+    Ok(None)
+}
+
+/// The first condition of the scene's step and place that is false in the state before the step or in
+/// the last one; where there is none, the first one of a branch or a body that the step left. Nothing
+/// is promised of which condition that is: it is evaluated.
 ///
 /// # Errors
 ///
@@ -116,16 +176,9 @@ pub(crate) fn blame(
 ) -> Result<Option<Blame>, AllocError>
     ensures { IfOk result (λ found. IfSome found (IsBlame (map seen conditions.now) before.now last.now)) }
 {
-    for index in 0..conditions.len() {
-        let condition = &conditions[index];
-        if let Some(side) = is_blamed(alloc, scene, condition, before, last)? {
-            return Ok(Some(Blame {
-                number: index + 1,
-                kind: condition.kind,
-                action_at: condition.action_at,
-                before: side,
-            }));
-        }
+    let found = first_false(alloc, scene, Way::Place, conditions, before, last)?;
+    if found.is_some() {
+        return Ok(found);
     }
-    Ok(None)
+    first_false(alloc, scene, Way::Left, conditions, before, last)
 }

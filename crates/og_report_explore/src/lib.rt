@@ -7,6 +7,7 @@ mod blaming;
 mod faults;
 mod finding;
 mod objects;
+mod passing;
 mod reporting;
 mod rows;
 mod table;
@@ -15,6 +16,7 @@ mod texts;
 mod totals;
 
 pub use finding::{Blame, Did, Fault, Finding, Row};
+pub use passing::{first_at, goes_through};
 pub use reporting::json;
 pub use table::{printed_number, put_did};
 pub use telling::{rows_of, tell};

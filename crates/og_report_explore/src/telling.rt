@@ -8,7 +8,8 @@ ghost use Rattle.og_report_explore.specs.Findings.{AreRows, AreRowsOf, IsBefore,
 
 use crate::blaming::{Scene, blame};
 use crate::faults::fault_of;
-use crate::finding::{Finding, Row};
+use crate::finding::{Did, Finding, Row};
+use crate::passing::first_at;
 use crate::rows::row;
 use og_cond::Condition;
 use og_explain::Unexplained;
@@ -102,6 +103,13 @@ fn last_at(rows: &[Row]) -> Option<u32> {
     Some(rows.last()?.item.at)
 }
 
+// The byte offset of the assertion to which the last row's statement led first.
+fn led_to(index: &Index, rows: &[Row]) -> Option<u32> {
+    let row = rows.last()?;
+    let holds = matches!(row.did, Did::Tested(true));
+    Some(first_at(&index.statement(row.item.at)?, holds))
+}
+
 /// What is told of a violation of the outline, as `IsFinding` says; none where a value leaves 128
 /// bits, which no clause excludes. `conditions` are the outline's, or none.
 ///
@@ -134,6 +142,7 @@ pub fn tell<'a>(
     let scene = Scene {
         index,
         step_at: last_at(&steps.rows),
+        first_at: led_to(index, &steps.rows),
         fault: &fault,
     };
     let blame = blame(alloc, scene, conditions, &steps.before, moment.state())?;

@@ -12,7 +12,7 @@ use Rattle.og_report_html.specs.Escapes.{escaped_text}
 use Rattle.og_report_html.specs.Table.{each_text}
 use Rattle.og_report_prove.specs.declared.telling.Told.{Told}
 use Rattle.og_report_prove.specs.declared.telling.Told.TheVariants as told
-use Rattle.og_report_runs.specs.Lines.{nonzero, begins_text, run_line}
+use Rattle.og_report_runs.specs.Lines.{start_text, run_line}
 use Rattle.og_report_runs.specs.declared.lines.Explored.{Explored}
 use Rattle.og_report_runs.specs.declared.witness.Witness.{Witness}
 use Rattle.og_report_runs.specs.declared.witness.Run.{Run}
@@ -73,26 +73,26 @@ module _ (utf8 : Bool) (names : List (List ℕ)) (source : List ℕ) (lanes : �
   abbrev pub step_row : ℕ → Row → List ℕ
   step_row n row = codes "<tr><td>" & decimal n & lane_cells row & sets_cell row
 
-  -- the values at the start
-  abbrev pub start_row : List ℤ → List ℕ
-  start_row s = wide_row (codes "faint") lanes (codes "starts from " & escaped_text utf8 (begins_text names s (nonzero s (length names))))
+  -- where the run begins
+  abbrev pub start_row : Program → List ℤ → List ℕ
+  start_row o s = wide_row (codes "faint") lanes (codes "starts from " & escaped_text utf8 (start_text o s))
 
   abbrev pub body_rows : List Row → List ℕ
   body_rows rows = skipped_row lanes (skipped rows) & numbered step_row (skipped rows + 1) (drop (skipped rows) rows)
 
-  abbrev pub all_rows : ℕ → List ℤ → List Row → List ℕ
-  all_rows condition s rows = start_row s & body_rows rows & end_row lanes condition
+  abbrev pub all_rows : Program → ℕ → List ℤ → List Row → List ℕ
+  all_rows o condition s rows = start_row o s & body_rows rows & end_row lanes condition
 
 -- the table of a run to a state in which the condition with a number is false
 abbrev pub chart_text : Program → List ℕ → ℕ → List ℤ → List Row → List ℕ
 chart_text o source condition s rows =
     codes "<div class=wide tabindex=0><table class=run>\n" & head_row (length o.processes) (has_main o)
-    & all_rows (is_utf8 source) o.names source (lane_count (length o.processes) (has_main o)) condition s rows & codes "</table></div>\n"
+    & all_rows (is_utf8 source) o.names source (lane_count (length o.processes) (has_main o)) o condition s rows & codes "</table></div>\n"
 
 -- the chart of the steps of the run, or nothing
 abbrev pub IsChart : Program → List ℕ → ℕ → Witness → List ℕ → Type 0
 IsChart o source condition w text =
-    (text ≡ []) ⊎ ((rows : List Row) × AreRowsOf o w.values w.history.items rows × (text ≡ chart_text o source condition (w.values ++ o.aux_values) rows))
+    (text ≡ []) ⊎ ((rows : List Row) × AreRowsOf o w.values w.history.items rows × (text ≡ chart_text o source condition w.values rows))
 
 -- ---- what is told of the runs to a false condition
 
@@ -104,7 +104,7 @@ IsChartOf o source condition run.Open text = text ≡ []
 -- the line that `prove --runs` prints
 abbrev pub line_text : Program → List ℕ → Explored → Run → List ℕ
 line_text o source e r =
-    codes "<p class=run>" & escaped_text (is_utf8 source) (run_line o.names (length o.processes) o.aux_values (nat_lt 1 e.starts) e.moments r) & codes "</p>\n"
+    codes "<p class=run>" & escaped_text (is_utf8 source) (run_line o (nat_lt 1 e.starts) e.moments r) & codes "</p>\n"
 
 -- that line, and a chart of a run that gets there
 abbrev pub IsRunText : Program → List ℕ → Explored → ℕ → Run → List ℕ → Type 0

@@ -6,10 +6,10 @@ ghost use Rattle.og_report_html.specs.Lanes.{has_main, lane_count, skipped, star
 
 use crate::escapes::{is_utf8, put_escaped};
 use crate::lanes::{Frame, put_end, put_head, put_skipped, put_step_rows, put_wide};
+use og_linear::State;
 use og_report_explore::{Row, rows_of};
-use og_report_runs::{Witness, put_start, start_values};
+use og_report_runs::{Witness, put_start};
 use og_typed::Outline;
-use og_values::Values;
 use std::alloc::{AllocError, Global};
 
 /// The most steps that are shown.
@@ -29,14 +29,18 @@ fn lane_count(processes: usize, main: bool) -> usize
     if main { processes + 1 } else { processes }
 }
 
-// The values at the start.
-fn put_start_row(text: &mut Vec<u8>, frame: Frame, values: &Values) -> Result<(), AllocError>
-    requires { length frame.names.now ≤ 256 }
-    ensures { OnOk result (text.new.items ≡ text.old.items ++ start_row frame.entry.utf8 frame.entry.names.now frame.entry.source.now frame.entry.lanes values.now) }
+// Where the run begins.
+fn put_start_row(
+    text: &mut Vec<u8>,
+    frame: Frame,
+    outline: &Outline,
+    values: &State,
+) -> Result<(), AllocError>
+    ensures { OnOk result (text.new.items ≡ text.old.items ++ start_row frame.entry.utf8 frame.entry.names.now frame.entry.source.now frame.entry.lanes outline.now values.now) }
 {
     let alloc = *text.allocator();
     let mut begins = Vec::new(alloc);
-    put_start(&mut begins, frame.names, values)?;
+    put_start(&mut begins, outline, values)?;
     let mut told = Vec::from_slice(alloc, b"starts from ")?;
     put_escaped(&mut told, frame.utf8, &begins)?;
     put_wide(text, b"faint", frame.lanes, &told)
@@ -55,14 +59,14 @@ fn put_body(text: &mut Vec<u8>, frame: Frame, rows: &[Row]) -> Result<(), AllocE
 fn put_all(
     text: &mut Vec<u8>,
     frame: Frame,
+    outline: &Outline,
     condition: u128,
-    values: &Values,
+    values: &State,
     rows: &[Row],
 ) -> Result<(), AllocError>
-    requires { length frame.names.now ≤ 256 }
-    ensures { OnOk result (text.new.items ≡ text.old.items ++ all_rows frame.entry.utf8 frame.entry.names.now frame.entry.source.now frame.entry.lanes condition values.now rows.now) }
+    ensures { OnOk result (text.new.items ≡ text.old.items ++ all_rows frame.entry.utf8 frame.entry.names.now frame.entry.source.now frame.entry.lanes outline.now condition values.now rows.now) }
 {
-    put_start_row(text, frame, values)?;
+    put_start_row(text, frame, outline, values)?;
     put_body(text, frame, rows)?;
     put_end(text, frame.lanes, condition)
 }
@@ -73,7 +77,7 @@ fn chart_of(
     outline: &Outline,
     source: &[u8],
     condition: u128,
-    values: &Values,
+    values: &State,
     rows: &[Row],
 ) -> Result<Vec<u8>, AllocError>
     ensures { IfOk result (λ text. text.items ≡ chart_text outline.now source.now condition values.now rows.now) }
@@ -89,7 +93,7 @@ fn chart_of(
     let mut text = Vec::new(alloc);
     text.extend_from_slice(b"<div class=wide tabindex=0><table class=run>\n")?;
     put_head(&mut text, processes, main)?;
-    put_all(&mut text, frame, condition, values, rows)?;
+    put_all(&mut text, frame, outline, condition, values, rows)?;
     text.extend_from_slice(b"</table></div>\n")?;
     Ok(text)
 }
@@ -113,7 +117,6 @@ pub fn chart(
     let Some(rows) = rows_of(alloc, outline, &witness.values, &witness.history)? else {
         return Ok(Vec::new(alloc));
     };
-    let values = start_values(alloc, outline, &witness.values)?;
-    let text = chart_of(alloc, outline, source, condition, &values, &rows)?;
+    let text = chart_of(alloc, outline, source, condition, &witness.values, &rows)?;
     Ok(text)
 }

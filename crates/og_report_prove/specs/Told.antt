@@ -6,7 +6,7 @@ use Rattle.og_cond.specs.Valid.{IsValid}
 use Rattle.og_find.specs.Found.{IsFalseAt}
 use Rattle.og_find.specs.declared.verdict.Verdict.{Verdict}
 use Rattle.og_find.specs.declared.verdict.Verdict.TheVariants as verdicts
-use Rattle.og_explain.specs.Explanations.{IsExplained}
+use Rattle.og_explain.specs.Explanations.{AreAllowed, IsExplained}
 use Rattle.og_report_prove.specs.Numbers.{fault_numbers}
 use Rattle.og_report_prove.specs.declared.block.Block.{Block}
 use Rattle.og_report_prove.specs.declared.telling.Told.{Told}
@@ -37,6 +37,12 @@ abbrev pub IsOfState : List ℤ → Told → Type 0
 IsOfState s told.Proved = ⊥
 IsOfState s (told.False block) = block.values ≡ s
 IsOfState s told.Open = ⊤
+
+-- where it is told where processes stand, the assertion at each place is true
+abbrev pub IsAllowed : Program → Told → Type 0
+IsAllowed o told.Proved = ⊤
+IsAllowed o (told.False block) = AreAllowed o block.values block.explanation.fault
+IsAllowed o told.Open = ⊤
 
 -- proved exactly where the verdict is that the condition is true; a state that is told is the verdict's
 abbrev pub Follows : Verdict → Told → Type 0

@@ -6,7 +6,8 @@ ghost use Rattle.og_find.specs.Found.{IsVerdict, IsFalseAt};
 ghost use Rattle.og_typed.specs.Plain.{noted};
 ghost use Rattle.og_report_text.specs.Conjuncts.{conjuncts};
 ghost use Rattle.og_report_prove.specs.Numbers.{false_numbers, fault_numbers};
-ghost use Rattle.og_report_prove.specs.Told.{IsBlock, IsTold, IsOfState, Follows};
+ghost use Rattle.og_explain.specs.Explanations.{AreAllowed};
+ghost use Rattle.og_report_prove.specs.Told.{IsBlock, IsTold, IsOfState, IsAllowed, Follows};
 
 use crate::block::Block;
 use crate::focus::Vars;
@@ -159,6 +160,7 @@ fn block_at<'a>(
     requires is_false { IsFalseAt (seen condition.now) state.now }
     ensures block { IfOk result (IsBlock outline.now (seen condition.now)) }
     ensures state { IfOk result (λ b. b.values ≡ state.now) }
+    ensures allowed { IfOk result (λ b. AreAllowed outline.now state.now b.explanation.fault) }
 {
     let explanation = explain(alloc, outline, index, condition, state)?;
     let values = Values::of(alloc, state)?;
@@ -177,6 +179,7 @@ fn told_false<'a>(
     requires is_false { IsFalseAt (seen condition.now) state.now }
     ensures told { IfOk result (IsTold outline.now (seen condition.now)) }
     ensures state { IfOk result (IsOfState state.now) }
+    ensures allowed { IfOk result (IsAllowed outline.now) }
 {
     match block_at(alloc, outline, index, condition, state) {
         Ok(block) => Ok(Told::False(block)),
@@ -187,7 +190,8 @@ fn told_false<'a>(
 
 /// What is told of a condition of the outline by a verdict on it: of one that is true, that it is
 /// proved; of one that is false, the state and what explains it, as `IsExplained` says; and that it
-/// is open where the verdict is, or where a value leaves 128 bits.
+/// is open where the verdict is, or where a value leaves 128 bits. Where it is told where processes
+/// stand, the assertion at each place is true.
 ///
 /// # Errors
 ///
@@ -202,6 +206,7 @@ pub fn tell<'a>(
     requires index { index.now ≡ outline.now }
     requires verdict { IsVerdict (seen condition.now) verdict.now }
     ensures told { IfOk result (IsTold outline.now (seen condition.now)) }
+    ensures allowed { IfOk result (IsAllowed outline.now) }
     ensures follows { IfOk result (Follows verdict.now) }
 {
     match verdict {

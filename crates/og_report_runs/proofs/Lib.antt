@@ -1,4 +1,5 @@
 pub mod Floats
 pub mod Parts
+pub mod Placed
 pub mod RunSteps
 pub mod Sought

@@ -4,3 +4,4 @@ pub mod Places
 pub mod Report
 pub mod Runs
 pub mod Sights
+pub mod Told

@@ -5,13 +5,11 @@ use crate::place::Place;
 use crate::placing::number_of;
 use og_cond::Kind;
 use og_places::{Index, StatementSite};
+use og_report_explore::first_at;
 use og_step::Moment;
 use og_typed::{Item, Outline, Stmt};
 use og_values::Values;
 use std::alloc::{AllocError, Global};
-
-// The most branches and bodies that end together.
-const MOST_ENDS: u32 = 1_000;
 
 // Whether process p stands at the assertion of this byte offset.
 fn is_at(outline: &Outline, moment: &Moment, p: u32, at: u32) -> bool {
@@ -45,16 +43,6 @@ pub(crate) fn is_exact(outline: &Outline, moment: &Moment, place: &Place) -> boo
     }
 }
 
-// The byte offset of the assertion to which the statement leads first, by the truth of its test.
-fn first_at(site: &StatementSite, holds: bool) -> u32 {
-    match &site.item.stmt {
-        Stmt::If(_, branch, _) if holds => branch.first().at,
-        Stmt::If(_, _, Some(other)) => other.first().at,
-        Stmt::While(_, body) if holds => body.first().at,
-        _ => site.after.at,
-    }
-}
-
 // The truth of the test of an `if` or a `while`; of nothing else.
 fn test_holds(item: &Item, values: &Values) -> bool {
     match &item.stmt {
@@ -80,27 +68,6 @@ pub(crate) fn leads_to(
         Some(site) => Ok(Some(first_at(&site, holds))),
         None => Ok(None),
     }
-}
-
-/// Whether a step to the assertion of the first byte offset goes through that of the second one,
-/// which ends a branch or a body.
-pub(crate) fn goes_through(index: &Index, first: Option<u32>, end: u32) -> bool {
-    let Some(mut at) = first else {
-        return false;
-    };
-    for _ in 0..MOST_ENDS {
-        if at == end {
-            return true;
-        }
-        let Some(note) = index.note(at) else {
-            return false;
-        };
-        let Some(leads) = note.leads else {
-            return false;
-        };
-        at = leads.at;
-    }
-    false
 }
 
 /// Whether a run with this history is one before which nobody has moved that the condition speaks

@@ -1,7 +1,7 @@
 //! Runs that get to a false condition: found, and reported as text and as JSON.
 //!
-//! specs/Sights.antt, Places.antt and Runs.antt say what a run shows, Lines.antt, Report.antt and
-//! Json.antt how it is reported.
+//! specs/Sights.antt, Places.antt and Runs.antt say what a run shows, Told.antt what is told by it,
+//! Lines.antt, Report.antt and Json.antt how it is reported.
 #![tactic(auto)]
 
 mod exact;
@@ -13,10 +13,13 @@ mod placing;
 mod reporting;
 mod seeking;
 mod standing;
+mod stuck;
+mod telling;
 mod witness;
 
-pub use lines::{Explored, put_run_line, put_start, start_values};
+pub use lines::{Explored, put_run_line, put_start};
 pub use objects::json;
 pub use place::Place;
 pub use reporting::{count_reached, report};
+pub use telling::told_by_run;
 pub use witness::{Run, Witness, find_run};

@@ -1,7 +1,7 @@
 //! The line of a false condition that tells of the runs that get there.
 
-ghost use Rattle.std.specs.Prelude.{◌≡◌, ◌≤◌, ◌++◌, [], length, nat_lt, IfOk, OnOk};
-ghost use Rattle.og_report_runs.specs.Lines.{steps_text, history_text, way_text, nonzero, else_text, begins_text, from_text, witness_text, run_text, run_line};
+ghost use Rattle.std.specs.Prelude.{◌≡◌, ◌++◌, [], nat_lt, IfOk, OnOk};
+ghost use Rattle.og_report_runs.specs.Lines.{steps_text, history_text, way_text, nonzero, else_text, begins_text, start_text, from_text, witness_text, run_text, run_line};
 
 use crate::witness::{Run, Witness};
 use og_linear::State;
@@ -85,64 +85,53 @@ fn put_else(text: &mut Vec<u8>, are_all: bool) -> Result<(), AllocError>
     text.extend_from_slice(b" and else 0")
 }
 
-// These variables, which are not 0; the others are.
+// These variables among the first so many, which are not 0 at a start; the others are.
 fn put_begins(
     text: &mut Vec<u8>,
     names: &[Name],
+    count: u32,
     values: &Values,
     vars: &[u32],
 ) -> Result<(), AllocError>
-    ensures { OnOk result (text.new.items ≡ text.old.items ++ begins_text names.now values.now vars.now) }
+    ensures { OnOk result (text.new.items ≡ text.old.items ++ begins_text names.now count values.now vars.now) }
 {
     if vars.is_empty() {
         return text.extend_from_slice(b"0");
     }
     put_values(text, names, values.as_slice(), vars)?;
-    put_else(text, vars.len() == names.len())
+    put_else(text, vars.len() == count as usize)
 }
 
-/// The values of all variables at the start at which those that are no auxiliaries have these.
-///
-/// # Errors
-///
-/// An allocation was refused.
-pub fn start_values(alloc: Global, outline: &Outline, values: &State) -> Result<Values, AllocError>
-    ensures { IfOk result (λ v. v ≡ values.now ++ outline.now.aux_values) }
-{
-    let mut all = Vec::from_slice(alloc, values.as_slice())?;
-    all.extend_from_slice(outline.aux_values())?;
-    let state = State::new(all);
-    Values::of(alloc, &state)
-}
-
-/// Adds the variables that are not 0 at a start, of which these are the values, and whether others are 0.
+/// Adds the variables that are not 0 at a start, and whether others are 0; the auxiliaries are left
+/// out. The values are those of the variables that are no auxiliaries.
 ///
 /// # Errors
 ///
 /// An allocation was refused; the text has what it had, and perhaps a part of this.
-pub fn put_start(text: &mut Vec<u8>, names: &[Name], values: &Values) -> Result<(), AllocError>
-    requires { length names.now ≤ 256 }
-    ensures { OnOk result (text.new.items ≡ text.old.items ++ begins_text names.now values.now (nonzero values.now (length names.now))) }
+pub fn put_start(text: &mut Vec<u8>, outline: &Outline, values: &State) -> Result<(), AllocError>
+    ensures { OnOk result (text.new.items ≡ text.old.items ++ start_text outline.now values.now) }
 {
-    let vars = nonzero(*text.allocator(), values, names.len() as u32)?;
-    put_begins(text, names, values, &vars)
+    let alloc = *text.allocator();
+    let count = outline.vars();
+    let values = Values::of(alloc, values)?;
+    let vars = nonzero(alloc, &values, count)?;
+    put_begins(text, outline.names(), count, &values, &vars)
 }
 
 // Where a run begins, if there are several starts.
 fn put_from(
     text: &mut Vec<u8>,
-    names: &[Name],
+    outline: &Outline,
     many: bool,
-    values: &Values,
+    values: &State,
 ) -> Result<(), AllocError>
-    requires { length names.now ≤ 256 }
-    ensures { OnOk result (text.new.items ≡ text.old.items ++ from_text names.now many values.now) }
+    ensures { OnOk result (text.new.items ≡ text.old.items ++ from_text outline.now many values.now) }
 {
     if !many {
         return Ok(());
     }
     text.extend_from_slice(b" from ")?;
-    put_start(text, names, values)
+    put_start(text, outline, values)
 }
 
 // The run.
@@ -152,13 +141,12 @@ fn put_witness(
     many: bool,
     witness: &Witness,
 ) -> Result<(), AllocError>
-    ensures { OnOk result (text.new.items ≡ text.old.items ++ witness_text outline.now.names (length outline.now.processes) outline.now.aux_values many witness.now) }
+    ensures { OnOk result (text.new.items ≡ text.old.items ++ witness_text outline.now many witness.now) }
 {
     outline.follows_rule();
-    let values = start_values(*text.allocator(), outline, &witness.values)?;
     let main = outline.processes().len() as u32;
     put_way(text, main, &witness.history)?;
-    put_from(text, outline.names(), many, &values)
+    put_from(text, outline, many, &witness.values)
 }
 
 // What is known of the runs.
@@ -168,7 +156,7 @@ fn put_run(
     explored: Explored,
     run: &Run,
 ) -> Result<(), AllocError>
-    ensures { OnOk result (text.new.items ≡ text.old.items ++ run_text outline.now.names (length outline.now.processes) outline.now.aux_values (nat_lt 1 explored.starts) explored.moments run.now) }
+    ensures { OnOk result (text.new.items ≡ text.old.items ++ run_text outline.now (nat_lt 1 explored.starts) explored.moments run.now) }
 {
     match run {
         Run::Reached(witness) => put_witness(text, outline, 1 < explored.starts, witness),
@@ -192,7 +180,7 @@ pub fn put_run_line(
     explored: Explored,
     run: &Run,
 ) -> Result<(), AllocError>
-    ensures { OnOk result (text.new.items ≡ text.old.items ++ run_line outline.now.names (length outline.now.processes) outline.now.aux_values (nat_lt 1 explored.starts) explored.moments run.now) }
+    ensures { OnOk result (text.new.items ≡ text.old.items ++ run_line outline.now (nat_lt 1 explored.starts) explored.moments run.now) }
 {
     text.extend_from_slice(b"  ")?;
     put_run(text, outline, explored, run)?;

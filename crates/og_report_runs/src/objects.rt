@@ -7,16 +7,18 @@ ghost use Rattle.og_report_prove.specs.Report.{is_proved};
 ghost use Rattle.og_report_prove.specs.Json.{told_data};
 ghost use Rattle.og_report_runs.specs.Json.{with_member, history_items, start_data, run_data, with_run, unproved_data, explored_data, report_data, json_text};
 
-use crate::lines::{Explored, start_values};
+use crate::lines::Explored;
 use crate::reporting::count_reached;
 use crate::witness::{Run, Witness};
 use og_cond::Condition;
 use og_json::{bytes_of, list_value, put_number, put_text};
+use og_linear::State;
 use og_report_explore::{numbers, printed_number};
 use og_report_prove::{Told, put_values, told_value, totals_value};
 use og_report_text::Places;
 use og_text::Name;
 use og_typed::Outline;
+use og_values::Values;
 use serde_json::{Map, Value, put};
 use std::alloc::{AllocError, Global};
 
@@ -42,6 +44,16 @@ fn history_values(alloc: Global, main: u32, history: &[u32]) -> Result<Vec<Value
         values.push(Value::from(printed_number(main, *p)))?;
     }
     Ok(values)
+}
+
+// The values of all variables at the start at which those that are no auxiliaries have these.
+fn start_values(alloc: Global, outline: &Outline, values: &State) -> Result<Values, AllocError>
+    ensures { IfOk result (λ v. v ≡ values.now ++ outline.now.aux_values) }
+{
+    let mut all = Vec::from_slice(alloc, values.as_slice())?;
+    all.extend_from_slice(outline.aux_values())?;
+    let state = State::new(all);
+    Values::of(alloc, &state)
 }
 
 // The values at the start.

@@ -18,8 +18,12 @@ use og_text::Name;
 use og_typed::{Assert, Note, Outline, Stmt};
 use std::alloc::{AllocError, Global};
 
-// Whether two assertions read alike.
-fn read_alike(
+/// Whether two assertions read alike.
+///
+/// # Errors
+///
+/// An allocation was refused.
+pub(crate) fn read_alike(
     alloc: Global,
     names: &[Name],
     first: &Assert,
@@ -34,8 +38,12 @@ fn read_alike(
     Ok(text.as_slice() == other.as_slice())
 }
 
-// Whether process p is active at an assertion that reads as this one.
-fn is_at(
+/// Whether process p is active at an assertion that reads as this one.
+///
+/// # Errors
+///
+/// An allocation was refused.
+pub(crate) fn is_at(
     alloc: Global,
     outline: &Outline,
     moment: &Moment,

@@ -1,16 +1,15 @@
-use Rattle.std.proofs.Common.{map, sym, subst}
+use Rattle.std.proofs.Common.{map, subst}
 use Rattle.og_cond.specs.Seen.{seen}
-use Rattle.og_find.specs.Found.{IsFalseAt}
 use Rattle.og_report_runs.specs.Runs.{IsRun, IsWitness}
 use Rattle.og_command_prove.proofs.Told.{shown_of}
 use Rattle.og_command_prove.proofs.telling.shown_by_run.Goals as goal
 
-pub shown_by-requires-clause-is_false : goal.shown_by-requires-clause-is_false
-shown_by-requires-clause-is_false c =
+pub shown_by-requires-clause-run : goal.shown_by-requires-clause-run
+shown_by-requires-clause-run c =
     let condition = seen c.args.condition.now in
     let lists = map (λ l. l.items) c.args.lists.now in
     let w : IsWitness c.args.outline.now lists condition c.in-Reached.witness = subst (IsRun c.args.outline.now lists condition) c.in-Reached.is c.requires.run in
-    subst (IsFalseAt condition) (sym w.state) w.is_false
+    (w.last, (w.leads, w.state), w.is_false)
 
 pub returns-in-Reached : goal.returns-in-Reached
 returns-in-Reached c =

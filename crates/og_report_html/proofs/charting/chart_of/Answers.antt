@@ -9,7 +9,7 @@ pub returns : goal.returns
 returns c =
     let o = c.args.outline.now in
     let source = c.args.source.now in
-    let rows = λ (utf8 : Bool) (names : List (List ℕ)) (lanes : ℕ). all_rows utf8 names source lanes c.args.condition c.args.values.now c.args.rows.now in
+    let rows = λ (utf8 : Bool) (names : List (List ℕ)) (lanes : ℕ). all_rows utf8 names source lanes o c.args.condition c.args.values.now c.args.rows.now in
     let many = length c.processes.result.now in
     let main = c.has_main-main.result in
     let t1 = c.extend_from_slice.new.self.items in

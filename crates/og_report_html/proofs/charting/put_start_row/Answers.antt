@@ -1,18 +1,16 @@
-use Rattle.std.proofs.Common.{◌≡◌, ◌++◌, ◌∙◌, [], ℕ, List, length, ap, codes, subst}
+use Rattle.std.proofs.Common.{◌≡◌, ◌++◌, ◌∙◌, [], ℕ, List, ap, codes, subst}
 use Rattle.std.specs.Prelude.{OnOk}
 use Rattle.og_report_html.specs.Escapes.{escaped_text}
-use Rattle.og_report_runs.specs.Lines.{nonzero, begins_text}
+use Rattle.og_report_runs.specs.Lines.{start_text}
 use Rattle.og_report_html.specs.Lanes.{wide_row}
 use Rattle.og_report_html.proofs.charting.put_start_row.Goals as goal
 
 pub returns : goal.returns
 returns c =
     let frame = c.args.frame in
-    let names = frame.names.now in
-    let s = c.args.values.now in
     let r = c.put_wide.result in
     let t0 = c.args.text.now.items in
-    let begins = begins_text names s (nonzero s (length names)) in
+    let begins = start_text c.args.outline.now c.args.values.now in
     let a1 = codes "starts from " in
     let begun : c.new-begins.result.items ≡ [] = c.new-begins.ensures.items in
     let e1 : c.put_start.new.text.items ≡ begins = c.in_ok-put_start.ensures ∙ ap (λ (l : List ℕ). l ++ begins) begun in

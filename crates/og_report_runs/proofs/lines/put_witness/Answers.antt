@@ -17,5 +17,5 @@ returns c =
     let same : length (map sequence c.processes.result.now) ≡ length c.processes.result.now = simp length-map in
     let count : length c.processes.result.now ≡ length o.processes = sym same ∙ ap length c.processes.ensures in
     let e1 : t1 ≡ t0 ++ a1 = c.in_ok-put_way.ensures ∙ ap₂ (λ (n : ℕ) (ps : List ℕ). t0 ++ way_text n ps) count c.deref.ensures.value in
-    let e2 : OnOk r (c.put_from.new.text.items ≡ t1 ++ from_text o.names c.args.many (w.values ++ o.aux_values)) = search rules in
+    let e2 : OnOk r (c.put_from.new.text.items ≡ t1 ++ from_text o c.args.many w.values) = search rules in
     joined r t0 t1 _ a1 _ e1 e2

@@ -3,7 +3,7 @@ use Rattle.std.specs.Prelude.{slice_get, option_map, if◌then◌else◌}
 use Rattle.std.proofs.lemmas.Option.{slice_get-map, slice_get_read}
 use Rattle.og_cond.specs.Seen.{seen}
 use Rattle.og_find.specs.Found.{IsFalseAt}
-use Rattle.og_report_explore.proofs.blaming.blame.Goals as goal
+use Rattle.og_report_explore.proofs.blaming.first_false.Goals as goal
 
 pub returns-in-Some : goal.returns-in-Some
 returns-in-Some c =

@@ -1,0 +1,133 @@
+//! What is told of a condition by a run that gets to a state in which it is false.
+
+ghost use Rattle.std.specs.Prelude.{◌≡◌, IfOk};
+ghost use Rattle.og_typed.specs.Machine.{IsReached};
+ghost use Rattle.og_cond.specs.Seen.{seen};
+ghost use Rattle.og_find.specs.Found.{IsFalseAt};
+ghost use Rattle.og_explain.specs.Explanations.{IsExplained};
+ghost use Rattle.og_report_prove.specs.Told.{IsBlock, IsTold};
+ghost use Rattle.og_report_runs.specs.Told.{IsPlaced, IsToldAt, LeadsTo, IsToldBy};
+
+use crate::stuck::stands_at;
+use crate::witness::Witness;
+use og_cond::Condition;
+use og_explain::{Explanation, Fault, Stand, Unexplained, explain};
+use og_places::Index;
+use og_report_prove::{Block, Told, block_of};
+use og_step::Moment;
+use og_typed::Outline;
+use og_values::Values;
+use og_violation::moment_after;
+use std::alloc::{AllocError, Global};
+
+// With these stands in place of what it tells to be false.
+fn with_stands<'a>(explanation: Explanation<'a>, stands: Vec<Stand<'a>>) -> Explanation<'a>
+    ensures known { result.known ≡ explanation.entry.known }
+    ensures starts { result.starts ≡ explanation.entry.starts }
+    ensures test { result.test ≡ explanation.entry.test }
+    ensures action { result.action ≡ explanation.entry.action }
+    ensures after { result.after ≡ explanation.entry.after }
+    ensures fault { result.fault ≡ Fault.Blocked stands.entry }
+{
+    Explanation {
+        fault: Fault::Blocked(stands),
+        ..explanation
+    }
+}
+
+// Why the condition is false at the moment. Where that tells where processes stand, the moment has
+// them there.
+fn explained<'a>(
+    alloc: Global,
+    outline: &'a Outline,
+    index: &Index<'a>,
+    condition: &Condition,
+    moment: &Moment<'a>,
+) -> Result<Explanation<'a>, Unexplained>
+    requires index { index.now ≡ outline.now }
+    requires outline { moment.now.outline ≡ outline.now }
+    requires reached { IsReached outline.now moment.now.moment }
+    ensures explained { IfOk result (IsExplained outline.now (seen condition.now) moment.now.moment.state) }
+    ensures places { IfOk result (λ e. IsPlaced outline.now moment.now.moment e.fault) }
+{
+    let explanation = explain(alloc, outline, index, condition, moment.state())?;
+    let Fault::Blocked(_) = &explanation.fault else {
+        return Ok(explanation);
+    };
+    if !moment.is_stuck() {
+        return Err(Unexplained::Open);
+    }
+    let stands = stands_at(alloc, outline, index, moment)?;
+    Ok(with_stands(explanation, stands))
+}
+
+// The block of a condition that is false at the moment.
+fn block_at<'a>(
+    alloc: Global,
+    outline: &'a Outline,
+    index: &Index<'a>,
+    condition: &Condition,
+    moment: &Moment<'a>,
+) -> Result<Block<'a>, Unexplained>
+    requires index { index.now ≡ outline.now }
+    requires outline { moment.now.outline ≡ outline.now }
+    requires reached { IsReached outline.now moment.now.moment }
+    requires is_false { IsFalseAt (seen condition.now) moment.now.moment.state }
+    ensures block { IfOk result (IsBlock outline.now (seen condition.now)) }
+    ensures state { IfOk result (λ b. b.values ≡ moment.now.moment.state) }
+    ensures places { IfOk result (λ b. IsPlaced outline.now moment.now.moment b.explanation.fault) }
+{
+    let explanation = explained(alloc, outline, index, condition, moment)?;
+    let values = Values::of(alloc, moment.state())?;
+    block_of(alloc, outline, index, condition, values, explanation)
+}
+
+// What is told of a condition that is false at the moment.
+fn told_at<'a>(
+    alloc: Global,
+    outline: &'a Outline,
+    index: &Index<'a>,
+    condition: &Condition,
+    moment: &Moment<'a>,
+) -> Result<Told<'a>, AllocError>
+    requires index { index.now ≡ outline.now }
+    requires outline { moment.now.outline ≡ outline.now }
+    requires reached { IsReached outline.now moment.now.moment }
+    requires is_false { IsFalseAt (seen condition.now) moment.now.moment.state }
+    ensures told { IfOk result (IsTold outline.now (seen condition.now)) }
+    ensures moment { IfOk result (IsToldAt outline.now moment.now.moment) }
+{
+    match block_at(alloc, outline, index, condition, moment) {
+        Ok(block) => Ok(Told::False(block)),
+        Err(Unexplained::Open) => Ok(Told::Open),
+        Err(Unexplained::Memory) => Err(AllocError),
+    }
+}
+
+/// What is told of a condition by a run that gets to a state in which it is false: that state and what
+/// explains it, as `IsExplained` says; where that tells where processes stand, the run has them there.
+/// It is told as open where a value leaves 128 bits.
+///
+/// # Errors
+///
+/// An allocation was refused.
+pub fn told_by_run<'a>(
+    alloc: Global,
+    outline: &'a Outline,
+    index: &Index<'a>,
+    condition: &Condition,
+    witness: &Witness,
+) -> Result<Told<'a>, AllocError>
+    requires index { index.now ≡ outline.now }
+    requires run { LeadsTo outline.now (seen condition.now) witness.now }
+    ensures told { IfOk result (IsTold outline.now (seen condition.now)) }
+    ensures run { IfOk result (IsToldBy outline.now witness.now) }
+{
+    match moment_after(alloc, outline, &witness.values, &witness.history)? {
+        Some(moment) => {
+            let told = told_at(alloc, outline, index, condition, &moment)?;
+            Ok(told)
+        }
+        None => Ok(Told::Open),
+    }
+}
