@@ -1,9 +1,10 @@
 //! The answer of an exploration of an outline.
 
-ghost use Rattle.std.specs.Prelude.{◌≡◌, ◌≤◌, ◌^◌, length, map, true, None, IfOk, IfSome};
+ghost use Rattle.std.specs.Prelude.{◌≡◌, ◌↔◌, ◌≤◌, ◌^◌, length, map, true, None, IfOk, IfSome, IfNone, IsTrue};
 ghost use Rattle.std.specs.List.{AllByRecursion};
 ghost use Rattle.og_cond.specs.Seen.{seen};
 ghost use Rattle.og_explore.specs.Told.{AreWithin};
+ghost use Rattle.og_explore.specs.Within.{HasNoStart};
 ghost use Rattle.og_report_explore.specs.Totals.{safe_of, unblocked_of};
 ghost use Rattle.og_explorer.specs.Told.{IsOneFinding, AreViolations};
 ghost use Rattle.og_explorer.specs.Explored.{is_yes, status_of, printed, IsExplored};
@@ -42,6 +43,7 @@ fn told_of<'a>(
     requires found { AreViolations outline.now found.now }
     requires within { AreWithin ranges.now found.now }
     ensures each { IfOk result (λ told. AllByRecursion (IsOneFinding outline.now (map seen conditions.now) ranges.now) told.findings.items) }
+    ensures complete { IfOk result (λ told. told.complete ≡ true → found.now.complete ≡ true) }
     ensures safe { IfOk result (λ told. safe_of told.complete told.findings.items ≡ yes_or_no.Yes
         → (found.now.complete ≡ true) × (found.now.assertion ≡ None) × (found.now.overflow ≡ None) × (found.now.post ≡ None)) }
     ensures unblocked { IfOk result (λ told. unblocked_of told.complete told.findings.items ≡ yes_or_no.Yes
@@ -88,6 +90,13 @@ fn told_of<'a>(
         &found.stuck,
     )?;
     Ok(told)
+}
+
+// Whether there is no start: all were looked for, and none found.
+fn has_no_start(found: &Exploration) -> bool
+    ensures { IsTrue result ↔ ((found.now.starts ≡ 0) × (found.now.complete ≡ true)) }
+{
+    found.starts == 0 && found.complete
 }
 
 // Whether the answer is yes.
@@ -149,8 +158,8 @@ fn printed(
 }
 
 /// What is printed of an exploration of the outline from all starts within the ranges, at most
-/// so many moments as asked for, and the status: 0 where all was explored and nothing found, else 1; none where
-/// no start was found, of which nothing is promised. `conditions` are the outline's, or none.
+/// so many moments as asked for, and the status: 0 where all was explored and nothing found, else 1;
+/// none only where no start lies within the ranges. `conditions` are the outline's, or none.
 ///
 /// # Errors
 ///
@@ -165,11 +174,12 @@ pub fn answer(
 ) -> Result<Option<Answer>, AllocError>
     requires short { length source.now ≤ 2 ^ 20 }
     requires ranges { length ranges.now ≡ outline.now.vars }
-    ensures { IfOk result (λ found. IfSome found (IsExplored request.json outline.now source.now (map seen conditions.now) ranges.now)) }
+    ensures explored { IfOk result (λ found. IfSome found (IsExplored request.json outline.now source.now (map seen conditions.now) ranges.now)) }
+    ensures none { IfOk result (λ found. IfNone found (HasNoStart outline.now ranges.now)) }
 {
     outline.follows_rule();
     let found = explore(alloc, outline, ranges, request.limit)?;
-    if found.starts == 0 {
+    if has_no_start(&found) {
         return Ok(None);
     }
     let index = Index::new(alloc, outline)?;

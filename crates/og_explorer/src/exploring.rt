@@ -48,7 +48,7 @@ fn conditions_of(alloc: Global, outline: &Outline) -> Result<Vec<Condition<'_>>,
     }
 }
 
-// The answer for an outline, where it has a start.
+// The answer for an outline: that it has no start, or what is found.
 fn of_outline(
     alloc: Global,
     outline: &Outline,
@@ -116,8 +116,9 @@ fn of_source<'a>(
 /// state which a search finds for the precondition, and 0 where it finds none.
 ///
 /// The answer is what was found, with runs that lead there, and the totals, with status 0 where all
-/// was explored and nothing found, and else 1, as a text or as JSON in one line; or the line of a refusal, with status 2. `BadValue`
-/// holds the first word that gives no range.
+/// was explored and nothing found, and else 1, as a text or as JSON in one line; or the line of a
+/// refusal, with status 2: 50 NotPre only where no start lies within the ranges. `BadValue` holds the
+/// first word that gives no range.
 ///
 /// # Errors
 ///

@@ -107,14 +107,6 @@ pub fn only(value: i64) -> Range
     }
 }
 
-// An equal range.
-fn copy_of(range: &Range) -> Range {
-    match Range::new(range.low(), range.high()) {
-        Some(range) => range,
-        None => unreachable!(),
-    }
-}
-
 // The value of the variable in the state, 0 without one.
 fn value_of(state: &Option<State>, var: u32) -> i64 {
     match state {
@@ -142,7 +134,7 @@ pub fn ranges(
     let mut ranges = Vec::new(alloc);
     for var in 0..outline.vars() {
         let range = match given.get(var as usize) {
-            Some(Some(range)) => copy_of(range),
+            Some(Some(range)) => range.copy(),
             _ => only(value_of(&state, var)),
         };
         ranges.push(range)?;
