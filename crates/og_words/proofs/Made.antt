@@ -1,9 +1,9 @@
 -- Arguments and commands that are added to a command.
-use Rattle.std.proofs.Common.{◌≡◌, ◌<◌, ◌∙◌, ◌||◌, ◌&&◌, ◌++◌, ◌∷◌, [], ℕ, List, length, length-append, arith, refl, sym, ap, ap₂, subst, Bool, true, false, Result, Ok, Err, IfOk, IsOkAnd}
+use Rattle.std.proofs.Common.{◌≡◌, ◌<◌, ◌∙◌, ◌||◌, ◌&&◌, ◌++◌, ◌∷◌, [], ℕ, List, length, length-append, arith, refl, sym, ap, ap₂, subst, Bool, true, false}
 use Rattle.std.specs.Prelude.{◌==◌}
 use Rattle.std.proofs.lemmas.Bool.Decides.{nat_tests}
 use Rattle.std.specs.Borrow.{Bor}
-use Rattle.clap.specs.Words.{AddsArg, App, Rule, Shape, app_of, rule_of, shape_of, with_rule, with_subcommand}
+use Rattle.clap.specs.Words.{AddsArg, AddsSubcommand, App, Rule, Shape, app_of, rule_of, with_rule, with_subcommand}
 use Rattle.clap.specs.Walk.{is_empty, is_free_arg}
 use Rattle.clap.specs.declared.builder.arg.ArgPredicate.{ArgPredicate}
 use Rattle.clap.specs.declared.builder.arg.Arg.{Arg}
@@ -15,11 +15,9 @@ pub with_arg : (old made : Command) (arg : Arg) (rule : Rule) (s : Shape) → Is
     → IsCommand (record s { rules = s.rules ++ rule ∷ [] }) made
 with_arg old made arg rule s is of adds = (adds.shape of.1 ∙ ap₂ with_rule is.0 of.0, adds.globals ∙ ap₂ ◌||◌ is.1 of.1)
 
-pub with_word : {E : Type 0} (old made : Command) (word : Result Command E) (now : App) (s : Shape)
-    → IsOkAnd word (λ w. (out-Command w).has_globals ≡ false → app_of made ≡ with_subcommand (app_of old) (shape_of w))
-    → IfOk word (IsCommand s) → app_of old ≡ now → app_of made ≡ with_subcommand now s
-with_word old made (Ok w) now s h is same = h is.1 ∙ (ap (λ (a : App). with_subcommand (app_of old) a.top) is.0 ∙ ap (λ (a : App). with_subcommand a s) same)
-with_word old made (Err e) now s h is same = absurd h
+pub with_word : (old made word : Command) (a : App) (s : Shape) → app_of old ≡ a → IsCommand s word → AddsSubcommand old word made → app_of made ≡ with_subcommand a s
+with_word old made word a s same is adds =
+    adds.shape is.1 ∙ (ap (λ (w : App). with_subcommand (app_of old) w.top) is.0 ∙ ap (λ (p : App). with_subcommand p s) same)
 
 -- ---- an argument that goes with another one alone, or without another one
 

@@ -118,7 +118,10 @@ migrate = command (codes "migrate") (certs ∷ [])
 
 -- the program with its name and a version, and no commands
 abbrev pub without_commands : App
-without_commands = record { top = record (new_shape (codes "og")) { has_version = true }; subs = [] }
+without_commands = record {
+  top = record (new_shape (codes "og")) { no_binary_name = true; disable_help_subcommand = true; subcommand_required = true; has_version = true };
+  subs = [];
+}
 
 -- the program, which is given the words after its name
 abbrev pub og : App

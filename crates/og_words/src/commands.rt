@@ -1,8 +1,7 @@
 //! The command line, as help texts show it.
 
-ghost use Rattle.std.specs.Prelude.{◌≡◌, [], IfOk, IsOkAnd, false, codes};
-ghost use Rattle.clap.specs.Words.{app_of, shape_of, with_subcommand};
-ghost use Rattle.clap.specs.declared.builder.command.Command.TheViews.{out-Command};
+ghost use Rattle.std.specs.Prelude.{◌≡◌, ◌++◌, ◌∷◌, [], IfOk, codes};
+ghost use Rattle.clap.specs.Words.{App, Rule, Shape, app_of, with_subcommand};
 ghost use Rattle.og_words.specs.CommandLine as line;
 ghost use Rattle.og_words.specs.Made.{IsArg, IsBound, IsCommand};
 
@@ -15,6 +14,17 @@ fn command<'a>(alloc: Global, name: &'a str, about: &'a str) -> Command<'a>
     ensures { IsCommand (line.command name.entry.now []) result }
 {
     Command::new(alloc, name).about(about)
+}
+
+// The command with one argument more. Both are taken as they were made, so that no function that adds
+// several has a way out at each.
+fn with_arg<'a>(
+    command: Result<Command<'a>, AllocError>,
+    arg: Result<Arg<'a>, AllocError>,
+) -> Result<Command<'a>, AllocError>
+    ensures { (s : Shape) (rule : Rule) → IfOk command.entry (IsCommand s) → IfOk arg.entry (IsArg rule) → IfOk result (IsCommand (record s { rules = s.rules ++ rule ∷ [] })) }
+{
+    command?.arg(arg?)
 }
 
 // A word that must be given, in its place.
@@ -175,68 +185,49 @@ fn run_ranges_arg<'a>(alloc: Global) -> Result<Arg<'a>, AllocError>
 fn prove_command<'a>(alloc: Global) -> Result<Command<'a>, AllocError>
     ensures { IfOk result (IsCommand line.prover) }
 {
-    let moments = run_moments_arg(alloc)?;
-    let words = ranges_arg(
-        alloc,
-        "A constant's value, where SOURCE is a template; with --runs a variable's value at the start, or its values",
-    );
-    command(
-        alloc,
-        "prove",
-        "Prove an outline, or say what is wrong with it",
-    )
-    .arg(source_arg(alloc))?
-    .arg(condition_budget_arg(alloc))?
-    .arg(workers_arg(alloc, "How many threads work, 1 to 64"))?
-    .arg(json_arg(alloc))?
-    .arg(runs_arg(alloc))?
-    .arg(moments)?
-    .arg(words)
+    let help = "A constant's value, where SOURCE is a template; with --runs a variable's value at the start, or its values";
+    let about = "Prove an outline, or say what is wrong with it";
+    let workers = workers_arg(alloc, "How many threads work, 1 to 64");
+    let prove = with_arg(Ok(command(alloc, "prove", about)), Ok(source_arg(alloc)));
+    let prove = with_arg(prove, Ok(condition_budget_arg(alloc)));
+    let prove = with_arg(prove, Ok(workers));
+    let prove = with_arg(prove, Ok(json_arg(alloc)));
+    let prove = with_arg(prove, Ok(runs_arg(alloc)));
+    let prove = with_arg(prove, run_moments_arg(alloc));
+    with_arg(prove, Ok(ranges_arg(alloc, help)))
 }
 
 fn check_command<'a>(alloc: Global) -> Result<Command<'a>, AllocError>
     ensures { IfOk result (IsCommand line.check) }
 {
-    command(alloc, "check", "Check an outline by its certificates")
-        .arg(source_arg(alloc))?
-        .arg(certs_arg(alloc))?
-        .arg(workers_arg(alloc, "How many threads check, 1 to 64"))?
-        .arg(json_arg(alloc))
+    let about = "Check an outline by its certificates";
+    let workers = workers_arg(alloc, "How many threads check, 1 to 64");
+    let check = with_arg(Ok(command(alloc, "check", about)), Ok(source_arg(alloc)));
+    let check = with_arg(check, Ok(certs_arg(alloc)));
+    let check = with_arg(check, Ok(workers));
+    with_arg(check, Ok(json_arg(alloc)))
 }
 
 fn notes_command<'a>(alloc: Global) -> Result<Command<'a>, AllocError>
     ensures { IfOk result (IsCommand line.notes) }
 {
-    let budget = budget_arg(
-        alloc,
-        "How many steps a search may make for each assertion, 1 to 1000000000",
-    );
-    command(
-        alloc,
-        "notes",
-        "Tell what a yes of an outline claims and what it does not",
-    )
-    .arg(source_arg(alloc))?
-    .arg(budget)
+    let help = "How many steps a search may make for each assertion, 1 to 1000000000";
+    let about = "Tell what a yes of an outline claims and what it does not";
+    let notes = with_arg(Ok(command(alloc, "notes", about)), Ok(source_arg(alloc)));
+    with_arg(notes, Ok(budget_arg(alloc, help)))
 }
 
 fn show_command<'a>(alloc: Global) -> Result<Command<'a>, AllocError>
     ensures { IfOk result (IsCommand line.show) }
 {
+    let about = "Print a page of HTML that shows what is proved and what is wrong";
     let workers = workers_arg(alloc, "How many threads work, 1 to 64");
-    let moments = run_moments_arg(alloc)?;
-    let ranges = run_ranges_arg(alloc)?;
-    command(
-        alloc,
-        "show",
-        "Print a page of HTML that shows what is proved and what is wrong",
-    )
-    .arg(source_arg(alloc))?
-    .arg(condition_budget_arg(alloc))?
-    .arg(workers)?
-    .arg(runs_arg(alloc))?
-    .arg(moments)?
-    .arg(ranges)
+    let show = with_arg(Ok(command(alloc, "show", about)), Ok(source_arg(alloc)));
+    let show = with_arg(show, Ok(condition_budget_arg(alloc)));
+    let show = with_arg(show, Ok(workers));
+    let show = with_arg(show, Ok(runs_arg(alloc)));
+    let show = with_arg(show, run_moments_arg(alloc));
+    with_arg(show, run_ranges_arg(alloc))
 }
 
 fn smt2_arg<'a>(alloc: Global) -> Result<Arg<'a>, AllocError>
@@ -251,12 +242,11 @@ fn conditions_command<'a>(alloc: Global) -> Result<Command<'a>, AllocError>
 {
     let triples = "Print each as a triple, {P} S {Q}, in place of its facts";
     let only = "Print the conditions with these numbers alone, which count from 1";
-    let smt2 = smt2_arg(alloc)?;
-    command(alloc, "conditions", "Print every condition with its facts")
-        .arg(source_arg(alloc))?
-        .arg(flag_arg(alloc, "triples", triples))?
-        .arg(smt2)?
-        .arg(option_arg(alloc, "only", "N,M..", only))
+    let about = "Print every condition with its facts";
+    let conditions = with_arg(Ok(command(alloc, "conditions", about)), Ok(source_arg(alloc)));
+    let conditions = with_arg(conditions, Ok(flag_arg(alloc, "triples", triples)));
+    let conditions = with_arg(conditions, smt2_arg(alloc));
+    with_arg(conditions, Ok(option_arg(alloc, "only", "N,M..", only)))
 }
 
 fn version_arg<'a>(alloc: Global) -> Arg<'a>
@@ -270,28 +260,21 @@ fn version_arg<'a>(alloc: Global) -> Arg<'a>
 fn find_command<'a>(alloc: Global) -> Result<Command<'a>, AllocError>
     ensures { IfOk result (IsCommand line.finder) }
 {
-    command(alloc, "find", "Print the certificates that are found")
-        .arg(source_arg(alloc))?
-        .arg(condition_budget_arg(alloc))?
-        .arg(workers_arg(alloc, "How many threads search, 1 to 64"))?
-        .arg(version_arg(alloc))
+    let about = "Print the certificates that are found";
+    let workers = workers_arg(alloc, "How many threads search, 1 to 64");
+    let find = with_arg(Ok(command(alloc, "find", about)), Ok(source_arg(alloc)));
+    let find = with_arg(find, Ok(condition_budget_arg(alloc)));
+    let find = with_arg(find, Ok(workers));
+    with_arg(find, Ok(version_arg(alloc)))
 }
 
 fn erase_command<'a>(alloc: Global) -> Result<Command<'a>, AllocError>
     ensures { IfOk result (IsCommand line.erase) }
 {
-    let readable = flag_arg(
-        alloc,
-        "readable",
-        "Print relations with terms on both sides",
-    );
-    command(
-        alloc,
-        "erase",
-        "Print the program without its auxiliary variables",
-    )
-    .arg(source_arg(alloc))?
-    .arg(readable)
+    let help = "Print relations with terms on both sides";
+    let about = "Print the program without its auxiliary variables";
+    let erase = with_arg(Ok(command(alloc, "erase", about)), Ok(source_arg(alloc)));
+    with_arg(erase, Ok(flag_arg(alloc, "readable", help)))
 }
 
 fn limit_arg<'a>(alloc: Global) -> Arg<'a>
@@ -320,126 +303,86 @@ fn schedule_arg<'a>(alloc: Global) -> Result<Arg<'a>, AllocError>
 fn run_command<'a>(alloc: Global) -> Result<Command<'a>, AllocError>
     ensures { IfOk result (IsCommand line.run) }
 {
-    let (certs, schedule) = (run_certs_arg(alloc)?, schedule_arg(alloc)?);
-    command(
-        alloc,
-        "run",
-        "Run the processes in threads, or step by step",
-    )
-    .arg(source_arg(alloc))?
-    .arg(limit_arg(alloc))?
-    .arg(flag_arg(alloc, "erased", "Run the erased program"))?
-    .arg(certs)?
-    .arg(schedule)?
-    .arg(words_arg(alloc, "NAME=INT", "A variable's value at the start"))
+    let about = "Run the processes in threads, or step by step";
+    let erased = flag_arg(alloc, "erased", "Run the erased program");
+    let values = words_arg(alloc, "NAME=INT", "A variable's value at the start");
+    let run = with_arg(Ok(command(alloc, "run", about)), Ok(source_arg(alloc)));
+    let run = with_arg(run, Ok(limit_arg(alloc)));
+    let run = with_arg(run, Ok(erased));
+    let run = with_arg(run, run_certs_arg(alloc));
+    let run = with_arg(run, schedule_arg(alloc));
+    with_arg(run, Ok(values))
 }
 
 fn explore_command<'a>(alloc: Global) -> Result<Command<'a>, AllocError>
     ensures { IfOk result (IsCommand line.explorer) }
 {
-    command(
-        alloc,
-        "explore",
-        "Look through every run for what goes wrong",
-    )
-    .arg(source_arg(alloc))?
-    .arg(moments_arg(alloc, "How many moments may be looked at, 1 to 1000000"))?
-    .arg(flag_arg(alloc, "erased", "Explore the erased program"))?
-    .arg(json_arg(alloc))?
-    .arg(ranges_arg(alloc, "A variable's value at the start, or its values"))
+    let about = "Look through every run for what goes wrong";
+    let moments = moments_arg(alloc, "How many moments may be looked at, 1 to 1000000");
+    let erased = flag_arg(alloc, "erased", "Explore the erased program");
+    let ranges = ranges_arg(alloc, "A variable's value at the start, or its values");
+    let explore = with_arg(Ok(command(alloc, "explore", about)), Ok(source_arg(alloc)));
+    let explore = with_arg(explore, Ok(moments));
+    let explore = with_arg(explore, Ok(erased));
+    let explore = with_arg(explore, Ok(json_arg(alloc)));
+    with_arg(explore, Ok(ranges))
 }
 
 fn expand_command<'a>(alloc: Global) -> Result<Command<'a>, AllocError>
     ensures { IfOk result (IsCommand line.expander) }
 {
-    command(alloc, "expand", "Print the outline that a template means")
-        .arg(word_arg(alloc, "TEMPLATE", "The template, or - for standard input"))?
-        .arg(flag_arg(
-            alloc,
-            "map",
-            "Print where each assertion and statement comes from",
-        ))?
-        .arg(words_arg(alloc, "NAME=INT", "A constant's value"))
+    let about = "Print the outline that a template means";
+    let template = word_arg(alloc, "TEMPLATE", "The template, or - for standard input");
+    let help = "Print where each assertion and statement comes from";
+    let values = words_arg(alloc, "NAME=INT", "A constant's value");
+    let expand = with_arg(Ok(command(alloc, "expand", about)), Ok(template));
+    let expand = with_arg(expand, Ok(flag_arg(alloc, "map", help)));
+    with_arg(expand, Ok(values))
 }
 
 fn migrate_command<'a>(alloc: Global) -> Result<Command<'a>, AllocError>
     ensures { IfOk result (IsCommand line.migrate) }
 {
-    command(
-        alloc,
-        "migrate",
-        "Print certificates in version 2 of their format",
-    )
-    .arg(certs_arg(alloc))
+    let about = "Print certificates in version 2 of their format";
+    with_arg(Ok(command(alloc, "migrate", about)), Ok(certs_arg(alloc)))
 }
 
-// Adds a word that the program knows.
+// The program's command line with one word more that the program knows.
 fn with_word<'a>(
-    program: Command<'a>,
+    program: Result<Command<'a>, AllocError>,
     word: Result<Command<'a>, AllocError>,
 ) -> Result<Command<'a>, AllocError>
-    ensures { IfOk result (λ r. IsOkAnd word.entry (λ w. (out-Command w).has_globals ≡ false → app_of r ≡ with_subcommand (app_of program.entry) (shape_of w))) }
+    ensures { (a : App) (s : Shape) → IfOk program.entry (λ p. app_of p ≡ a) → IfOk word.entry (IsCommand s) → IfOk result (λ r. app_of r ≡ with_subcommand a s) }
 {
-    program.subcommand(word?)
-}
-
-// Adds the words that judge outlines, and those that tell of their judgements.
-fn with_verdicts<'a>(alloc: Global, program: Command<'a>) -> Result<Command<'a>, AllocError>
-    ensures { IfOk result (λ r. app_of r ≡ with_subcommand (with_subcommand (with_subcommand (with_subcommand (app_of program.entry) line.prover) line.check) line.notes) line.show) }
-{
-    let program = with_word(program, prove_command(alloc))?;
-    let program = with_word(program, check_command(alloc))?;
-    let program = with_word(program, notes_command(alloc))?;
-    with_word(program, show_command(alloc))
-}
-
-// Adds the words that print the conditions of outlines, and their certificates.
-fn with_outlines<'a>(alloc: Global, program: Command<'a>) -> Result<Command<'a>, AllocError>
-    ensures { IfOk result (λ r. app_of r ≡ with_subcommand (with_subcommand (app_of program.entry) line.conditions) line.finder) }
-{
-    let program = with_word(program, conditions_command(alloc))?;
-    with_word(program, find_command(alloc))
-}
-
-// Adds the words that look at programs.
-fn with_programs<'a>(alloc: Global, program: Command<'a>) -> Result<Command<'a>, AllocError>
-    ensures { IfOk result (λ r. app_of r ≡ with_subcommand (with_subcommand (with_subcommand (app_of program.entry) line.erase) line.run) line.explorer) }
-{
-    let program = with_word(program, erase_command(alloc))?;
-    let program = with_word(program, run_command(alloc))?;
-    with_word(program, explore_command(alloc))
-}
-
-// Adds the words that look at templates, and at certificates alone.
-fn with_others<'a>(alloc: Global, program: Command<'a>) -> Result<Command<'a>, AllocError>
-    ensures { IfOk result (λ r. app_of r ≡ with_subcommand (with_subcommand (app_of program.entry) line.expander) line.migrate) }
-{
-    let program = with_word(program, expand_command(alloc))?;
-    with_word(program, migrate_command(alloc))
+    program?.subcommand(word?)
 }
 
 // The program with its name and version, and no commands.
 fn without_commands<'a>(alloc: Global) -> Result<Command<'a>, AllocError>
     ensures { IfOk result (λ r. app_of r ≡ line.without_commands) }
 {
-    let program = Command::new(alloc, "og").bin_name("og")?;
-    Ok(
-        program
-            .about("Checks proof outlines of parallel programs")
-            .version("1.0.0"),
-    )
+    Command::new(alloc, "og")
+        .about("Checks proof outlines of parallel programs")
+        .version("1.0.0")
+        .no_binary_name(true)
+        .disable_help_subcommand(true)
+        .subcommand_required(true)
+        .bin_name("og")
 }
 
 /// The program's command line.
 pub(crate) fn program<'a>(alloc: Global) -> Result<Command<'a>, AllocError>
     ensures { IfOk result (λ r. app_of r ≡ line.og) }
 {
-    let program = without_commands(alloc)?
-        .no_binary_name(true)
-        .disable_help_subcommand(true)
-        .subcommand_required(true);
-    let program = with_verdicts(alloc, program)?;
-    let program = with_outlines(alloc, program)?;
-    let program = with_programs(alloc, program)?;
-    with_others(alloc, program)
+    let program = with_word(without_commands(alloc), prove_command(alloc));
+    let program = with_word(program, check_command(alloc));
+    let program = with_word(program, notes_command(alloc));
+    let program = with_word(program, show_command(alloc));
+    let program = with_word(program, conditions_command(alloc));
+    let program = with_word(program, find_command(alloc));
+    let program = with_word(program, erase_command(alloc));
+    let program = with_word(program, run_command(alloc));
+    let program = with_word(program, explore_command(alloc));
+    let program = with_word(program, expand_command(alloc));
+    with_word(program, migrate_command(alloc))
 }

@@ -1,12 +1,10 @@
 use Rattle.std.proofs.Common.{codes}
-use Rattle.std.proofs.lemmas.Result.{IfOk-weaker}
 use Rattle.og_words.specs.CommandLine as line
-use Rattle.og_words.proofs.Made.{with_arg}
 use Rattle.og_words.proofs.commands.conditions_command.Goals as goal
 
 pub returns : goal.returns
 returns c =
-    let one = with_arg c.command.result c.in_ok-arg.field-0 c.source_arg.result line.source _ c.command.ensures c.source_arg.ensures c.in_ok-arg.ensures in
-    let two = with_arg c.in_ok-arg.field-0 c.in_ok-arg-2.field-0 c.flag_arg.result (line.flag (codes "triples")) _ one c.flag_arg.ensures c.in_ok-arg-2.ensures in
-    let three = with_arg c.in_ok-arg-2.field-0 c.in_ok-arg-3.field-0 c.in_ok-smt2.smt2 line.smt2_flag _ two c.in_ok-smt2.ensures c.in_ok-arg-3.ensures in
-    IfOk-weaker c.arg-4.result _ _ (λ r h. with_arg c.in_ok-arg-3.field-0 r c.option_arg.result (line.option (codes "only")) _ three c.option_arg.ensures h) c.arg-4.ensures
+    let one = c.with_arg.ensures _ line.source c.command.ensures c.source_arg.ensures in
+    let two = c.with_arg-2.ensures _ (line.flag (codes "triples")) one c.flag_arg.ensures in
+    let three = c.with_arg-3.ensures _ line.smt2_flag two c.smt2_arg.ensures in
+    c.with_arg-4.ensures _ (line.option (codes "only")) three c.option_arg.ensures

@@ -1,10 +1,8 @@
 use Rattle.std.proofs.Common.{codes}
-use Rattle.std.proofs.lemmas.Result.{IfOk-weaker}
 use Rattle.og_words.specs.CommandLine as line
-use Rattle.og_words.proofs.Made.{with_arg}
 use Rattle.og_words.proofs.commands.erase_command.Goals as goal
 
 pub returns : goal.returns
 returns c =
-    let one = with_arg c.command.result c.in_ok-arg.field-0 c.source_arg.result line.source _ c.command.ensures c.source_arg.ensures c.in_ok-arg.ensures in
-    IfOk-weaker c.arg-2.result _ _ (λ r h. with_arg c.in_ok-arg.field-0 r c.flag_arg-readable.result (line.flag (codes "readable")) _ one c.flag_arg-readable.ensures h) c.arg-2.ensures
+    let one = c.with_arg.ensures _ line.source c.command.ensures c.source_arg.ensures in
+    c.with_arg-2.ensures _ (line.flag (codes "readable")) one c.flag_arg.ensures

@@ -1,13 +1,11 @@
 use Rattle.std.proofs.Common.{codes}
-use Rattle.std.proofs.lemmas.Result.{IfOk-weaker}
 use Rattle.og_words.specs.CommandLine as line
-use Rattle.og_words.proofs.Made.{with_arg}
 use Rattle.og_words.proofs.commands.explore_command.Goals as goal
 
 pub returns : goal.returns
 returns c =
-    let one = with_arg c.command.result c.in_ok-arg.field-0 c.source_arg.result line.source _ c.command.ensures c.source_arg.ensures c.in_ok-arg.ensures in
-    let two = with_arg c.in_ok-arg.field-0 c.in_ok-arg-2.field-0 c.moments_arg.result line.moments _ one c.moments_arg.ensures c.in_ok-arg-2.ensures in
-    let three = with_arg c.in_ok-arg-2.field-0 c.in_ok-arg-3.field-0 c.flag_arg.result (line.flag (codes "erased")) _ two c.flag_arg.ensures c.in_ok-arg-3.ensures in
-    let four = with_arg c.in_ok-arg-3.field-0 c.in_ok-arg-4.field-0 c.json_arg.result (line.flag (codes "json")) _ three c.json_arg.ensures c.in_ok-arg-4.ensures in
-    IfOk-weaker c.arg-5.result _ _ (λ r h. with_arg c.in_ok-arg-4.field-0 r c.ranges_arg.result line.ranges _ four c.ranges_arg.ensures h) c.arg-5.ensures
+    let one = c.with_arg.ensures _ line.source c.command.ensures c.source_arg.ensures in
+    let two = c.with_arg-2.ensures _ line.moments one c.moments_arg-moments.ensures in
+    let three = c.with_arg-3.ensures _ (line.flag (codes "erased")) two c.flag_arg-erased.ensures in
+    let four = c.with_arg-4.ensures _ (line.flag (codes "json")) three c.json_arg.ensures in
+    c.with_arg-5.ensures _ line.ranges four c.ranges_arg-ranges.ensures
