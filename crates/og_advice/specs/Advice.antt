@@ -10,6 +10,7 @@ use Rattle.og_report_text.specs.declared.fault.InputFault.TheVariants as faults
 use Rattle.og_report_text.specs.Faults.{place_of_input}
 use Rattle.og_report_text.specs.Line.{opening_text}
 use Rattle.og_report_text.specs.Places.{◌&◌, position_of, position_text}
+use Rattle.og_advice.specs.Names.{shown_name}
 use Rattle.og_advice.specs.Quotes.{quote_text}
 use Rattle.og_advice.specs.Reasons.{IsReason}
 
@@ -36,10 +37,10 @@ refusal_text number name = codes ": " & opening_text number name & codes "\n"
 
 -- FILE:LINE:COLUMN: refused: NUMBER NAME
 abbrev pub head_text : List ℕ → List ℕ → List ℕ → InputFault → List ℕ
-head_text name certs source (faults.Source f) = name & place_text source (place_of_source f) & refusal_text (number_of_source f) (name_of_source f)
-head_text name certs source (faults.Conditions f) = name & [] & refusal_text 18 (codes "TooManyConditions")
-head_text name certs source (faults.Certs f) = certs & line_text (text_fault_line f) & refusal_text (text_fault_number f) (text_fault_name f)
-head_text name certs source (faults.Stray n) = certs & [] & refusal_text 25 (codes "Stray")
+head_text name certs source (faults.Source f) = shown_name name & place_text source (place_of_source f) & refusal_text (number_of_source f) (name_of_source f)
+head_text name certs source (faults.Conditions f) = shown_name name & [] & refusal_text 18 (codes "TooManyConditions")
+head_text name certs source (faults.Certs f) = shown_name certs & line_text (text_fault_line f) & refusal_text (text_fault_number f) (text_fault_name f)
+head_text name certs source (faults.Stray n) = shown_name certs & [] & refusal_text 25 (codes "Stray")
 
 -- what stands before the reason: the line with a mark, where there is a place
 abbrev pub front_text : List ℕ → Option ℕ → List ℕ

@@ -3,8 +3,10 @@
 ghost use Rattle.std.specs.Prelude.{◌≡◌, ◌≤◌, ◌^◌, ◌++◌, OnOk, IsSome, length};
 ghost use Rattle.og_report_text.specs.Faults.{place_of_input};
 ghost use Rattle.og_advice.specs.Advice.{place_text, line_text, refusal_text, head_text};
+ghost use Rattle.og_advice.specs.Names.{shown_name};
 
 use crate::advice::Names;
+use crate::names::put_name;
 use og_report_text::{InputFault, Position, put_number, put_opening, put_position};
 use og_text::line_col;
 use std::alloc::AllocError;
@@ -53,9 +55,9 @@ fn put_placed(
     name: &str,
 ) -> Result<(), AllocError>
     requires { IsSome place → length source.now ≤ 2 ^ 20 }
-    ensures { OnOk result (text.new.items ≡ text.old.items ++ (file.now ++ (place_text source.now place ++ refusal_text number name.now))) }
+    ensures { OnOk result (text.new.items ≡ text.old.items ++ (shown_name file.now ++ (place_text source.now place ++ refusal_text number name.now))) }
 {
-    text.extend_from_slice(file.as_bytes())?;
+    put_name(text, file)?;
     put_place(text, source, place)?;
     put_refusal(text, number, name)
 }
@@ -68,9 +70,9 @@ fn put_lined(
     number: u8,
     name: &str,
 ) -> Result<(), AllocError>
-    ensures { OnOk result (text.new.items ≡ text.old.items ++ (file.now ++ (line_text line ++ refusal_text number name.now))) }
+    ensures { OnOk result (text.new.items ≡ text.old.items ++ (shown_name file.now ++ (line_text line ++ refusal_text number name.now))) }
 {
-    text.extend_from_slice(file.as_bytes())?;
+    put_name(text, file)?;
     put_line(text, line)?;
     put_refusal(text, number, name)
 }

@@ -11,9 +11,11 @@ mod choosing;
 mod expected;
 mod head;
 mod hint;
+mod names;
 mod quotes;
 mod reasons;
 mod words;
 
 pub use advice::{Names, advise};
+pub use names::{put_command, put_name};
 pub use quotes::put_quote;

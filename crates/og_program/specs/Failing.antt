@@ -2,6 +2,7 @@
 use Rattle.std.specs.Prelude.{◌≡◌, ◌⊎◌, ℕ, Bool, true, false, List, [], codes, Result, Ok, Err, ⊤}
 use Rattle.og_io.specs.declared.fault.WriteFault.TheVariants as writes
 use Rattle.og_report_text.specs.Places.{◌&◌}
+use Rattle.og_advice.specs.Names.{shown_name}
 use Rattle.og_io.specs.declared.fault.OutputFault.{OutputFault}
 use Rattle.og_io.specs.declared.fault.OutputFault.TheVariants as outputs
 use Rattle.og_pool.specs.declared.fault.PoolFault.{PoolFault}
@@ -18,7 +19,7 @@ why_text whys.Directory = codes "is a directory"
 why_text whys.Failed = codes "cannot be read"
 
 abbrev pub fault_text : Fault → List ℕ
-fault_text (faults.NotRead name why) = codes "og: " & name.now & codes ": " & why_text why & codes "\n"
+fault_text (faults.NotRead name why) = codes "og: " & shown_name name.now & codes ": " & why_text why & codes "\n"
 fault_text (faults.NotWritten writes.Closed) = []
 fault_text (faults.NotWritten writes.Failed) = codes "og: write failed\n"
 fault_text faults.Memory = codes "og: out of memory\n"

@@ -3,6 +3,7 @@ use Rattle.std.specs.Prelude.{◌≡◌, ◌⊎◌, ℕ, Bool, true, false, List
 use Rattle.std.specs.Global.{Global}
 use Rattle.std.specs.Io.KnownBytes.{Appends, Keeps}
 use Rattle.std.specs.declared.alloc.AllocError.{AllocError}
+use Rattle.og_advice.specs.Names.{shown_name}
 use Rattle.og_engine.specs.Making.{text_of, status_of_found}
 use Rattle.og_io.specs.Written.{AppendsFront}
 use Rattle.og_io.specs.declared.fault.OutputFault.{OutputFault}
@@ -23,7 +24,7 @@ line_or_nothing None = []
 line_or_nothing (Some line) = line.items
 
 abbrev pub bad_value_text : BadValue → List ℕ
-bad_value_text bad = codes "bad value: " ++ bad.word.now ++ codes "\n" ++ line_or_nothing bad.why
+bad_value_text bad = codes "bad value: " ++ shown_name bad.word.now ++ codes "\n" ++ line_or_nothing bad.why
 
 -- what goes to standard error beside something, if anything does, is such as R says; or memory for it was refused
 abbrev pub IsNote : (Option (List ℕ) → Type 0) → Result (Option (Vec ℕ Global)) AllocError → Type 0

@@ -7,6 +7,7 @@ ghost use Rattle.og_program.specs.Told.{line_or_nothing, bad_value_text, Complai
 use crate::ended::Ended;
 use crate::fault::{Fault, Why};
 use crate::outcome::{BadValue, Outcome, Told, ToldFound};
+use og_advice::put_name;
 use og_engine::write_answer;
 use og_io::{WriteFault, write_text};
 use og_report_conditions::Listing;
@@ -48,13 +49,24 @@ fn end<E: Write>(text: &str, err: &mut E) -> Ended
     complain(text.as_bytes(), FAULT, err)
 }
 
+// The text for a file that was not read.
+fn not_read_text(alloc: Global, name: &str, why: Why) -> Result<Vec<u8>, AllocError>
+    ensures { IfOk result (λ text. text.items ≡ fault_text (Fault.NotRead name.entry why)) }
+{
+    let mut text = Vec::from_slice(alloc, b"og: ")?;
+    put_name(&mut text, name)?;
+    text.extend_from_slice(b": ")?;
+    text.extend_from_slice(why.text().as_bytes())?;
+    text.extend_from_slice(b"\n")?;
+    Ok(text)
+}
+
 // Ends with a file that was not read.
 fn fail_to_read<E: Write>(alloc: Global, name: &str, why: Why, err: &mut E) -> Ended
     ensures { Says (fault_text (Fault.NotRead name.entry why)) 4 (E.contents err.old) (E.contents err.new) result }
 {
-    let why = why.text();
-    match format!(in alloc; "og: {name}: {why}\n") {
-        Ok(text) => end(text.as_str(), err),
+    match not_read_text(alloc, name, why) {
+        Ok(text) => complain(&text, FAULT, err),
         Err(_) => end(OUT_OF_MEMORY, err),
     }
 }
@@ -114,7 +126,7 @@ fn bad_value_text(alloc: Global, bad: &BadValue<'_>) -> Result<Vec<u8>, AllocErr
     ensures { IfOk result (λ text. text.items ≡ bad_value_text bad.now) }
 {
     let mut text = Vec::from_slice(alloc, b"bad value: ")?;
-    text.extend_from_slice(bad.word.as_bytes())?;
+    put_name(&mut text, bad.word)?;
     text.extend_from_slice(b"\n")?;
     put_line(&mut text, &bad.why)?;
     Ok(text)

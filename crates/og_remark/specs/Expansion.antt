@@ -2,6 +2,7 @@
 use Rattle.std.specs.Prelude.{◌≡◌, ◌^◌, nat_lt, if◌then◌else◌, ℕ, List, length, Option, None, IsTrue, codes}
 use Rattle.og_report_text.specs.Places.{◌&◌}
 use Rattle.og_advice.specs.Advice.{is_one_line, place_text, refusal_text, front_text}
+use Rattle.og_advice.specs.Names.{shown_name}
 use Rattle.og_expander.specs.Faults.{number_of_fault, name_of_fault, place_of_fault}
 use Rattle.og_expander.specs.declared.fault.ExpandFault.{ExpandFault}
 
@@ -9,7 +10,7 @@ use Rattle.og_expander.specs.declared.fault.ExpandFault.{ExpandFault}
 pub record IsRemarkAt (name source : List ℕ) (number : ℕ) (fault_name : List ℕ) (place : Option ℕ) (text : List ℕ) : Type 0 where
   pub reason : List ℕ
   pub one_line : IsTrue (is_one_line reason)
-  pub told : text ≡ name & place_text source place & refusal_text number fault_name & front_text source place & reason & codes "\n"
+  pub told : text ≡ shown_name name & place_text source place & refusal_text number fault_name & front_text source place & reason & codes "\n"
 
 -- the place of a fault; in a template that is too long it is not shown
 abbrev pub shown_place : List ℕ → ExpandFault → Option ℕ

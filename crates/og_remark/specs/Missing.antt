@@ -13,13 +13,14 @@ use Rattle.og_cert_read.specs.Read.{Gives, IsWrong}
 use Rattle.og_find.specs.Missing.{missing_up_to}
 use Rattle.og_find.specs.declared.counting.Missing.{Missing}
 use Rattle.og_report_text.specs.Places.{◌&◌}
+use Rattle.og_advice.specs.Names.{command_text}
 
 -- MISSING of COUNT
 abbrev pub counts_text : ℕ → ℕ → List ℕ
 counts_text missing count = decimal missing & codes " of " & decimal count
 
 abbrev pub missing_text : List ℕ → ℕ → ℕ → List ℕ
-missing_text name missing count = codes "og: " & counts_text missing count & codes " conditions have no certificate; 'og prove " & name & codes "' says why\n"
+missing_text name missing count = codes "og: " & counts_text missing count & codes " conditions have no certificate; " & command_text (codes "og prove ") name & codes " says why\n"
 
 -- how many conditions the outline has, or nothing where they are more than the limit
 abbrev pub IsCount : Program → Option ℕ → Type 0

@@ -6,6 +6,7 @@ use Rattle.og_typed.specs.declared.assertion.Assert.{Assert}
 use Rattle.og_source.specs.Source.{IsSource}
 use Rattle.og_report_text.specs.Places.{◌&◌, position_of, position_text}
 use Rattle.og_report_text.specs.Values.{values_text}
+use Rattle.og_advice.specs.Names.{shown_name}
 use Rattle.og_explain.specs.Explanations.{IsFalseNote}
 use Rattle.og_report_prove.specs.Blocks.{false_lines}
 use Rattle.og_running.specs.Words.{Give}
@@ -14,7 +15,7 @@ use denote.Ref.{Bor}
 
 -- FILE:LINE:COLUMN: refused: 50 NotPre
 abbrev pub refused_text : List ℕ → List ℕ → ℕ → List ℕ
-refused_text name source at = name & codes ":" & position_text (position_of source at) & codes ": refused: 50 NotPre\n"
+refused_text name source at = shown_name name & codes ":" & position_text (position_of source at) & codes ": refused: 50 NotPre\n"
 
 module _ (names : List (List ℕ)) (s : List ℤ) where
   -- a variable with its value, after a comma where it is not the first

@@ -5,13 +5,14 @@ use Rattle.og_typed.specs.Syntax.{Program}
 use Rattle.og_typed.specs.Resolved.{number_in}
 use Rattle.og_source.specs.Source.{IsSource}
 use Rattle.og_report_text.specs.Places.{◌&◌}
+use Rattle.og_advice.specs.Names.{shown_name}
 use Rattle.og_running.specs.Words.{is_equals, IsInteger}
 use Rattle.og_remark.specs.declared.values.Gives.{Gives}
 use Rattle.og_remark.specs.declared.values.Gives.TheVariants as gives
 
 -- a name in quotes, and what is said of it
 abbrev pub quoted_text : List ℕ → List ℕ → List ℕ
-quoted_text name rest = codes "'" & name & codes "'" & rest
+quoted_text name rest = codes "'" & shown_name name & codes "'" & rest
 
 -- the form of the words
 abbrev pub form_text : Gives → List ℕ

@@ -2,10 +2,11 @@
 
 ghost use Rattle.std.specs.Prelude.{◌≡◌, ◌≤◌, ◌^◌, ◌++◌, None, Some, IfOk, IsTrue, OnOk, length, codes};
 ghost use Rattle.og_advice.specs.Advice.{is_one_line, place_text, refusal_text};
+ghost use Rattle.og_advice.specs.Names.{shown_name};
 ghost use Rattle.og_expander.specs.Faults.{number_of_fault, name_of_fault, place_of_fault};
 ghost use Rattle.og_remark.specs.Expansion.{IsExpansionRemark, IsRemarkAt};
 
-use og_advice::put_quote;
+use og_advice::{put_name, put_quote};
 use og_expander::ExpandFault;
 use og_report_text::{Position, put_opening, put_position};
 use og_template::FaultKind;
@@ -120,9 +121,10 @@ fn placed_head(
     at: u32,
 ) -> Result<Vec<u8>, AllocError>
     requires { length source.now ≤ 2 ^ 20 }
-    ensures { IfOk result (λ text. text.items ≡ (name.now ++ place_text source.now (Some at)) ++ refusal_text (number_of_fault fault.now) (name_of_fault fault.now)) }
+    ensures { IfOk result (λ text. text.items ≡ (shown_name name.now ++ place_text source.now (Some at)) ++ refusal_text (number_of_fault fault.now) (name_of_fault fault.now)) }
 {
-    let mut text = Vec::from_slice(alloc, name.as_bytes())?;
+    let mut text = Vec::new(alloc);
+    put_name(&mut text, name)?;
     put_place(&mut text, source, at)?;
     put_refusal(&mut text, fault.number(), fault.name())?;
     Ok(text)
@@ -130,9 +132,10 @@ fn placed_head(
 
 // The file, and the refusal.
 fn unplaced_head(alloc: Global, name: &str, fault: &ExpandFault) -> Result<Vec<u8>, AllocError>
-    ensures { IfOk result (λ text. text.items ≡ name.now ++ refusal_text (number_of_fault fault.now) (name_of_fault fault.now)) }
+    ensures { IfOk result (λ text. text.items ≡ shown_name name.now ++ refusal_text (number_of_fault fault.now) (name_of_fault fault.now)) }
 {
-    let mut text = Vec::from_slice(alloc, name.as_bytes())?;
+    let mut text = Vec::new(alloc);
+    put_name(&mut text, name)?;
     put_refusal(&mut text, fault.number(), fault.name())?;
     Ok(text)
 }

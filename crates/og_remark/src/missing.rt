@@ -3,6 +3,7 @@
 ghost use Rattle.std.specs.Prelude.{◌≡◌, ◌++◌, OnOk, IfOk, option_map};
 ghost use Rattle.og_remark.specs.Missing.{counts_text, missing_text, IsCount, IsCountOf, IsMissingOf, IsMissingRemark};
 
+use og_advice::put_command;
 use og_cert_read::read_certs;
 use og_cert_text::CertTextError;
 use og_cond::{ConditionsError, conditions};
@@ -11,8 +12,6 @@ use og_report_text::put_number;
 use og_source::{Source, SourceError};
 use og_typed::Outline;
 use std::alloc::{AllocError, Global};
-
-const LACKING: &str = " conditions have no certificate; 'og prove ";
 
 // How many conditions an outline has; none where they are too many.
 fn counted(alloc: Global, outline: &Outline) -> Result<Option<u32>, AllocError>
@@ -66,15 +65,6 @@ fn put_counts(text: &mut Vec<u8>, missing: Missing) -> Result<(), AllocError>
     put_number(text, missing.conditions as u128)
 }
 
-// Adds a name between two texts.
-fn put_named(text: &mut Vec<u8>, before: &str, name: &str, after: &str) -> Result<(), AllocError>
-    ensures { OnOk result (text.new.items ≡ text.old.items ++ (before.now ++ (name.now ++ after.now))) }
-{
-    text.extend_from_slice(before.as_bytes())?;
-    text.extend_from_slice(name.as_bytes())?;
-    text.extend_from_slice(after.as_bytes())
-}
-
 /// The line that so many conditions of a source of this name have no certificate, and what says why.
 ///
 /// # Errors
@@ -85,7 +75,9 @@ pub fn missing_line(alloc: Global, name: &str, missing: Missing) -> Result<Vec<u
 {
     let mut text = Vec::from_slice(alloc, b"og: ")?;
     put_counts(&mut text, missing)?;
-    put_named(&mut text, LACKING, name, "' says why\n")?;
+    text.extend_from_slice(b" conditions have no certificate; ")?;
+    put_command(&mut text, "og prove ", name)?;
+    text.extend_from_slice(b" says why\n")?;
     Ok(text)
 }
 

@@ -5,7 +5,7 @@ ghost use Rattle.og_running.specs.Words.{Give};
 ghost use Rattle.og_remark.specs.Starting.{refused_text, start_value, start_values, start_line, help_line, start_text, IsStartOf, IsStartRemark, IsRunRemark, IsProvedRunRemark};
 
 use crate::remarks::{check_remark, source_remark};
-use og_advice::Names;
+use og_advice::{Names, put_name};
 use og_explain::{Unexplained, false_in};
 use og_linear::State;
 use og_report_prove::put_false;
@@ -26,7 +26,7 @@ const HELP: &str =
 fn put_refused(text: &mut Vec<u8>, name: &str, places: &Places, at: u32) -> Result<(), AllocError>
     ensures { OnOk result (text.new.items ≡ text.old.items ++ refused_text name.now places.now at) }
 {
-    text.extend_from_slice(name.as_bytes())?;
+    put_name(text, name)?;
     text.extend_from_slice(b":")?;
     put_position(text, places.position(at))?;
     text.extend_from_slice(b": refused: 50 NotPre\n")

@@ -4,6 +4,7 @@ ghost use Rattle.std.specs.Prelude.{◌≡◌, IfOk, IfSome};
 ghost use Rattle.og_typed.specs.Resolved.{number_in};
 ghost use Rattle.og_remark.specs.Values.{quoted_text, form_text, IsNumberReason, IsVariableReason, IsWordReason, schedule_text, reason_line, IsValueRemark};
 
+use og_advice::put_name;
 use og_running::{integer, number_of};
 use og_source::{Source, SourceError};
 use og_typed::Outline;
@@ -42,7 +43,7 @@ fn quoted(alloc: Global, name: &str, rest: &str) -> Result<Vec<u8>, AllocError>
     ensures { IfOk result (λ text. text.items ≡ quoted_text name.now rest.now) }
 {
     let mut text = Vec::from_slice(alloc, b"'")?;
-    text.extend_from_slice(name.as_bytes())?;
+    put_name(&mut text, name)?;
     text.extend_from_slice(b"'")?;
     text.extend_from_slice(rest.as_bytes())?;
     Ok(text)

@@ -350,8 +350,35 @@ fn named_job<'a>(
     }
 }
 
-// What is wrong with the words, or the help text.
-fn usage_of(alloc: Global, error: &Error) -> Result<Usage, AllocError> {
+// Adds a character as messages show it: a control character escaped.
+fn put_shown(text: &mut String, c: char) -> Result<(), AllocError> {
+    if c.is_control() {
+        text.extend(c.escape_unicode())
+    } else {
+        text.push(c)
+    }
+}
+
+// A word as messages show it.
+fn shown_word(alloc: Global, word: &str) -> Result<String, AllocError> {
+    let mut text = String::new(alloc);
+    for c in word.chars() {
+        put_shown(&mut text, c)?;
+    }
+    Ok(text)
+}
+
+// The words as messages show them.
+fn shown_words(alloc: Global, words: &[String]) -> Result<Vec<String>, AllocError> {
+    let mut shown = Vec::new(alloc);
+    for word in words {
+        shown.push(shown_word(alloc, word.as_str())?)?;
+    }
+    Ok(shown)
+}
+
+// What an error says is wrong, or the help text.
+fn text_of_error(alloc: Global, error: &Error) -> Result<Usage, AllocError> {
     if error.kind() == ErrorKind::OutOfMemory {
         return Ok(Usage::Memory);
     }
@@ -363,13 +390,33 @@ fn usage_of(alloc: Global, error: &Error) -> Result<Usage, AllocError> {
     })
 }
 
+// What is wrong with these words, or the help text.
+fn usage_of(alloc: Global, words: &[String]) -> Result<Usage, AllocError> {
+    match program(alloc)?.try_get_matches_from(words) {
+        Ok(matches) => {
+            drop(matches);
+            Ok(Usage::wrong(alloc, "og: bad words\n"))
+        }
+        Err(error) => text_of_error(alloc, &error),
+    }
+}
+
+// What is wrong with the words, which are shown without control characters, or the help text.
+fn shown_usage(alloc: Global, words: &[String], kind: ErrorKind) -> Result<Usage, AllocError> {
+    if kind == ErrorKind::OutOfMemory {
+        return Ok(Usage::Memory);
+    }
+    let shown = shown_words(alloc, words)?;
+    usage_of(alloc, shown.as_slice())
+}
+
 // What the words say by the command line.
 fn matches_of<'a>(alloc: Global, words: &'a [String]) -> Result<ArgMatches<'a>, Usage>
     ensures { IfOk result (λ m. subcommand_rows_of m ≡ subcommand_of og (map (λ w. string_bytes w) words.entry.now)) }
 {
     match program(alloc)?.try_get_matches_from(words) {
         Ok(matches) => Ok(matches),
-        Err(error) => Err(usage_of(alloc, &error)?),
+        Err(error) => Err(shown_usage(alloc, words, error.kind())?),
     }
 }
 
