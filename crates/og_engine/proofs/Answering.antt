@@ -25,10 +25,21 @@ use Rattle.og_pool.specs.declared.fault.PoolFault.{PoolFault}
 use Rattle.og_engine.specs.Answers.{report_in, status_of, IsOutput, IsChecked}
 use Rattle.og_engine.specs.Written.{Writes}
 use Rattle.og_report_text.specs.Told.{HasTooMany}
-use Rattle.og_engine.specs.Making.{HasCertificates, IsFoundOf, IsFound}
+use Rattle.og_cert_read.specs.Shared.{shared_text}
+use Rattle.og_cert_text.specs.Files.{Entries}
+use Rattle.og_cert_text.specs.Shown.{shown}
+use Rattle.og_cert_text.specs.declared.file.CertFile.{CertFile}
+use Rattle.og_find.specs.Found.{AreOf}
+use Rattle.og_find.specs.Missing.{missing_up_to}
+use Rattle.og_find.specs.declared.counting.Missing.{Missing}
+use Rattle.og_finder.specs.Written.{IsText}
+use Rattle.og_finder.specs.declared.writing.FoundText.TheVariants as texts
+use Rattle.og_finder.specs.declared.writing.Written.{Written}
+use Rattle.og_engine.specs.Making.{text_of, IsLength, IsSearched, IsSecond, IsFoundOf, IsFound}
 use Rattle.og_engine.specs.declared.making.FindReply.{FindReply}
 use Rattle.og_engine.specs.declared.making.FindReply.TheVariants as replies
 use Rattle.og_engine.specs.declared.making.FoundCertificates.{FoundCertificates}
+use Rattle.og_engine.specs.declared.making.LongText.{LongText}
 use Rattle.og_engine.specs.Warrants.{Warrants}
 
 pub judged : (json : Bool) (source certs : List ℕ) (o : Program) (entries : List Entry) (a : Answer) → IsReport source certs o entries
@@ -61,16 +72,43 @@ too_many P source bytes o p fault (Ok a) same_bytes same h told =
     inr (subst (λ (q : Program). condition_limit < length (conditions q)) same h, (fault, subst (λ (s : List ℕ). IsTold s (faults.Conditions fault) a) same_bytes told))
 
 -- the certificates of listed conditions are those of the outline's
-pub listed_found : (version : ℕ) (source : List ℕ) (o p : Program) (cs : List Condition) (found : FoundCertificates) → p ≡ o → cs ≡ conditions p
-    → length (conditions p) ≤ condition_limit → HasCertificates version cs found → IsFoundOf version o source (replies.Found found)
-listed_found version source o p cs found same listed within h =
-    subst (λ (q : Program). IsFoundOf version q source (replies.Found found)) same (within, subst (λ (ds : List Condition). HasCertificates version ds found) listed h)
+searched_of : (version limit : ℕ) (source : List ℕ) (o : Program) (reply : FindReply) → length (conditions o) ≤ condition_limit → IsSearched version limit (conditions o) reply → IsFoundOf version limit o source reply
+searched_of version limit source o (replies.Found found) few h = (few, h)
+searched_of version limit source o (replies.TooLong long) few h = (few, h)
+searched_of version limit source o (replies.Refused answer) few h = absurd h
+
+pub listed_found : {E : Type 0} (version limit : ℕ) (source : List ℕ) (o p : Program) (cs : List Condition) (r : Result FindReply E) → p ≡ o → cs ≡ conditions p
+    → length (conditions p) ≤ condition_limit → IfOk r (IsSearched version limit cs) → IfOk r (IsFoundOf version limit o source)
+listed_found version limit source o p cs (Err e) same listed few h = tt
+listed_found version limit source o p cs (Ok reply) same listed few h =
+    subst (λ (q : Program). IsFoundOf version limit q source reply) same
+    (searched_of version limit source p reply few (subst (λ (ds : List Condition). IsSearched version limit ds reply) listed h))
 
 -- such a reply is that of the outline's source
-pub found_of_source : {E : Type 0} (version : ℕ) (source : List ℕ) (o : Program) (r : Result FindReply E) → IsSource source o
-    → IfOk r (IsFoundOf version o source) → IfOk r (IsFound version source)
-found_of_source version source o (Err e) s h = tt
-found_of_source version source o (Ok a) s h = inr (o, s, h)
+pub found_of_source : {E : Type 0} (version limit : ℕ) (source : List ℕ) (o : Program) (r : Result FindReply E) → IsSource source o
+    → IfOk r (IsFoundOf version limit o source) → IfOk r (IsFound version limit source)
+found_of_source version limit source o (Err e) s h = tt
+found_of_source version limit source o (Ok a) s h = inr (o, s, h)
+
+-- ---- texts of certificates
+
+-- what is found of all conditions, by what is found of a file of their certificates
+pub second_searched : {E : Type 0} (limit : ℕ) (cs : List Condition) (es : Entries) (count : ℕ) (r : Result FindReply E) → AreOf cs es → count ≡ length cs → IfOk r (IsSecond limit count es) → IfOk r (IsSearched 2 limit cs)
+second_searched limit cs es count (Err e) of same h = tt
+second_searched limit cs es count (Ok (replies.Found found)) of same h =
+    ((es, of, h.0, h.2 ∙ ap (missing_up_to es) same, h.3 ∙ same), subst (λ (t : List ℕ). length t ≤ limit) (sym h.0) h.1)
+second_searched limit cs es count (Ok (replies.TooLong long)) of same h =
+    (h.0, (es, of, h.1), (es, of, subst (IsLength limit (length (shared_text es))) (sym h.2) h.1))
+second_searched limit cs es count (Ok (replies.Refused answer)) of same h = absurd h
+
+-- a text in version 1, or certificates for which it is too long
+pub first_searched : (limit : ℕ) (cs : List Condition) (w : Written) (found : FoundCertificates) → IsText limit cs (texts.Within w) → text_of found.text ≡ w.certificates → found.missing ≡ w.missing → IsSearched 1 limit cs (replies.Found found)
+first_searched limit cs w found h text missing =
+    let of = h.0 in
+    ((of.0, of.1, text ∙ of.3, ap (λ (m : Missing). m.count) missing ∙ of.4, ap (λ (m : Missing). m.conditions) missing ∙ of.5), subst (λ (t : List ℕ). length t ≤ limit) (sym text) h.1)
+
+pub first_too_long : (limit : ℕ) (cs : List Condition) (file : CertFile) (long : LongText) → IsText limit cs (texts.TooLong file) → long.limit ≡ limit → IsLength limit (length (shared_text (shown file))) long.second → IsSearched 1 limit cs (replies.TooLong long)
+first_too_long limit cs file long h same second = (same, h.1, (shown file, h.0, second))
 
 -- such an answer is that of the outline's source
 pub of_source : {E : Type 0} (P : Program → Answer → Type 0) (source : List ℕ) (o : Program) (r : Result Answer E) → IsSource source o

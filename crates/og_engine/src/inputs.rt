@@ -11,6 +11,9 @@ use std::io::Read;
 // The limit of a source, and one byte.
 const SOURCE_BYTES: usize = 1_048_577;
 
+/// How many bytes a text of certificates may have.
+pub const CERTS_LIMIT: usize = 67_108_864;
+
 // The limit of certificates, and one byte.
 const CERTS_BYTES: usize = 67_108_865;
 

@@ -1,20 +1,22 @@
 //! The answers of the commands that make certificates.
 
-ghost use Rattle.std.specs.Prelude.{◌≡◌, ◌<◌, ◌≤◌, length, map, IfOk, IfErr, OnOk};
+ghost use Rattle.std.specs.Prelude.{◌≡◌, ◌<◌, ◌≤◌, List, length, map, IfOk, IfErr, OnOk};
 ghost use Rattle.std.specs.Io.KnownBytes.{Appends};
 ghost use Rattle.og_cert_text.specs.Shown.{shown};
+ghost use Rattle.og_cert_read.specs.Shared.{shared_text};
+ghost use Rattle.og_cond.specs.Condition.{Condition};
 ghost use Rattle.og_cond.specs.Limits.{condition_limit};
 ghost use Rattle.og_cond.specs.Seen.{seen};
-ghost use Rattle.og_find.specs.Missing.{missing_up_to};
+ghost use Rattle.og_finder.specs.Written.{IsText};
 ghost use Rattle.og_io.specs.Written.{AppendsFront};
 ghost use Rattle.og_pool.specs.declared.fault.PoolFault.TheVariants.{Spawn};
-ghost use Rattle.og_engine.specs.Making.{text_in, text_of, status_of_found, HasCertificates, IsFoundOf, IsFound, IsMigrated};
+ghost use Rattle.og_engine.specs.Making.{text_of, status_of_found, IsLength, IsSecond, IsSearched, IsFoundOf, IsFound, IsMigrated};
 
 use og_cert_read::write_certs_2;
 use og_cert_text::{CertFile, CertTextError};
 use og_cond::{Condition, ConditionsError, conditions};
 use og_find::Missing;
-use og_finder::{Certificates, Written, find_all, write_all};
+use og_finder::{Certificates, FoundText, Written, examine_all, find_all};
 use og_io::{Budget, CertVersion, OutputFault, Workers, write_whole};
 use og_judge::migrate;
 use og_pool::{Gate, PoolFault};
@@ -82,24 +84,74 @@ impl FoundCertificates {
     }
 }
 
+/// A text of certificates that would have more bytes than it may have.
+#[derive(Clone, Copy, Debug, PartialEq, Eq)]
+pub struct LongText {
+    /// How many bytes it may have.
+    pub limit: usize,
+    /// How many it has in version 2, where these are no more.
+    pub second: Option<usize>,
+}
+
 /// What is answered to whoever asks for certificates of a source.
 #[derive(Debug, Drop)]
 pub enum FindReply {
     /// Those that were found.
     Found(FoundCertificates),
+    /// Their text would be too long.
+    TooLong(LongText),
     /// The line of a refusal, with status 2.
     Refused(Answer),
 }
 
-// The text in version 2 of a file of the certificates of so many conditions.
-fn of_file(alloc: Global, file: &CertFile, conditions: u32) -> Result<FoundCertificates, AllocError>
-    ensures text { IfOk result (λ f. text_of f.text ≡ text_in 2 (shown file.now)) }
-    ensures count { IfOk result (λ f. f.missing.count ≡ missing_up_to (shown file.now) conditions) }
-    ensures conditions { IfOk result (λ f. f.missing.conditions ≡ conditions) }
+/// Which certificates are wanted, and how they are searched.
+#[derive(Clone, Copy, Debug, PartialEq, Eq)]
+pub struct Wanted {
+    /// The budget of each search, as in `og_find::find`.
+    pub budget: Budget,
+    /// How many workers search.
+    pub workers: Workers,
+    /// The version of the text.
+    pub version: CertVersion,
+    /// How many bytes the text may have.
+    pub limit: usize,
+}
+
+// The number of bytes, where they are no more than the limit.
+fn within(bytes: usize, limit: usize) -> Option<usize>
+    ensures { IsLength limit bytes result }
 {
-    let text = CertificateText::Second(write_certs_2(alloc, file)?);
+    if bytes <= limit { Some(bytes) } else { None }
+}
+
+// What is told of certificates whose text in version 1 is too long.
+fn of_long(alloc: Global, file: &CertFile, limit: usize) -> Result<LongText, AllocError>
+    ensures limit { IfOk result (λ long. long.limit ≡ limit) }
+    ensures second { IfOk result (λ long. IsLength limit (length (shared_text (shown file.now))) long.second) }
+{
+    let text = write_certs_2(alloc, file)?;
+    let second = within(text.len(), limit);
+    Ok(LongText { limit, second })
+}
+
+// The text in version 2 of a file of the certificates of so many conditions, where it has at most so
+// many bytes.
+fn of_file(
+    alloc: Global,
+    file: &CertFile,
+    conditions: u32,
+    limit: usize,
+) -> Result<FindReply, AllocError>
+    ensures { IfOk result (IsSecond limit conditions (shown file.now)) }
+{
+    let text = write_certs_2(alloc, file)?;
+    if text.len() > limit {
+        let second = None;
+        return Ok(FindReply::TooLong(LongText { limit, second }));
+    }
+    let text = CertificateText::Second(text);
     let missing = Missing::of(file, conditions);
-    Ok(FoundCertificates { text, missing })
+    Ok(FindReply::Found(FoundCertificates { text, missing }))
 }
 
 // The certificates that are found for conditions, in version 2.
@@ -107,17 +159,34 @@ fn in_second<G: Gate, H: Threads + Wait + Sync>(
     rt: &H,
     alloc: Global,
     conditions: &[Condition],
-    budget: Budget,
-    workers: Workers,
+    wanted: Wanted,
     gate: &G,
-) -> Result<FoundCertificates, PoolFault>
+) -> Result<FindReply, PoolFault>
     requires { length conditions.now ≤ condition_limit }
-    ensures found { IfOk result (HasCertificates 2 (map seen conditions.now)) }
-    ensures spawn { IfErr result (λ e. e ≡ Spawn → 1 < workers) }
+    ensures found { IfOk result (IsSearched 2 wanted.limit (map seen conditions.now)) }
+    ensures spawn { IfErr result (λ e. e ≡ Spawn → 1 < wanted.workers) }
 {
-    let file = find_all(rt, alloc, conditions, budget.facts(), workers.count(), gate)?;
-    let found = of_file(alloc, &file, conditions.len() as u32)?;
+    let (budget, workers) = (wanted.budget.facts(), wanted.workers.count());
+    let file = find_all(rt, alloc, conditions, budget, workers, gate)?;
+    let found = of_file(alloc, &file, conditions.len() as u32, wanted.limit)?;
     Ok(found)
+}
+
+// A text in version 1, or what is told of certificates for which it is too long.
+fn of_text(alloc: Global, text: FoundText, limit: usize) -> Result<FindReply, AllocError>
+    ensures { IfOk result (λ found. (cs : List Condition) → IsText limit cs text → IsSearched 1 limit cs found) }
+{
+    match text {
+        FoundText::Within(written) => {
+            let text = CertificateText::First(written.certificates);
+            let missing = written.missing;
+            Ok(FindReply::Found(FoundCertificates { text, missing }))
+        }
+        FoundText::TooLong(file) => {
+            let long = of_long(alloc, &file, limit)?;
+            Ok(FindReply::TooLong(long))
+        }
+    }
 }
 
 // The certificates that are found for conditions, in version 1.
@@ -125,20 +194,18 @@ fn in_first<G: Gate, H: Threads + Wait + Sync>(
     rt: &H,
     alloc: Global,
     conditions: &[Condition],
-    budget: Budget,
-    workers: Workers,
+    wanted: Wanted,
     gate: &G,
-) -> Result<FoundCertificates, PoolFault>
+) -> Result<FindReply, PoolFault>
     requires { length conditions.now ≤ condition_limit }
-    ensures found { IfOk result (HasCertificates 1 (map seen conditions.now)) }
-    ensures spawn { IfErr result (λ e. e ≡ Spawn → 1 < workers) }
+    ensures found { IfOk result (IsSearched 1 wanted.limit (map seen conditions.now)) }
+    ensures spawn { IfErr result (λ e. e ≡ Spawn → 1 < wanted.workers) }
 {
-    let Written {
-        certificates,
-        missing,
-    } = write_all(rt, alloc, conditions, budget.facts(), workers.count(), gate)?;
-    let text = CertificateText::First(certificates);
-    Ok(FoundCertificates { text, missing })
+    let (budget, workers) = (wanted.budget.facts(), wanted.workers.count());
+    let findings = examine_all(rt, alloc, conditions, budget, workers, gate)?;
+    let text = findings.text(rt, alloc, workers, wanted.limit)?;
+    let found = of_text(alloc, text, wanted.limit)?;
+    Ok(found)
 }
 
 // The certificates that are found for conditions.
@@ -146,19 +213,17 @@ fn of_search<G: Gate, H: Threads + Wait + Sync>(
     rt: &H,
     alloc: Global,
     conditions: &[Condition],
-    budget: Budget,
-    workers: Workers,
-    version: CertVersion,
+    wanted: Wanted,
     gate: &G,
-) -> Result<FoundCertificates, PoolFault>
+) -> Result<FindReply, PoolFault>
     requires { length conditions.now ≤ condition_limit }
-    ensures found { IfOk result (HasCertificates version (map seen conditions.now)) }
-    ensures spawn { IfErr result (λ e. e ≡ Spawn → 1 < workers) }
+    ensures found { IfOk result (IsSearched wanted.version wanted.limit (map seen conditions.now)) }
+    ensures spawn { IfErr result (λ e. e ≡ Spawn → 1 < wanted.workers) }
 {
-    if version.is_second() {
-        in_second(rt, alloc, conditions, budget, workers, gate)
+    if wanted.version.is_second() {
+        in_second(rt, alloc, conditions, wanted, gate)
     } else {
-        in_first(rt, alloc, conditions, budget, workers, gate)
+        in_first(rt, alloc, conditions, wanted, gate)
     }
 }
 
@@ -167,19 +232,14 @@ fn found_of<G: Gate, H: Threads + Wait + Sync>(
     rt: &H,
     alloc: Global,
     source: &Source,
-    budget: Budget,
-    workers: Workers,
-    version: CertVersion,
+    wanted: Wanted,
     gate: &G,
 ) -> Result<FindReply, PoolFault>
-    ensures found { IfOk result (IsFoundOf version source.now.outline source.now.bytes) }
-    ensures spawn { IfErr result (λ e. e ≡ Spawn → 1 < workers) }
+    ensures found { IfOk result (IsFoundOf wanted.version wanted.limit source.now.outline source.now.bytes) }
+    ensures spawn { IfErr result (λ e. e ≡ Spawn → 1 < wanted.workers) }
 {
     match conditions(alloc, source.outline()) {
-        Ok(conditions) => {
-            let found = of_search(rt, alloc, &conditions, budget, workers, version, gate)?;
-            Ok(FindReply::Found(found))
-        }
+        Ok(conditions) => of_search(rt, alloc, &conditions, wanted, gate),
         Err(ConditionsError::Fault(fault)) => {
             let why = InputFault::Conditions(fault);
             let answer = Answer::refused(alloc, &why, source.bytes())?;
@@ -189,9 +249,10 @@ fn found_of<G: Gate, H: Threads + Wait + Sync>(
     }
 }
 
-/// The certificates that searches find for the conditions of the outline of a source, in this version
-/// of their text, and how many conditions have none; or the line of a refusal and status 2. Each search
-/// has the budget, as in `og_find::find`. The text is the same for every number of workers. The gate is told of the searches as by `og_finder::examine_all`.
+/// The certificates that searches find for the conditions of the outline of a source, in the wanted
+/// version of their text, and how many conditions have none; that this text would have more bytes than
+/// it may have; or the line of a refusal and status 2. The text is the same for every number of workers.
+/// The gate is told of the searches as by `og_finder::examine_all`.
 ///
 /// # Errors
 ///
@@ -201,17 +262,15 @@ pub fn found<G: Gate, H: Threads + Wait + Sync>(
     rt: &H,
     alloc: Global,
     source: &[u8],
-    budget: Budget,
-    workers: Workers,
-    version: CertVersion,
+    wanted: Wanted,
     gate: &G,
 ) -> Result<FindReply, PoolFault>
-    ensures found { IfOk result (IsFound version source.now) }
-    ensures spawn { IfErr result (λ e. e ≡ Spawn → 1 < workers) }
+    ensures found { IfOk result (IsFound wanted.version wanted.limit source.now) }
+    ensures spawn { IfErr result (λ e. e ≡ Spawn → 1 < wanted.workers) }
 {
     match Source::read(alloc, source) {
         Ok(source) => {
-            let found = found_of(rt, alloc, &source, budget, workers, version, gate);
+            let found = found_of(rt, alloc, &source, wanted, gate);
             drop(source);
             found
         }

@@ -1,6 +1,6 @@
 -- The text of the certificates that are found.
-use Rattle.std.proofs.Common.{◌≡◌, ⊎_elim, ◌≤◌, ◌<◌, ℕ, ◌+◌, ◌-◌, zero, suc, List, [], ◌∷◌, ◌++◌, length, true, false, Option, Some, None, refl, sym, ap, ◌∙◌, subst, arith}
-use Rattle.std.specs.Prelude.{◌==◌, ◌&&◌, slice_get, is_none, codes, vec_len, Result, Ok, Err, IfOk, IsSomeAnd}
+use Rattle.std.proofs.Common.{◌≡◌, ⊎_elim, ◌≤◌, ◌<◌, ℕ, ◌+◌, ◌-◌, zero, suc, List, [], ◌∷◌, ◌++◌, length, length-append, true, false, Option, Some, None, refl, sym, ap, ◌∙◌, subst, arith}
+use Rattle.std.specs.Prelude.{◌==◌, ◌&&◌, slice_get, is_none, codes, vec_len, IsSomeAnd}
 use Rattle.std.specs.Global.{Vec}
 use Rattle.std.specs.List.{list_all}
 use Rattle.std.proofs.Math.Nat.{eq-or-lt_of_le}
@@ -12,6 +12,8 @@ use Rattle.og_cert_text.specs.Shallow.{is_well_formed}
 use Rattle.og_cert_text.specs.Files.{Entries, certificate_of}
 use Rattle.og_cert_text.specs.Listing.{file_text}
 use Rattle.og_cert_text.specs.Rising.{rise_from}
+use Rattle.og_cert_text.specs.Shown.{shown}
+use Rattle.og_cert_text.specs.declared.file.CertFile.{CertFile}
 use Rattle.og_cert_text.proofs.Forms.{both_true, le_true}
 use Rattle.og_cert_text.proofs.Writing.{entries_text, entry_text}
 use Rattle.og_cond.specs.Condition.{Condition}
@@ -23,8 +25,9 @@ use Rattle.og_find.specs.declared.verdict.Verdict.TheVariants as verdicts
 use Rattle.og_finder.specs.Findings.{verdict_of, AreVerdicts}
 use Rattle.og_finder.specs.Filing.{IsCertificateOf, AreFiled}
 use Rattle.og_finder.specs.Texts.{certificate_in, lines_of, lines_from, entry_lines, AreLines, with_first, entries_from, entries_of}
-use Rattle.og_finder.specs.Written.{IsWritten}
+use Rattle.og_finder.specs.Written.{IsWritten, IsText}
 use Rattle.og_finder.specs.declared.findings.Findings.{Findings}
+use Rattle.og_finder.specs.declared.writing.FoundText.TheVariants as texts
 use Rattle.og_finder.specs.declared.writing.Written.{Written}
 use Rattle.og_finder.proofs.Filed.{all_of}
 
@@ -157,7 +160,27 @@ is_written cs f w h few text missing conditions =
     let file = both_true _ _ (rising f 0 0 count (omega arith)) (all_good cs es few of) in
     (es, of, file, text, missing ∙ ap (missing_up_to es) h.0, conditions ∙ h.0)
 
-pub all_written : {E : Type 0} (cs : List Condition) (f : Findings) (r : Result Written E) → AreVerdicts cs f → length cs ≤ 999999999 → IfOk r (λ w. w.certificates ≡ file_text (entries_of f))
-    → IfOk r (λ w. w.missing.count ≡ missing_up_to (entries_of f) (length f.own.items)) → IfOk r (λ w. w.missing.conditions ≡ length f.own.items) → IfOk r (IsWritten cs)
-all_written cs f (Ok w) h few text missing conditions = is_written cs f w h few text missing conditions
-all_written cs f (Err e) h few text missing conditions = tt
+-- a text that is written is within the limit
+pub is_text : (cs : List Condition) (f : Findings) (w : Written) (limit : ℕ) → AreVerdicts cs f → length cs ≤ 999999999 → w.certificates ≡ file_text (entries_of f) → length (file_text (entries_of f)) ≤ limit
+    → w.missing.count ≡ missing_up_to (entries_of f) (length f.own.items) → w.missing.conditions ≡ length f.own.items → IsText limit cs (texts.Within w)
+is_text cs f w limit h few text within missing conditions =
+    (is_written cs f w h few text missing conditions, subst (λ (t : List ℕ). length t ≤ limit) (sym text) within)
+
+-- certificates whose text is longer
+pub is_too_long : (cs : List Condition) (f : Findings) (file : CertFile) (limit : ℕ) → AreVerdicts cs f → AreFiled f.own.items f.places.items f.verdicts.items (shown file) → limit < length (file_text (entries_of f)) → IsText limit cs (texts.TooLong file)
+is_too_long cs f file limit h filing longer =
+    (all_of cs f (shown file) h filing, (entries_of f, all_of cs f (entries_of f) h (filed f 0 (length f.own.items)), longer))
+
+-- ---- what is left of the room
+
+-- a text and the lines of all entries
+pub whole_length : (f : Findings) → length (codes "og-cert 1\n") + length (lines_from f 0 (vec_len f.own)) ≡ length (file_text (entries_of f))
+whole_length f =
+    sym (length-append (codes "og-cert 1\n") (lines_from f 0 (vec_len f.own))) ∙ ap length (whole_text f (codes "og-cert 1\n") refl)
+
+pub next_length : (f : Findings) (i n : ℕ) → i < n → length (lines_from f i (n - i)) ≡ length (entry_lines (i + 1) (certificate_in (verdict_of f i))) + length (lines_from f (i + 1) (n - (i + 1)))
+next_length f i n lt =
+    ap length (next_lines f i n lt) ∙ length-append (entry_lines (i + 1) (certificate_in (verdict_of f i))) (lines_from f (i + 1) (n - (i + 1)))
+
+pub no_more_length : (f : Findings) (i n : ℕ) → n ≤ i → length (lines_from f i (n - i)) ≡ 0
+no_more_length f i n none = ap length (no_more_lines f i n none)

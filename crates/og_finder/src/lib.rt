@@ -21,4 +21,4 @@ mod writing;
 
 pub use finder::{examine_all, find_all};
 pub use findings::Findings;
-pub use writing::{Certificates, Written, write_all};
+pub use writing::{Certificates, FoundText, Written};

@@ -1,27 +1,26 @@
 //! The text of the certificates that are found.
 
-ghost use Rattle.std.specs.Prelude.{◌≡◌, ◌+◌, ◌<◌, ◌≤◌, [], ◌∷◌, ◌++◌, length, map, vec_len, is_none, IfOk, IfErr, IfSome, OnOk};
+ghost use Rattle.std.specs.Prelude.{◌≡◌, ◌↔◌, ◌+◌, ◌<◌, ◌≤◌, [], ◌∷◌, ◌++◌, List, length, vec_len, is_none, IfOk, IfErr, IfSome, IsTrue, OnOk};
 ghost use Rattle.std.specs.Io.KnownBytes.{Appends};
 ghost use Rattle.og_cert_text.specs.Lines.{ForCondition, line_text};
 ghost use Rattle.og_cert_text.specs.Listing.{file_text};
-ghost use Rattle.og_cond.specs.Seen.{seen};
+ghost use Rattle.og_cond.specs.Condition.{Condition};
+ghost use Rattle.og_cond.specs.Counting.{Leaves};
 ghost use Rattle.og_find.specs.Missing.{missing_up_to};
-ghost use Rattle.og_finder.specs.Findings.{verdict_of};
+ghost use Rattle.og_finder.specs.Findings.{verdict_of, AreVerdicts};
 ghost use Rattle.og_finder.specs.Texts.{certificate_in, lines_of, lines_from, entry_lines, entries_of, AreLines};
-ghost use Rattle.og_finder.specs.Written.{IsWritten};
+ghost use Rattle.og_finder.specs.Written.{IsText};
 ghost use Rattle.og_io.specs.Written.{AppendsFront, Passes};
 ghost use Rattle.og_pool.specs.declared.fault.PoolFault.TheVariants.{Spawn};
 
-use crate::finder::examine_all;
 use crate::findings::Findings;
 use crate::formatting::Formatting;
 use itoa::Buffer;
-use og_cert_text::put_cert;
-use og_cond::Condition;
+use og_cert_text::{CertFile, put_cert};
 use og_draws::answers;
 use og_find::{Missing, Verdict};
 use og_io::{OutputFault, write_long, write_whole};
-use og_pool::{Gate, PoolFault};
+use og_pool::PoolFault;
 use std::alloc::{AllocError, Global};
 use std::io::Write;
 use std::marker::Model;
@@ -57,6 +56,18 @@ pub struct Written {
     /// How many conditions have no certificate.
     pub missing: Missing,
 }
+
+/// The text of certificates, where it is no longer than it may be.
+#[derive(Drop)]
+pub enum FoundText {
+    /// The text, and how many conditions have no certificate.
+    Within(Written),
+    /// The text would be longer. These are the certificates.
+    TooLong(CertFile),
+}
+
+/// The first line of a text.
+const FIRST_LINE: &[u8] = b"og-cert 1\n";
 
 // Adds the first line of the entry of condition n.
 fn put_start(text: &mut Vec<u8>, n: u32) -> Result<(), AllocError>
@@ -104,6 +115,56 @@ impl Writing<'_> {
         }
     }
 
+    // What is left of the room after the entry of the condition at the index, which is made for that.
+    fn left_after_entry(
+        &self,
+        text: &mut Vec<u8>,
+        room: usize,
+        index: usize,
+    ) -> Result<Option<usize>, AllocError>
+        requires lines { AreLines self.now.findings.now.verdicts.items self.now.lines.now }
+        requires few { index < 999999999 }
+        ensures { IfOk result (Leaves room (length (entry_lines (index + 1) (certificate_in (verdict_of self.now.findings.now index))))) }
+    {
+        text.clear();
+        self.put(text, index)?;
+        Ok(room.checked_sub(text.len()))
+    }
+
+    // What is left of the room after the entries of all conditions.
+    fn left_after_entries(
+        &self,
+        alloc: Global,
+        room: usize,
+    ) -> Result<Option<usize>, AllocError>
+        requires lines { AreLines self.now.findings.now.verdicts.items self.now.lines.now }
+        requires few { vec_len self.now.findings.now.own ≤ 999999999 }
+        ensures { IfOk result (Leaves room (length (lines_from self.now.findings.now 0 (vec_len self.now.findings.now.own)))) }
+    {
+        let mut text = Vec::new(alloc);
+        let mut left = room;
+        for index in 0..self.findings.own.len() {
+            match self.left_after_entry(&mut text, left, index)? {
+                Some(less) => left = less,
+                None => return Ok(None),
+            }
+        }
+        Ok(Some(left))
+    }
+
+    // Whether the text of all certificates has at most so many bytes.
+    fn is_within(&self, alloc: Global, limit: usize) -> Result<bool, AllocError>
+        requires lines { AreLines self.now.findings.now.verdicts.items self.now.lines.now }
+        requires few { vec_len self.now.findings.now.own ≤ 999999999 }
+        ensures { IfOk result (λ yes. IsTrue yes ↔ (length (file_text (entries_of self.now.findings.now)) ≤ limit)) }
+    {
+        let Some(room) = limit.checked_sub(FIRST_LINE.len()) else {
+            return Ok(false);
+        };
+        let left = self.left_after_entries(alloc, room)?;
+        Ok(left.is_some())
+    }
+
     // Writes the entry of the condition at the index, if that has a certificate, or holds it back.
     fn write_entry<W: Write>(
         &self,
@@ -145,7 +206,7 @@ impl Writing<'_> {
         ensures written { OnOk result (Appends (W.contents out.old) (W.contents out.new) (file_text (entries_of self.now.findings.now))) }
         ensures unfinished { IfErr result (λ _. AppendsFront (W.contents out.old) (W.contents out.new) (file_text (entries_of self.now.findings.now))) }
     {
-        let mut text = Vec::from_slice(alloc, b"og-cert 1\n")?;
+        let mut text = Vec::from_slice(alloc, FIRST_LINE)?;
         self.write_entries(out, &mut text)?;
         write_whole(out, &text)?;
         Ok(())
@@ -214,53 +275,63 @@ impl Findings {
         Missing { count, conditions }
     }
 
-    // The certificates, whose lines so many workers make.
-    fn written<R: Threads + Wait + Sync>(
+    // The text with these lines, where it has at most so many bytes, and so many conditions without a
+    // certificate.
+    fn within(
         self,
-        rt: &R,
         alloc: Global,
-        workers: u32,
-    ) -> Result<Written, PoolFault>
-        requires workers { (0 < workers) × (workers ≤ 64) }
+        lines: Vec<Vec<u8>>,
+        missing: Missing,
+        limit: usize,
+    ) -> Result<FoundText, AllocError>
+        requires lines { AreLines self.verdicts.items lines.items }
         requires few { vec_len self.own ≤ 999999999 }
-        ensures text { IfOk result (λ w. w.certificates ≡ file_text (entries_of self)) }
-        ensures missing { IfOk result (λ w. w.missing.count ≡ missing_up_to (entries_of self) (length self.own.items)) }
-        ensures conditions { IfOk result (λ w. w.missing.conditions ≡ length self.own.items) }
-        ensures spawn { IfErr result (λ e. e ≡ Spawn → 1 < workers) }
+        requires count { missing.count ≡ missing_up_to (entries_of self) (length self.own.items) }
+        requires conditions { missing.conditions ≡ length self.own.items }
+        ensures { IfOk result (λ text. (cs : List Condition) → AreVerdicts cs self → IsText limit cs text) }
     {
-        let missing = self.missing();
-        let lines = self.lines(rt, alloc, workers)?;
+        let writing = Writing {
+            findings: &self,
+            lines: &lines,
+        };
+        let is_within = writing.is_within(alloc, limit)?;
+        if !is_within {
+            drop(lines);
+            return Ok(FoundText::TooLong(self.certificates(alloc)?));
+        }
         let certificates = Certificates {
             findings: self,
             lines,
         };
-        Ok(Written {
+        Ok(FoundText::Within(Written {
             certificates,
             missing,
-        })
+        }))
     }
-}
 
-/// The certificates that searches find for the conditions, each under the number of its condition,
-/// counted from 1, and how many conditions have none. So many workers search, and make the lines of
-/// the text. The text is that of the file of `find_all`, and the same for every number of workers.
-///
-/// # Errors
-///
-/// As `examine_all`.
-pub fn write_all<G: Gate, R: Threads + Wait + Sync>(
-    rt: &R,
-    alloc: Global,
-    conditions: &[Condition],
-    budget: u64,
-    workers: u32,
-    gate: &G,
-) -> Result<Written, PoolFault>
-    requires workers { (0 < workers) × (workers ≤ 64) }
-    requires few { length conditions.now ≤ 999999999 }
-    ensures written { IfOk result (IsWritten (map seen conditions.now)) }
-    ensures spawn { IfErr result (λ e. e ≡ Spawn → 1 < workers) }
-{
-    let findings = examine_all(rt, alloc, conditions, budget, workers, gate)?;
-    findings.written(rt, alloc, workers)
+    /// The text in version 1 of the certificates, each under the number of its condition, counted from
+    /// 1, and how many conditions have none; the certificates alone where the text would have more bytes
+    /// than the limit. So many workers make the lines of the text. The text is that of the file of
+    /// `certificates`, and the same for every number of workers.
+    ///
+    /// # Errors
+    ///
+    /// As `examine_all`.
+    pub fn text<R: Threads + Wait + Sync>(
+        self,
+        rt: &R,
+        alloc: Global,
+        workers: u32,
+        limit: usize,
+    ) -> Result<FoundText, PoolFault>
+        requires workers { (0 < workers) × (workers ≤ 64) }
+        requires few { vec_len self.own ≤ 999999999 }
+        ensures text { IfOk result (λ text. (cs : List Condition) → AreVerdicts cs self → IsText limit cs text) }
+        ensures spawn { IfErr result (λ e. e ≡ Spawn → 1 < workers) }
+    {
+        let missing = self.missing();
+        let lines = self.lines(rt, alloc, workers)?;
+        let text = self.within(alloc, lines, missing, limit)?;
+        Ok(text)
+    }
 }

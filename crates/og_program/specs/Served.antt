@@ -1,5 +1,5 @@
 -- What the program does for a job, by its files and its input.
-use Rattle.std.specs.Prelude.{◌≡◌, ◌≢◌, ◌⊎◌, ◌<◌, ℕ, Bool, true, false, not, ◌||◌, List, Option, None, Some, IfSome, Result, Ok, Err, IfOk, IfErr, map, codes, string_bytes, ⊤}
+use Rattle.std.specs.Prelude.{◌≡◌, ◌≢◌, ◌⊎◌, ◌<◌, ℕ, Bool, true, false, not, ◌||◌, List, [], Option, None, Some, IfSome, Result, Ok, Err, IfOk, IfErr, map, codes, string_bytes, ⊤}
 use Rattle.std.specs.Borrow.{Bor}
 use Rattle.std.specs.Io.KnownBytes.{Appends, Keeps}
 use Rattle.og_report_text.specs.declared.answer.Answer.{Answer}
@@ -11,6 +11,7 @@ use Rattle.og_engine.specs.Inputs.{source_of, certs_of, joined_of, Reads}
 use Rattle.og_engine.specs.Making.{IsFound, IsMigrated}
 use Rattle.og_engine.specs.declared.making.FindReply.{FindReply}
 use Rattle.og_engine.specs.declared.making.FindReply.TheVariants as finds
+use Rattle.og_engine.specs.declared.making.LongText.{LongText}
 use Rattle.og_io.specs.Written.{AppendsFront}
 use Rattle.og_engine.specs.Warrants.{Warrants}
 use Rattle.og_engine.specs.Wrote.{Wrote}
@@ -33,7 +34,8 @@ use Rattle.og_report_conditions.specs.declared.form.Form.TheVariants as forms
 use Rattle.og_notes.specs.Noted.{IsNoted}
 use Rattle.og_command_prove.specs.Proof as proof
 use Rattle.og_remark.specs.Expansion.{IsExpansionRemark}
-use Rattle.og_remark.specs.Missing.{missing_text, IsMissingRemark}
+use Rattle.og_remark.specs.Missing.{missing_text, long_text, IsMissingRemark}
+use Rattle.og_report_text.specs.Told.{Says}
 use Rattle.og_remark.specs.Remarks.{IsSourceRemark, IsConditionsRemark, IsTooManyRemark, IsCheckRemark, IsCertificatesRemark}
 use Rattle.og_remark.specs.Starting.{IsRunRemark, IsProvedRunRemark}
 use Rattle.og_remark.specs.Values.{schedule_text, reason_line, IsValueRemark}
@@ -122,15 +124,21 @@ abbrev pub TellsMissing : List ℕ → ToldFound → Type 0
 TellsMissing name t =
     (t.found.missing.count ≡ 0 → t.note ≡ Ok None) × (t.found.missing.count ≢ 0 → IsNote (IsMissingNote name t.found.missing) t.note)
 
+-- certificates take more bytes than they may
+abbrev pub IsLongNote : List ℕ → LongText → Option (List ℕ) → Type 0
+IsLongNote name long None = ⊥
+IsLongNote name long (Some text) = text ≡ long_text name long.limit long.second
+
 -- what is told of the reply to whoever asks for certificates
 abbrev pub FollowsFinding : List ℕ → List ℕ → FindReply → Outcome → Type 0
 FollowsFinding name source (finds.Found found) outcome = OnFound (λ t. (t.found ≡ found) × TellsMissing name t) outcome
+FollowsFinding name source (finds.TooLong long) outcome = OnTold (λ t. Says [] 1 t.answer × IsNote (IsLongNote name long) t.note) outcome
 FollowsFinding name source (finds.Refused answer) outcome =
     OnTold (λ t. (t.answer ≡ answer) × Noted (IsConditionsRemark name source) t) outcome
 
--- the certificates that searches find for the conditions of a source
+-- the certificates that searches find for the conditions of a source, in a text that may be read
 abbrev pub Finds : ℕ → List ℕ → List ℕ → Outcome → Type 0
-Finds version name source outcome = (reply : FindReply) × IsFound version source reply × FollowsFinding name source reply outcome
+Finds version name source outcome = (reply : FindReply) × IsFound version 67108864 source reply × FollowsFinding name source reply outcome
 
 abbrev pub Erases : Bool → List ℕ → List ℕ → Told → Type 0
 Erases readable name source t = IsErased readable source t.answer × Remarks (IsSourceRemark name source) t

@@ -1,25 +1,26 @@
 //! What goes to standard error beside an answer.
 
-ghost use Rattle.std.specs.Prelude.{◌≡◌, ◌≢◌, map, option_map, Ok, None, IfOk, IfSome};
+ghost use Rattle.std.specs.Prelude.{◌≡◌, ◌≢◌, [], map, option_map, Ok, None, IfOk, IfSome};
 ghost use Rattle.og_remark.specs.Missing.{IsMissingRemark};
 ghost use Rattle.og_remark.specs.Remarks.{IsSourceRemark, IsConditionsRemark, IsTooManyRemark, IsCheckRemark, IsCertificatesRemark};
 ghost use Rattle.og_remark.specs.Starting.{IsRunRemark, IsProvedRunRemark};
 ghost use Rattle.og_remark.specs.Values.{schedule_text, reason_line, IsValueRemark};
 ghost use Rattle.og_remark.specs.declared.values.Gives.TheVariants as gives;
+ghost use Rattle.og_report_text.specs.Told.{Says};
 ghost use Rattle.og_program.specs.Told.{IsNote, Noted};
-ghost use Rattle.og_program.specs.Served.{Remarks, RemarksBoth, IsMissingNote, TellsMissing, FollowsFinding, TellsRan, IsWordRemark, IsExpansionNote, Follows, FollowsExploring, FollowsExpanding, FollowsListing, FollowsProving, FollowsRuns, TellsProved, OnBad};
+ghost use Rattle.og_program.specs.Served.{Remarks, RemarksBoth, IsMissingNote, IsLongNote, TellsMissing, FollowsFinding, TellsRan, IsWordRemark, IsExpansionNote, Follows, FollowsExploring, FollowsExpanding, FollowsListing, FollowsProving, FollowsRuns, TellsProved, OnBad};
 
 use crate::outcome::{BadValue, Outcome, Told, ToldFound};
 use og_advice::Names;
 use og_command_prove::Reply as Proved;
-use og_engine::{FindReply, FoundCertificates};
+use og_engine::{FindReply, FoundCertificates, LongText};
 use og_expander::{ExpandFault, Reply as Expanded};
 use og_explorer::Reply as Explored;
 use og_find::Missing;
 use og_remark::{
-    Gives, certificates_remark, check_remark, conditions_remark, expansion_remark, missing_line,
-    missing_remark, proved_run_remark, run_remark, schedule_remark, source_remark, too_many_remark,
-    value_remark,
+    Gives, certificates_remark, check_remark, conditions_remark, expansion_remark, long_line,
+    missing_line, missing_remark, proved_run_remark, run_remark, schedule_remark, source_remark,
+    too_many_remark, value_remark,
 };
 use og_report_conditions::Reply as Listed;
 use og_report_text::Answer;
@@ -94,6 +95,19 @@ fn beside_certificates_found(alloc: Global, name: &str, found: FoundCertificates
     ToldFound { found, note }
 }
 
+// That the certificates that are found take more bytes than they may; nothing of them is printed.
+fn of_long_text(alloc: Global, name: &str, long: LongText) -> Told
+    ensures answer { Says [] 1 result.answer }
+    ensures note { IsNote (IsLongNote name.now long) result.note }
+{
+    let answer = Answer {
+        text: Vec::new(alloc),
+        status: LACKING,
+    };
+    let note = long_line(alloc, name, long.limit, long.second).map(Some);
+    Told { answer, note }
+}
+
 /// What is told of the reply to whoever asks for certificates of a source.
 pub(crate) fn beside_found<'a>(
     alloc: Global,
@@ -105,6 +119,7 @@ pub(crate) fn beside_found<'a>(
 {
     match reply {
         FindReply::Found(found) => { Outcome::Found(beside_certificates_found(alloc, name, found)) }
+        FindReply::TooLong(long) => Outcome::Told(of_long_text(alloc, name, long)),
         FindReply::Refused(answer) => {
             let note = conditions_remark(alloc, name, source);
             Outcome::Told(Told { answer, note })

@@ -12,7 +12,7 @@ use crate::outcome::Outcome;
 use crate::program::Program;
 use crate::reading::source_bytes;
 use og_command_prove::{prove, proved_with_runs, shown, shown_with_runs};
-use og_engine::{Search, found};
+use og_engine::{CERTS_LIMIT, Search, Wanted, found};
 use og_io::{Budget, CertVersion, MomentLimit, Workers};
 use og_pool::Gate;
 use std::io::Read;
@@ -115,9 +115,13 @@ impl<'r, F: Files, G: Gate, H: Threads + Wait + Sync> Program<'r, F, G, H> {
         ensures kept { is_file source.now ≡ true → I.remaining input.new ≡ I.remaining input.old }
     {
         let bytes = source_bytes(self.alloc, self.files, source, input)?;
-        let reply = found(
-            self.rt, self.alloc, &bytes, budget, workers, version, self.gate,
-        )?;
+        let wanted = Wanted {
+            budget,
+            workers,
+            version,
+            limit: CERTS_LIMIT,
+        };
+        let reply = found(self.rt, self.alloc, &bytes, wanted, self.gate)?;
         Ok(beside_found(self.alloc, source, &bytes, reply))
     }
 }

@@ -11,7 +11,7 @@ mod starting;
 mod values;
 
 pub use expansion::expansion_remark;
-pub use missing::{missing_line, missing_remark};
+pub use missing::{long_line, missing_line, missing_remark};
 pub use remarks::{
     certificates_remark, check_remark, conditions_remark, source_remark, too_many_remark,
 };

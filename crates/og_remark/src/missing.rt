@@ -1,7 +1,7 @@
 //! How many conditions have no certificate.
 
 ghost use Rattle.std.specs.Prelude.{◌≡◌, ◌++◌, OnOk, IfOk, option_map};
-ghost use Rattle.og_remark.specs.Missing.{counts_text, missing_text, IsCount, IsCountOf, IsMissingOf, IsMissingRemark};
+ghost use Rattle.og_remark.specs.Missing.{counts_text, missing_text, length_text, long_text, IsCount, IsCountOf, IsMissingOf, IsMissingRemark};
 
 use og_advice::put_command;
 use og_cert_read::read_certs;
@@ -78,6 +78,39 @@ pub fn missing_line(alloc: Global, name: &str, missing: Missing) -> Result<Vec<u
     text.extend_from_slice(b" conditions have no certificate; ")?;
     put_command(&mut text, "og prove ", name)?;
     text.extend_from_slice(b" says why\n")?;
+    Ok(text)
+}
+
+// Adds in which version the text may be written, where there is one, or else what does without.
+fn put_length(text: &mut Vec<u8>, name: &str, second: Option<usize>) -> Result<(), AllocError>
+    ensures { OnOk result (text.new.items ≡ text.old.items ++ length_text name.now second) }
+{
+    let Some(bytes) = second else {
+        return put_named(text, ": 'og prove ", name, "' judges without them\n");
+    };
+    text.extend_from_slice(b": --version 2 takes ")?;
+    put_number(text, bytes as u128)?;
+    text.extend_from_slice(b"\n")
+}
+
+/// The line that the certificates of a source of this name take more bytes than the limit, and how many
+/// they take in version 2, where these are no more; or else what does without certificates.
+///
+/// # Errors
+///
+/// An allocation was refused.
+pub fn long_line(
+    alloc: Global,
+    name: &str,
+    limit: usize,
+    second: Option<usize>,
+) -> Result<Vec<u8>, AllocError>
+    ensures { IfOk result (λ text. text.items ≡ long_text name.now limit second) }
+{
+    let mut text = Vec::from_slice(alloc, b"og: certificates of more than ")?;
+    put_number(&mut text, limit as u128)?;
+    text.extend_from_slice(b" bytes")?;
+    put_length(&mut text, name, second)?;
     Ok(text)
 }
 

@@ -1,7 +1,7 @@
 //! What commands answer, as texts.
 
 use og_engine::{
-    Answer, EngineFault, FindReply, Options, checked, engine, erased, found, migrated,
+    Answer, EngineFault, FindReply, Options, Wanted, checked, engine, erased, found, migrated,
 };
 use og_io::{Budget, CertVersion, OutputFault, Workers};
 use og_pool::{OpenGate, PoolFault};
@@ -158,16 +158,13 @@ pub(crate) fn is_found<R: Threads + Wait + Sync>(rt: &R, alloc: Global) -> Resul
     let (Some(budget), Some(workers)) = (Budget::new(100_000), Workers::new(2)) else {
         return Ok(false);
     };
-    let version = CertVersion::ONE;
-    let reply = found(
-        rt,
-        alloc,
-        ONE_SKIP.as_bytes(),
+    let wanted = Wanted {
         budget,
         workers,
-        version,
-        &OpenGate,
-    )?;
+        version: CertVersion::ONE,
+        limit: ONE_SKIP_CERTS.len(),
+    };
+    let reply = found(rt, alloc, ONE_SKIP.as_bytes(), wanted, &OpenGate)?;
     let FindReply::Found(found) = reply else {
         return Ok(false);
     };

@@ -1,6 +1,6 @@
 //! Checks and searches by so many workers.
 
-use og_engine::{Answer, FindReply, Options, checked, found};
+use og_engine::{Answer, CERTS_LIMIT, FindReply, Options, Wanted, checked, found};
 use og_find::Missing;
 use og_io::{Budget, CertVersion, Workers};
 use og_pool::{Gate, OpenGate};
@@ -25,6 +25,24 @@ pub(crate) fn checked_by<G: Gate, R: Threads + Wait + Sync>(
     Ok(checked(rt, alloc, source.as_bytes(), certs, options, gate)?)
 }
 
+/// What a search finds whose text may have so many bytes.
+pub(crate) fn found_within<R: Threads + Wait + Sync>(
+    rt: &R,
+    alloc: Global,
+    source: &str,
+    workers: u32,
+    version: CertVersion,
+    limit: usize,
+) -> Result<FindReply, Fail> {
+    let wanted = Wanted {
+        budget: Budget::new(100_000).ok_or("no budget")?,
+        workers: Workers::new(workers).ok_or("no number of workers")?,
+        version,
+        limit,
+    };
+    Ok(found(rt, alloc, source.as_bytes(), wanted, &OpenGate)?)
+}
+
 /// What a search finds.
 pub(crate) fn found_by<R: Threads + Wait + Sync>(
     rt: &R,
@@ -33,10 +51,7 @@ pub(crate) fn found_by<R: Threads + Wait + Sync>(
     workers: u32,
     version: CertVersion,
 ) -> Result<FindReply, Fail> {
-    let budget = Budget::new(100_000).ok_or("no budget")?;
-    let workers = Workers::new(workers).ok_or("no number of workers")?;
-    let source = source.as_bytes();
-    Ok(found(rt, alloc, source, budget, workers, version, &OpenGate)?)
+    found_within(rt, alloc, source, workers, version, CERTS_LIMIT)
 }
 
 /// A text of certificates that a search found, its status, and how many conditions have none.

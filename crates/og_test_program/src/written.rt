@@ -3,7 +3,7 @@
 ghost use Rattle.std.specs.Prelude.{◌<◌};
 
 use crate::answers::LISTED;
-use crate::asked::found_by;
+use crate::asked::{found_by, found_within};
 use crate::devices::{Lapse, Paper};
 use og_engine::{FindReply, FoundCertificates};
 use og_io::{CertVersion, OutputFault, WriteFault};
@@ -98,6 +98,34 @@ fn certificates(rt: HostRuntime) -> Result<(), Fail> {
         };
         expect_cut(&rt, rt.alloc(), &found, text.as_bytes(), 1);
         expect_whole(&rt, rt.alloc(), &found, text.as_bytes());
+    }
+    Ok(())
+}
+
+// For each version and limit how many bytes version 2 is told to have, where the text would be longer:
+// of the two above the first has 78 bytes, and the second 69.
+const LIMITS: [(u32, usize, Option<Option<usize>>); 7] = [
+    (1, 78, None),
+    (1, 77, Some(Some(69))),
+    (1, 69, Some(Some(69))),
+    (1, 68, Some(None)),
+    (1, 9, Some(None)),
+    (2, 69, None),
+    (2, 68, Some(None)),
+];
+
+// Certificates whose text would be too long are not given, and it is told how long version 2 is.
+#[test]
+fn certificates_of_many_bytes(rt: HostRuntime) -> Result<(), Fail> {
+    for (number, limit, expected) in &LIMITS {
+        let version = CertVersion::new(*number).ok_or("no version")?;
+        let told = match found_within(&rt, rt.alloc(), ONE_SKIP, 1, version, *limit)? {
+            FindReply::Found(_) => None,
+            FindReply::TooLong(long) => Some((long.limit, long.second)),
+            FindReply::Refused(_) => return Err(Fail::new("the source is refused")),
+        };
+        let expected = expected.map(|second| (*limit, second));
+        assert!(rt; told == expected, "version {number}, {limit} bytes");
     }
     Ok(())
 }

@@ -8,7 +8,7 @@ use crate::sources::{LARGE, NO_FACTS, NOT_EVEN, TURNED};
 use og_cert_text::{CertFile, put_cert, write_certs};
 use og_cond::Condition;
 use og_find::{Missing, Verdict, examine, find, mark};
-use og_finder::{examine_all, find_all, write_all};
+use og_finder::{FoundText, examine_all, find_all};
 use og_pool::OpenGate;
 use og_samples::{EQUAL_ADD, NESTED, TOLD_ADD, TWO_ADD, alike};
 use std::alloc::{AllocError, Global};
@@ -130,7 +130,10 @@ fn written_by<R: Threads + Wait + Sync + Abort>(
     requires workers { (0 < workers) × (workers ≤ 64) }
     requires few { length list.now ≤ 999999999 }
 {
-    let written = write_all(rt, alloc, list, budget, workers, &OpenGate)?;
+    let findings = examine_all(rt, alloc, list, budget, workers, &OpenGate)?;
+    let FoundText::Within(written) = findings.text(rt, alloc, workers, usize::MAX)? else {
+        return Err(Fail::new("the text is too long"));
+    };
     let missing = written.missing;
     let mut text = Vec::new(alloc);
     let done = written.certificates.write(alloc, &mut text);

@@ -6,5 +6,6 @@ use Rattle.og_engine.proofs.making.found.Goals as goal
 pub returns-in-Ok-clause-found : goal.returns-in-Ok-clause-found
 returns-in-Ok-clause-found g c =
     let r = c.found_of-found.result in
-    found_of_source c.args.version c.args.source.now c.in-Ok.source.outline r c.in-Ok.ensures.outline
-    (subst (λ (s : List ℕ). IfOk r (IsFoundOf c.args.version c.in-Ok.source.outline s)) c.in-Ok.ensures.same c.found_of-found.ensures.found)
+    let w = c.args.wanted in
+    found_of_source w.version w.limit c.args.source.now c.in-Ok.source.outline r c.in-Ok.ensures.outline
+    (subst (λ (s : List ℕ). IfOk r (IsFoundOf w.version w.limit c.in-Ok.source.outline s)) c.in-Ok.ensures.same c.found_of-found.ensures.found)

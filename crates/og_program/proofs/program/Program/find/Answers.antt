@@ -11,7 +11,7 @@ returns-clause-came g c =
       c.in_ok-bytes.ensures.text,
       (
         reply,
-        subst (λ (s : List ℕ). IsFound c.args.version s reply) c.deref.ensures.value c.in_ok-reply.ensures.found,
+        subst (λ (s : List ℕ). IsFound c.args.version 67108864 s reply) c.deref.ensures.value c.in_ok-reply.ensures.found,
         subst (λ (s : List ℕ). FollowsFinding c.args.source.now s reply outcome) c.deref-2.ensures.value c.beside_found.ensures,
       ),
     )
