@@ -193,6 +193,7 @@ fn searched<G: Gate, H: Threads + Wait + Sync>(
     let (budget, workers) = (search.budget.facts(), search.workers.count());
     let findings = examine_all(rt, alloc, conditions, budget, workers, gate)?;
     let told = tell_all(alloc, outline, conditions, &findings)?;
+    drop(findings);
     Ok(answer_of(alloc, outline, texts, conditions, &told, search.json)?)
 }
 

@@ -23,7 +23,7 @@ fault_place c (fault.Blocked stands) = c.at
 -- of one that is open at the assertion to which it leads
 abbrev pub told_place : Condition → Told → Target → ℕ
 told_place c told.Proved g = g.goal
-told_place c (told.False block) g = fault_place c block.explanation.fault
+told_place c (told.False block) g = fault_place c block.details.value.explanation.fault
 told_place c told.Open g = g.goal
 
 -- and at the action of which it speaks

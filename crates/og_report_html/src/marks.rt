@@ -64,7 +64,7 @@ pub(crate) fn told_place(condition: &Condition, told: &Told, target: &Target) ->
     let Told::False(block) = told else {
         return target.goal;
     };
-    match &block.explanation.fault {
+    match &block.details.explanation.fault {
         Fault::False(note, _) => note.at,
         Fault::TooLarge(..) | Fault::Blocked(_) => condition.at,
     }

@@ -32,7 +32,7 @@ module _ (names : List (List ℕ)) (source : List ℕ) (rows : Rows) where
       → one_text names source rows f n c more t ≡ one_text names source rows g n c more t
   one_same f g n c more told.Proved h = refl
   one_same f g n c more (told.False block) h =
-      ap (λ (body : List ℕ). head_text source rows n c (codes "false") more ++ body) (body_same f g (effect_of block.explanation.action block.explanation.fault) block h)
+      ap (λ (body : List ℕ). head_text source rows n c (codes "false") more ++ body) (body_same f g (effect_of block.details.value.explanation.action block.details.value.explanation.fault) block h)
   one_same f g n c more told.Open h = refl
 
   pub told_same : (f g : List ℕ → Option ℕ) (n : ℕ) (c : Condition) (m : Option ℕ) (t : Told) → ((text : List ℕ) → f text ≡ g text)
@@ -43,18 +43,18 @@ module _ (names : List (List ℕ)) (source : List ℕ) (rows : Rows) where
   -- ---- what is told of a false condition with an effect
 
   body_of : (known : List ℕ → Option ℕ) (block : Block) (effect : ℕ × List Formula) (text : List ℕ) (k : Option ℕ)
-      → effect_of block.explanation.action block.explanation.fault ≡ Some effect → text ≡ effect_text names source rows effect → k ≡ known text
+      → effect_of block.details.value.explanation.action block.details.value.explanation.fault ≡ Some effect → text ≡ effect_text names source rows effect → k ≡ known text
       → body_text names source rows known block ≡ alike_or_block names source rows k effect.1 block
   body_of known block effect text k is same seen =
       ap (λ e. effect_or_block names source rows known e block) is ∙ ap (λ o. alike_or_block names source rows o effect.1 block) (sym (seen ∙ ap known same))
 
   pub body_alike : (known : List ℕ → Option ℕ) (block : Block) (at : ℕ) (found : List Formula) (text : List ℕ) (k : ℕ)
-      → effect_of block.explanation.action block.explanation.fault ≡ Some (at, found) → text ≡ effect_text names source rows (at, found) → Some k ≡ known text
+      → effect_of block.details.value.explanation.action block.details.value.explanation.fault ≡ Some (at, found) → text ≡ effect_text names source rows (at, found) → Some k ≡ known text
       → body_text names source rows known block ≡ alike_line names k found
   body_alike known block at found text k is same seen = body_of known block (at, found) text (Some k) is same seen
 
   pub body_first : (known : List ℕ → Option ℕ) (block : Block) (at : ℕ) (found : List Formula) (text : List ℕ)
-      → effect_of block.explanation.action block.explanation.fault ≡ Some (at, found) → text ≡ effect_text names source rows (at, found) → None ≡ known text
+      → effect_of block.details.value.explanation.action block.details.value.explanation.fault ≡ Some (at, found) → text ≡ effect_text names source rows (at, found) → None ≡ known text
       → body_text names source rows known block ≡ block_text names source rows block
   body_first known block at found text is same seen = body_of known block (at, found) text None is same seen
 
@@ -66,7 +66,7 @@ module _ (names : List (List ℕ)) (source : List ℕ) (rows : Rows) where
 
   alone : (text : List ℕ) (n k : ℕ) (t : Told) → n ≡ k → first_with names source rows text k (t ∷ []) ≡ after_told names source rows t text n None
   alone text n k told.Proved is = refl
-  alone text n k (told.False block) is = alone_effect text n k (effect_of block.explanation.action block.explanation.fault) is
+  alone text n k (told.False block) is = alone_effect text n k (effect_of block.details.value.explanation.action block.details.value.explanation.fault) is
   alone text n k told.Open is = refl
 
   kept_effect : (text : List ℕ) (n k : ℕ) (e : Option (ℕ × List Formula)) → Some k ≡ after_effect names source rows e text n (Some k)
@@ -75,7 +75,7 @@ module _ (names : List (List ℕ)) (source : List ℕ) (rows : Rows) where
 
   kept : (text : List ℕ) (n k : ℕ) (t : Told) → Some k ≡ after_told names source rows t text n (Some k)
   kept text n k told.Proved = refl
-  kept text n k (told.False block) = kept_effect text n k (effect_of block.explanation.action block.explanation.fault)
+  kept text n k (told.False block) = kept_effect text n k (effect_of block.details.value.explanation.action block.details.value.explanation.fault)
   kept text n k told.Open = refl
 
   pub first_end : (text : List ℕ) (n k : ℕ) (done : List Told) (t : Told) → n ≡ k + length done

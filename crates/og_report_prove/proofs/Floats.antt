@@ -68,24 +68,24 @@ no_float_too_large_of names (fault.Blocked stands) = refl
 no_float_state : (names : List (List ℕ)) (t : Told) → optional_has_float (state_member names t) ≡ false
 no_float_state names told.Proved = refl
 no_float_state names (told.False block) =
-    let first = with_values names true block.values block.state.items no_members in
-    no_float_values names true block.values block.besides.items first (no_float_values names true block.values block.state.items no_members refl)
+    let first = with_values names true block.values block.details.value.state.items no_members in
+    no_float_values names true block.values block.details.value.besides.items first (no_float_values names true block.values block.details.value.state.items no_members refl)
 no_float_state names told.Open = refl
 
 no_float_after : (names : List (List ℕ)) (t : Told) → optional_has_float (after_member names t) ≡ false
 no_float_after names told.Proved = refl
 no_float_after names (told.False block) =
-    no_float_after_of block.explanation.fault block.explanation.action _ (no_float_values names false block.explanation.after block.assigned.items no_members refl)
+    no_float_after_of block.details.value.explanation.fault block.details.value.explanation.action _ (no_float_values names false block.details.value.explanation.after block.details.value.assigned.items no_members refl)
 no_float_after names told.Open = refl
 
 no_float_false : (names : List (List ℕ)) (source : List ℕ) (t : Told) → optional_has_float (false_member names source t) ≡ false
 no_float_false names source told.Proved = refl
-no_float_false names source (told.False block) = no_float_false_of names source block.explanation.fault
+no_float_false names source (told.False block) = no_float_false_of names source block.details.value.explanation.fault
 no_float_false names source told.Open = refl
 
 no_float_too_large : (names : List (List ℕ)) (t : Told) → optional_has_float (too_large_member names t) ≡ false
 no_float_too_large names told.Proved = refl
-no_float_too_large names (told.False block) = no_float_too_large_of names block.explanation.fault
+no_float_too_large names (told.False block) = no_float_too_large_of names block.details.value.explanation.fault
 no_float_too_large names told.Open = refl
 
 -- ---- conditions

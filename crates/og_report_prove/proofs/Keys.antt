@@ -1,6 +1,6 @@
 -- Keys, counted and taken out one after another.
 use Rattle.std.proofs.Common.{◌≡◌, ℕ, zero, suc, ◌+◌, ◌-◌, ◌<◌, List, [], ◌∷◌, ◌++◌, length, take, drop, Bool, true, false, true≢false, ◌||◌, cond, Option, Some, None, Vec, refl, sym, ap, ap₂, ◌∙◌, append_assoc, add-one, arith}
-use Rattle.std.specs.Prelude.{slice_get, count_by, option_map, unwrap_or}
+use Rattle.std.specs.Prelude.{slice_get, count_by, option_map, replicate, unwrap_or}
 use Rattle.std.specs.Global.{Global}
 use Rattle.std.specs.List.{list_any, sum_by}
 use Rattle.std.specs.Str.{bytes_eq}
@@ -173,3 +173,14 @@ keys_length rows (c ∷ cs) (t ∷ ts) h = let rest = keys_length rows cs ts (om
 
 pub mores_length : (rows : Rows) (cs : List Condition) (ts : List Told) → length ts ≡ length cs → length (mores (keys_of rows cs ts)) ≡ length ts
 mores_length rows cs ts h = mores_from_length (keys_of rows cs ts) [] (keys_of rows cs ts) ∙ keys_length rows cs ts h
+
+-- ---- without rows
+
+-- of an outline in its own text no more are told with any condition
+none_more_from : (all before : List (Option (List ℕ))) (cs : List Condition) (ts : List Told) → length ts ≡ length cs → mores_from all before (keys_of None cs ts) ≡ replicate (length cs) (Some 0)
+none_more_from all before [] ts h = refl
+none_more_from all before (c ∷ cs) [] h = absurd (omega arith)
+none_more_from all before (c ∷ cs) (t ∷ ts) h = ap (λ ms. Some 0 ∷ ms) (none_more_from all (before ++ None ∷ []) cs ts (omega (arith, h)))
+
+pub none_told_together : (cs : List Condition) (ts : List Told) → length ts ≡ length cs → mores (keys_of None cs ts) ≡ replicate (length cs) (Some 0)
+none_told_together cs ts h = none_more_from (keys_of None cs ts) [] cs ts h

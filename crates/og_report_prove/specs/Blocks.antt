@@ -105,20 +105,20 @@ module _ (names : List (List ℕ)) where
   -- the sentence and the state
   abbrev pub head_lines : Block → List ℕ
   head_lines block =
-      codes "  " & sentence_text block.kind block.actors & codes "\n"
-      & values_line (codes "state") block.values block.state.items
-      & more_line (codes "besides") block.values block.besides.items
+      codes "  " & sentence_text block.details.value.kind block.details.value.actors & codes "\n"
+      & values_line (codes "state") block.values block.details.value.state.items
+      & more_line (codes "besides") block.values block.details.value.besides.items
 
   -- what is true there
   abbrev pub true_lines : List ℕ → Rows → Block → List ℕ
   true_lines source rows block =
-      known_lines source rows block.focus.items block.explanation.known.items
-      & more_line (codes "initially") block.values block.initial.items
-      & test_line source rows block.explanation.test
+      known_lines source rows block.details.value.focus.items block.details.value.explanation.known.items
+      & more_line (codes "initially") block.values block.details.value.initial.items
+      & test_line source rows block.details.value.explanation.test
 
   abbrev pub block_text : List ℕ → Rows → Block → List ℕ
   block_text source rows block =
       head_lines block
       & true_lines source rows block
-      & action_lines source rows block.explanation.action block.explanation.after block.assigned.items
-      & fault_lines source rows block.explanation.fault
+      & action_lines source rows block.details.value.explanation.action block.details.value.explanation.after block.details.value.assigned.items
+      & fault_lines source rows block.details.value.explanation.fault

@@ -45,7 +45,7 @@ module _ (names : List (List ℕ)) where
 
     abbrev pub has_effect : List ℕ → Told → Bool
     has_effect text told.Proved = false
-    has_effect text (told.False block) = has_text text (effect_of block.explanation.action block.explanation.fault)
+    has_effect text (told.False block) = has_text text (effect_of block.details.value.explanation.action block.details.value.explanation.fault)
     has_effect text told.Open = false
 
     -- the number of the first of these that has the effect, numbered on from n
@@ -62,5 +62,5 @@ module _ (names : List (List ℕ)) where
 
     abbrev pub after_told : Told → List ℕ → ℕ → Option ℕ → Option ℕ
     after_told told.Proved text n number = number
-    after_told (told.False block) text n number = after_effect (effect_of block.explanation.action block.explanation.fault) text n number
+    after_told (told.False block) text n number = after_effect (effect_of block.details.value.explanation.action block.details.value.explanation.fault) text n number
     after_told told.Open text n number = number

@@ -55,12 +55,12 @@ totals_data ts unproved = object
 module _ (names : List (List ℕ)) where
   abbrev pub state_data : Block → Data
   state_data block = object
-      (with_values names true block.values block.besides.items
-      (with_values names true block.values block.state.items no_members))
+      (with_values names true block.values block.details.value.besides.items
+      (with_values names true block.values block.details.value.state.items no_members))
 
   -- what the action assigns
   abbrev pub after_data : Block → Data
-  after_data block = object (with_values names false block.explanation.after block.assigned.items no_members)
+  after_data block = object (with_values names false block.details.value.explanation.after block.details.value.assigned.items no_members)
 
   abbrev pub conjunct_data : Formula → Data
   conjunct_data a = string (utf8_text (assertion_text names a))
@@ -74,10 +74,10 @@ module _ (names : List (List ℕ)) where
   state_member = of_block (λ block. Some (state_data block))
 
   abbrev pub after_member : Told → Option Data
-  after_member = of_block (λ block. after_of block.explanation.fault block.explanation.action (after_data block))
+  after_member = of_block (λ block. after_of block.details.value.explanation.fault block.details.value.explanation.action (after_data block))
 
   abbrev pub too_large_member : Told → Option Data
-  too_large_member = of_block (λ block. too_large_of block.explanation.fault)
+  too_large_member = of_block (λ block. too_large_of block.details.value.explanation.fault)
 
   -- the state and the status
   abbrev pub last_members : Told → Members
@@ -99,7 +99,7 @@ module _ (names : List (List ℕ)) (source : List ℕ) where
   false_of (fault.Blocked stands) = None
 
   abbrev pub false_member : Told → Option Data
-  false_member = of_block (λ block. false_of block.explanation.fault)
+  false_member = of_block (λ block. false_of block.details.value.explanation.fault)
 
   -- ---- a condition that is not proved
 

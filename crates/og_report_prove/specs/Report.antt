@@ -80,7 +80,7 @@ module _ (names : List (List ℕ)) (source : List ℕ) (rows : Rows) where
   effect_or_block known (Some effect) block = alike_or_block (known (effect_text names source rows effect)) effect.1 block
 
   abbrev pub body_text : (List ℕ → Option ℕ) → Block → List ℕ
-  body_text known block = effect_or_block known (effect_of block.explanation.action block.explanation.fault) block
+  body_text known block = effect_or_block known (effect_of block.details.value.explanation.action block.details.value.explanation.fault) block
 
   -- nothing of a condition that is proved
   abbrev pub one_text : (List ℕ → Option ℕ) → ℕ → Condition → ℕ → Told → List ℕ

@@ -57,7 +57,7 @@ action_key rows (Some at) = codes " with " & decimal (from_of (row_at rows at) a
 abbrev pub key_text : Rows → Condition → Block → List ℕ
 key_text rows c block =
     decimal (from_of (row_at rows c.at) c.at) & codes " " & name_of_kind c.kind & action_key rows c.action_at
-    & places_key (false_places rows block.explanation.fault block.conjuncts.items)
+    & places_key (false_places rows block.details.value.explanation.fault block.details.value.conjuncts.items)
 
 -- of what is told of a condition: of an outline in its own text, and of what is proved or open, nothing is told together
 abbrev pub key_of : Rows → Condition → Told → Option (List ℕ)

@@ -15,9 +15,9 @@ use Rattle.og_report_prove.specs.declared.telling.Told.TheVariants as told
 -- the condition is false in the state of the block, and what is told besides is so
 pub record IsBlock (o : Program) (c : Condition) (block : Block) : Type 0 where
   pub is_false : IsFalseAt c block.values
-  pub explained : IsExplained o c block.values block.explanation
-  pub kind : block.kind ≡ c.kind
-  pub conjuncts : block.conjuncts.items ≡ fault_numbers block.explanation.after block.explanation.fault
+  pub explained : IsExplained o c block.values block.details.value.explanation
+  pub kind : block.details.value.kind ≡ c.kind
+  pub conjuncts : block.details.value.conjuncts.items ≡ fault_numbers block.details.value.explanation.after block.details.value.explanation.fault
 
 -- proved: true in every state; false: in the state that is told
 abbrev pub IsTold : Program → Condition → Told → Type 0

@@ -14,13 +14,20 @@ use og_text::Name;
 use og_values::Values;
 use std::alloc::AllocError;
 
-/// What is told of a condition that is false in a state.
+/// What is told of a condition that is false in a state. A list has room for one for each condition, so
+/// all but the state stands elsewhere.
 #[derive(Debug, Drop)]
 pub struct Block<'a> {
-    pub kind: Kind,
-    pub actors: Actors,
     /// The state.
     pub values: Values,
+    pub details: Box<Details<'a>>,
+}
+
+/// What is told besides the state.
+#[derive(Debug, Drop)]
+pub struct Details<'a> {
+    pub kind: Kind,
+    pub actors: Actors,
     /// Why the condition is false there.
     pub explanation: Explanation<'a>,
     /// The numbers, from 0, of the conjuncts that are false among all of their assertion.
@@ -40,10 +47,11 @@ fn put_head(text: &mut Vec<u8>, names: &[Name], block: &Block) -> Result<(), All
     ensures { OnOk result (text.new.items ≡ text.old.items ++ head_lines names.now block.now) }
 {
     text.extend_from_slice(b"  ")?;
-    put_sentence(text, block.kind, &block.actors)?;
+    let details = &block.details;
+    put_sentence(text, details.kind, &details.actors)?;
     text.extend_from_slice(b"\n")?;
-    put_values_line(text, names, b"state", &block.values, &block.state)?;
-    put_more_line(text, names, b"besides", &block.values, &block.besides)
+    put_values_line(text, names, b"state", &block.values, &details.state)?;
+    put_more_line(text, names, b"besides", &block.values, &details.besides)
 }
 
 // What is true there.
@@ -56,9 +64,10 @@ fn put_true(
     requires { origins.now.places.now ≡ origins.now.source.now }
     ensures { OnOk result (text.new.items ≡ text.old.items ++ true_lines names.now origins.now.source.now origins.now.rows block.now) }
 {
-    let explanation = &block.explanation;
-    put_known_lines(text, names, origins, &block.focus, &explanation.known)?;
-    put_more_line(text, names, b"initially", &block.values, &block.initial)?;
+    let details = &block.details;
+    let explanation = &details.explanation;
+    put_known_lines(text, names, origins, &details.focus, &explanation.known)?;
+    put_more_line(text, names, b"initially", &block.values, &details.initial)?;
     put_test(text, origins, explanation.test)
 }
 
@@ -76,9 +85,10 @@ pub fn put_block(
     requires { origins.now.places.now ≡ origins.now.source.now }
     ensures { OnOk result (text.new.items ≡ text.old.items ++ block_text names.now origins.now.source.now origins.now.rows block.now) }
 {
-    let explanation = &block.explanation;
+    let details = &block.details;
+    let explanation = &details.explanation;
     put_head(text, names, block)?;
     put_true(text, names, origins, block)?;
-    put_action(text, names, origins, explanation, &block.assigned)?;
+    put_action(text, names, origins, explanation, &details.assigned)?;
     put_fault(text, names, origins, &explanation.fault)
 }

@@ -24,8 +24,8 @@ fn state_value(alloc: Global, names: &[Name], block: &Block) -> Result<Value, Al
 {
     let values = &block.values;
     let mut members = Map::new(alloc);
-    put_values(&mut members, alloc, names, true, values, &block.state)?;
-    put_values(&mut members, alloc, names, true, values, &block.besides)?;
+    put_values(&mut members, alloc, names, true, values, &block.details.state)?;
+    put_values(&mut members, alloc, names, true, values, &block.details.besides)?;
     Ok(Value::Object(members))
 }
 
@@ -33,9 +33,9 @@ fn state_value(alloc: Global, names: &[Name], block: &Block) -> Result<Value, Al
 fn after_value(alloc: Global, names: &[Name], block: &Block) -> Result<Value, AllocError>
     ensures { IfOk result (λ v. view v ≡ after_data names.now block.now) }
 {
-    let values = &block.explanation.after;
+    let values = &block.details.explanation.after;
     let mut members = Map::new(alloc);
-    put_values(&mut members, alloc, names, false, values, &block.assigned)?;
+    put_values(&mut members, alloc, names, false, values, &block.details.assigned)?;
     Ok(Value::Object(members))
 }
 
@@ -121,7 +121,7 @@ pub(crate) fn after_member(
     let Told::False(block) = told else {
         return Ok(None);
     };
-    match (&block.explanation.fault, &block.explanation.action) {
+    match (&block.details.explanation.fault, &block.details.explanation.action) {
         (Fault::False(..), Some(_)) => Ok(Some(after_value(alloc, names, block)?)),
         _ => Ok(None),
     }
@@ -139,7 +139,7 @@ pub(crate) fn false_member(
     let Told::False(block) = told else {
         return Ok(None);
     };
-    match &block.explanation.fault {
+    match &block.details.explanation.fault {
         Fault::False(note, found) => {
             Ok(Some(conjuncts_value(alloc, names, places, note, found)?))
         }
@@ -158,7 +158,7 @@ pub(crate) fn too_large_member(
     let Told::False(block) = told else {
         return Ok(None);
     };
-    match &block.explanation.fault {
+    match &block.details.explanation.fault {
         Fault::TooLarge(var, value) => Ok(Some(large_value(alloc, names, *var, *value)?)),
         Fault::False(..) | Fault::Blocked(_) => Ok(None),
     }

@@ -17,7 +17,7 @@ mod together;
 mod unproved;
 mod values;
 
-pub use block::{Block, put_block};
+pub use block::{Block, Details, put_block};
 pub use earlier::Firsts;
 pub use faults::conjunct_values;
 pub use lines::{put_false, put_quoted, put_too_large};

@@ -80,9 +80,9 @@ fn put_body(
     requires { page.origins.now.places.now ≡ page.origins.now.source.now }
     ensures text { OnOk result (text.new.items ≡ text.old.items ++ body_text page.entry.names.now page.entry.origins.now.source.now page.entry.origins.now.rows (λ t. number_of t firsts.old) block.now) }
     ensures firsts { OnOk result ((t : List ℕ) → number_of t firsts.new
-        ≡ after_effect page.entry.names.now page.entry.origins.now.source.now page.entry.origins.now.rows (effect_of block.now.explanation.action block.now.explanation.fault) t number (number_of t firsts.old)) }
+        ≡ after_effect page.entry.names.now page.entry.origins.now.source.now page.entry.origins.now.rows (effect_of block.now.details.value.explanation.action block.now.details.value.explanation.fault) t number (number_of t firsts.old)) }
 {
-    let Some((at, found)) = effect_of(&block.explanation) else {
+    let Some((at, found)) = effect_of(&block.details.explanation) else {
         return put_block(text, page.names, page.origins, block);
     };
     let effect = effect_text(*text.allocator(), page.names, page.origins, at, found)?;

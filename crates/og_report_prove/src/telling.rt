@@ -9,7 +9,7 @@ ghost use Rattle.og_report_prove.specs.Numbers.{false_numbers, fault_numbers};
 ghost use Rattle.og_explain.specs.Explanations.{AreAllowed};
 ghost use Rattle.og_report_prove.specs.Told.{IsBlock, IsTold, IsOfState, IsAllowed, Follows};
 
-use crate::block::Block;
+use crate::block::{Block, Details};
 use crate::focus::Vars;
 use og_cond::Condition;
 use og_explain::{Actors, Explanation, Fault, Unexplained, explain};
@@ -97,7 +97,7 @@ fn block_with<'a>(
     explanation: Explanation<'a>,
     conjuncts: Vec<usize>,
 ) -> Result<Block<'a>, AllocError>
-    ensures { IfOk result (λ b. (b.kind ≡ condition.now.kind) × (b.values ≡ values) × (b.explanation ≡ explanation.entry) × (b.conjuncts.items ≡ conjuncts.items)) }
+    ensures { IfOk result (λ b. (b.details.value.kind ≡ condition.now.kind) × (b.values ≡ values) × (b.details.value.explanation ≡ explanation.entry) × (b.details.value.conjuncts.items ≡ conjuncts.items)) }
 {
     let mut focus = Vars::of_fault(alloc, condition, &explanation.fault)?;
     let vars = focus.list(alloc)?;
@@ -105,10 +105,9 @@ fn block_with<'a>(
     let (state, besides) = Vars::of_condition(alloc, condition)?.told(alloc, &focus)?;
     let initial = initial(alloc, outline, explanation.starts)?;
     let assigned = assigned(alloc, condition.variables, &condition.action)?;
-    Ok(Block {
+    let details = Details {
         kind: condition.kind,
         actors: Actors::of(outline, index, condition),
-        values,
         explanation,
         conjuncts,
         focus: vars,
@@ -116,7 +115,9 @@ fn block_with<'a>(
         besides,
         initial,
         assigned,
-    })
+    };
+    let details = Box::new(alloc, details)?;
+    Ok(Block { values, details })
 }
 
 /// The block of a condition that is false in a state, with these values, by what explains that.
@@ -132,8 +133,8 @@ pub fn block_of<'a>(
     values: Values,
     explanation: Explanation<'a>,
 ) -> Result<Block<'a>, Unexplained>
-    ensures { IfOk result (λ b. (b.kind ≡ condition.now.kind) × (b.values ≡ values) × (b.explanation ≡ explanation.entry)
-        × (b.conjuncts.items ≡ fault_numbers explanation.entry.after explanation.entry.fault)) }
+    ensures { IfOk result (λ b. (b.details.value.kind ≡ condition.now.kind) × (b.values ≡ values) × (b.details.value.explanation ≡ explanation.entry)
+        × (b.details.value.conjuncts.items ≡ fault_numbers explanation.entry.after explanation.entry.fault)) }
 {
     let numbers = fault_numbers(alloc, &explanation)?;
     let block = block_with(

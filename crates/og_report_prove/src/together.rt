@@ -1,7 +1,7 @@
 //! Which false conditions of a template's outline are told together: those that differ in their
 //! instances alone.
 
-ghost use Rattle.std.specs.Prelude.{◌≡◌, ◌<◌, ◌^◌, ◌++◌, ℕ, List, [], length, map, option_map, unwrap_or, count_by, Some, IfOk, OnOk};
+ghost use Rattle.std.specs.Prelude.{◌≡◌, ◌<◌, ◌^◌, ◌++◌, ℕ, List, [], length, map, option_map, replicate, unwrap_or, count_by, Some, IfOk, OnOk};
 ghost use Rattle.std.specs.Str.{bytes_eq};
 ghost use Rattle.og_cond.specs.Seen.{seen};
 ghost use Rattle.og_cert_read.specs.Firsts.{found};
@@ -50,10 +50,10 @@ fn places_of(alloc: Global, row: Option<&Row>, numbers: &[usize]) -> Result<Vec<
 
 // Those of what is false.
 fn false_places(alloc: Global, rows: &Rows, block: &Block) -> Result<Vec<u32>, AllocError>
-    ensures { IfOk result (λ v. v.items ≡ false_places (Some rows.entry) block.now.explanation.fault block.now.conjuncts.items) }
+    ensures { IfOk result (λ v. v.items ≡ false_places (Some rows.entry) block.now.details.value.explanation.fault block.now.details.value.conjuncts.items) }
 {
-    match &block.explanation.fault {
-        Fault::False(note, _) => places_of(alloc, rows.get(&note.at), &block.conjuncts),
+    match &block.details.explanation.fault {
+        Fault::False(note, _) => places_of(alloc, rows.get(&note.at), &block.details.conjuncts),
         Fault::TooLarge(..) | Fault::Blocked(_) => Ok(Vec::new(alloc)),
     }
 }
@@ -205,6 +205,17 @@ fn mores_of(alloc: Global, keys: &[Option<Vec<u8>>]) -> Result<Vec<Option<usize>
     Ok(mores)
 }
 
+// No more are told with any of so many.
+fn none_more(alloc: Global, count: usize) -> Result<Vec<Option<usize>>, AllocError>
+    ensures { IfOk result (λ v. v.items ≡ replicate count (Some 0)) }
+{
+    let mut mores = Vec::with_capacity(alloc, count)?;
+    for _ in 0..count {
+        mores.push(Some(0))?;
+    }
+    Ok(mores)
+}
+
 /// How many more are told with each condition: with the first of those false conditions of a template's
 /// outline that differ in their instances alone, and none with the others, which are told with it. With
 /// any other condition, and without rows, 0.
@@ -222,6 +233,9 @@ pub fn mores(
     requires few { length told.now < 2 ^ 32 }
     ensures { IfOk result (λ v. v.items ≡ mores (keys_of rows.entry (map seen conditions.now) told.now)) }
 {
+    if rows.is_none() {
+        return none_more(alloc, conditions.len());
+    }
     let keys = keys_of(alloc, rows, conditions, told)?;
     mores_of(alloc, &keys)
 }

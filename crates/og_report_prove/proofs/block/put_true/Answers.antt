@@ -13,9 +13,9 @@ returns c =
     let old = c.args.text.now.items in
     let first = c.put_known_lines.new.text.items in
     let second = c.put_more_line.new.text.items in
-    let known = known_lines names source rows block.focus.items block.explanation.known.items in
-    let initial = more_line names (codes "initially") block.values block.initial.items in
-    let test = test_line source rows block.explanation.test in
+    let known = known_lines names source rows block.details.value.focus.items block.details.value.explanation.known.items in
+    let initial = more_line names (codes "initially") block.values block.details.value.initial.items in
+    let test = test_line source rows block.details.value.explanation.test in
     let one : first ≡ old ++ known = search rules in
     let two : second ≡ first ++ initial =
     c.in_ok-put_more_line.ensures ∙ ap (λ vars. first ++ more_line names (codes "initially") block.values vars) c.deref-3.ensures.value in

@@ -12,7 +12,7 @@ returns-in-Some-2-clause-text c =
     let source = c.args.page.origins.now.source.now in
     let rows = c.args.page.origins.now.rows in
     let block = c.args.block.now in
-    let is : effect_of block.explanation.action block.explanation.fault ≡ Some (c.in-Some.at, formulas_of c.in-Some.found.now) = search rules in
+    let is : effect_of block.details.value.explanation.action block.details.value.explanation.fault ≡ Some (c.in-Some.at, formulas_of c.in-Some.found.now) = search rules in
     let text = c.in_ok-effect.ensures in
     let seen : Some c.in-Some-2.first ≡ found c.in_ok-effect.effect.items c.args.firsts.now = search rules in
     subst (λ (body : List ℕ). OnOk c.put_alike.result (c.put_alike.new.text.items ≡ c.args.text.now.items ++ body))
@@ -25,7 +25,7 @@ returns-in-None-clause-text c =
     let source = c.args.page.origins.now.source.now in
     let rows = c.args.page.origins.now.rows in
     let block = c.args.block.now in
-    let is : effect_of block.explanation.action block.explanation.fault ≡ Some (c.in-Some.at, formulas_of c.in-Some.found.now) = search rules in
+    let is : effect_of block.details.value.explanation.action block.details.value.explanation.fault ≡ Some (c.in-Some.at, formulas_of c.in-Some.found.now) = search rules in
     let text = c.in_ok-effect.ensures in
     let seen : None ≡ found c.in_ok-effect.effect.items c.args.firsts.now = search rules in
     subst (λ (body : List ℕ). OnOk c.put_block-in-None.result (c.put_block-in-None.new.text.items ≡ c.args.text.now.items ++ body))
