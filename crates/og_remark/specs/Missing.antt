@@ -24,7 +24,7 @@ missing_text name missing count = codes "og: " & counts_text missing count & cod
 
 -- how many bytes version 2 takes, if it may be written, or what does without certificates
 abbrev pub length_text : List ℕ → Option ℕ → List ℕ
-length_text name None = codes ": 'og prove " & name & codes "' judges without them\n"
+length_text name None = codes ": " & command_text (codes "og prove ") name & codes " judges without them\n"
 length_text name (Some second) = codes ": --version 2 takes " & decimal second & codes "\n"
 
 -- certificates take more bytes than the limit

@@ -86,7 +86,9 @@ fn put_length(text: &mut Vec<u8>, name: &str, second: Option<usize>) -> Result<(
     ensures { OnOk result (text.new.items ≡ text.old.items ++ length_text name.now second) }
 {
     let Some(bytes) = second else {
-        return put_named(text, ": 'og prove ", name, "' judges without them\n");
+        text.extend_from_slice(b": ")?;
+        put_command(text, "og prove ", name)?;
+        return text.extend_from_slice(b" judges without them\n");
     };
     text.extend_from_slice(b": --version 2 takes ")?;
     put_number(text, bytes as u128)?;

@@ -41,7 +41,7 @@ IsOfState s told.Open = ⊤
 -- where it is told where processes stand, the assertion at each place is true
 abbrev pub IsAllowed : Program → Told → Type 0
 IsAllowed o told.Proved = ⊤
-IsAllowed o (told.False block) = AreAllowed o block.values block.explanation.fault
+IsAllowed o (told.False block) = AreAllowed o block.values block.details.value.explanation.fault
 IsAllowed o told.Open = ⊤
 
 -- proved exactly where the verdict is that the condition is true; a state that is told is the verdict's

@@ -161,7 +161,7 @@ fn block_at<'a>(
     requires is_false { IsFalseAt (seen condition.now) state.now }
     ensures block { IfOk result (IsBlock outline.now (seen condition.now)) }
     ensures state { IfOk result (λ b. b.values ≡ state.now) }
-    ensures allowed { IfOk result (λ b. AreAllowed outline.now state.now b.explanation.fault) }
+    ensures allowed { IfOk result (λ b. AreAllowed outline.now state.now b.details.value.explanation.fault) }
 {
     let explanation = explain(alloc, outline, index, condition, state)?;
     let values = Values::of(alloc, state)?;

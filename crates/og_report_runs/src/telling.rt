@@ -75,7 +75,7 @@ fn block_at<'a>(
     requires is_false { IsFalseAt (seen condition.now) moment.now.moment.state }
     ensures block { IfOk result (IsBlock outline.now (seen condition.now)) }
     ensures state { IfOk result (λ b. b.values ≡ moment.now.moment.state) }
-    ensures places { IfOk result (λ b. IsPlaced outline.now moment.now.moment b.explanation.fault) }
+    ensures places { IfOk result (λ b. IsPlaced outline.now moment.now.moment b.details.value.explanation.fault) }
 {
     let explanation = explained(alloc, outline, index, condition, moment)?;
     let values = Values::of(alloc, moment.state())?;
