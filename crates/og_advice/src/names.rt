@@ -33,10 +33,9 @@ fn put_hex(text: &mut Vec<u8>, number: u8) -> Result<(), AllocError>
     ensures { OnOk result (text.new.items ≡ text.old.items ++ hex_text number) }
 {
     if number < 16 {
-        return text.push(hex_digit(number));
+        return text.extend_from_slice(&[hex_digit(number)]);
     }
-    text.push(hex_digit(number / 16))?;
-    text.push(hex_digit(number % 16))
+    text.extend_from_slice(&[hex_digit(number / 16), hex_digit(number % 16)])
 }
 
 // Adds the escape of a control character.
@@ -71,7 +70,7 @@ fn put_first(text: &mut Vec<u8>, is_quoted: bool, byte: u8) -> Result<(), AllocE
     if is_quoted && byte == b'\'' {
         return text.extend_from_slice(b"'\\''");
     }
-    text.push(byte)
+    text.extend_from_slice(&[byte])
 }
 
 // Adds a byte, by whether the one before is `LATIN`.
@@ -144,14 +143,14 @@ pub fn put_command(text: &mut Vec<u8>, command: &str, name: &str) -> Result<(), 
     ensures { OnOk result (text.new.items ≡ text.old.items ++ command_text command.now name.now) }
 {
     if is_plain_name(name.as_bytes()) {
-        text.push(b'\'')?;
+        text.extend_from_slice(b"'")?;
         text.extend_from_slice(command.as_bytes())?;
         text.extend_from_slice(name.as_bytes())?;
-        return text.push(b'\'');
+        return text.extend_from_slice(b"'");
     }
-    text.push(b'"')?;
+    text.extend_from_slice(b"\"")?;
     text.extend_from_slice(command.as_bytes())?;
-    text.push(b'\'')?;
+    text.extend_from_slice(b"'")?;
     put_escaped(text, true, name.as_bytes())?;
     text.extend_from_slice(b"'\"")
 }
