@@ -8,7 +8,6 @@ use Rattle.clap.specs.Walk.{is_empty, is_free_arg}
 use Rattle.clap.specs.declared.builder.arg.ArgPredicate.{ArgPredicate}
 use Rattle.clap.specs.declared.builder.arg.Arg.{Arg}
 use Rattle.clap.specs.declared.builder.command.Command.{Command}
-use Rattle.clap.specs.declared.builder.command.Command.TheViews.{out-Command}
 use Rattle.og_words.specs.Made.{IsArg, IsCommand}
 
 pub with_arg : (old made : Command) (arg : Arg) (rule : Rule) (s : Shape) → IsCommand s old → IsArg rule arg → AddsArg old arg made

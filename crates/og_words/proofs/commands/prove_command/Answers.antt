@@ -4,10 +4,10 @@ use Rattle.og_words.proofs.commands.prove_command.Goals as goal
 
 pub returns : goal.returns
 returns c =
-    let one = c.with_arg.ensures _ line.source c.command.ensures c.source_arg.ensures in
-    let two = c.with_arg-2.ensures _ line.budget one c.condition_budget_arg.ensures in
-    let three = c.with_arg-3.ensures _ line.workers two c.workers_arg-workers.ensures in
-    let four = c.with_arg-4.ensures _ (line.flag (codes "json")) three c.json_arg.ensures in
-    let five = c.with_arg-5.ensures _ (line.flag (codes "runs")) four c.runs_arg.ensures in
-    let six = c.with_arg-6.ensures _ line.run_moments five c.run_moments_arg.ensures in
-    c.with_arg-7.ensures _ line.ranges six c.ranges_arg.ensures
+    let one = c.with_arg-prove.ensures _ line.source c.command.ensures c.source_arg.ensures in
+    let two = c.with_arg-prove-2.ensures _ line.budget one c.condition_budget_arg.ensures in
+    let three = c.with_arg-prove-3.ensures _ line.workers two c.workers_arg-workers.ensures in
+    let four = c.with_arg-prove-4.ensures _ (line.flag (codes "json")) three c.json_arg.ensures in
+    let five = c.with_arg-prove-5.ensures _ (line.flag (codes "runs")) four c.runs_arg.ensures in
+    let six = c.with_arg-prove-6.ensures _ line.run_moments five c.run_moments_arg.ensures in
+    c.with_arg.ensures _ line.ranges six c.ranges_arg.ensures

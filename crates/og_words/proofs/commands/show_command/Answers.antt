@@ -4,9 +4,9 @@ use Rattle.og_words.proofs.commands.show_command.Goals as goal
 
 pub returns : goal.returns
 returns c =
-    let one = c.with_arg.ensures _ line.source c.command.ensures c.source_arg.ensures in
-    let two = c.with_arg-2.ensures _ line.budget one c.condition_budget_arg.ensures in
-    let three = c.with_arg-3.ensures _ line.workers two c.workers_arg-workers.ensures in
-    let four = c.with_arg-4.ensures _ (line.flag (codes "runs")) three c.runs_arg.ensures in
-    let five = c.with_arg-5.ensures _ line.run_moments four c.run_moments_arg.ensures in
-    c.with_arg-6.ensures _ line.run_ranges five c.run_ranges_arg.ensures
+    let one = c.with_arg-show.ensures _ line.source c.command.ensures c.source_arg.ensures in
+    let two = c.with_arg-show-2.ensures _ line.budget one c.condition_budget_arg.ensures in
+    let three = c.with_arg-show-3.ensures _ line.workers two c.workers_arg-workers.ensures in
+    let four = c.with_arg-show-4.ensures _ (line.flag (codes "runs")) three c.runs_arg.ensures in
+    let five = c.with_arg-show-5.ensures _ line.run_moments four c.run_moments_arg.ensures in
+    c.with_arg.ensures _ line.run_ranges five c.run_ranges_arg.ensures
