@@ -74,12 +74,7 @@ fn put_first(text: &mut Vec<u8>, is_quoted: bool, byte: u8) -> Result<(), AllocE
 }
 
 // Adds a byte, by whether the one before is `LATIN`.
-fn put_byte(
-    text: &mut Vec<u8>,
-    is_quoted: bool,
-    is_half: bool,
-    byte: u8,
-) -> Result<(), AllocError>
+fn put_byte(text: &mut Vec<u8>, is_quoted: bool, is_half: bool, byte: u8) -> Result<(), AllocError>
     ensures { OnOk result (text.new.items ≡ text.old.items ++ shown_byte is_quoted is_half byte) }
 {
     if is_half {

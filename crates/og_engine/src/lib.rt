@@ -15,7 +15,9 @@ pub use commands::erased;
 pub use engines::{Options, engine, engine_joined};
 pub use fault::EngineFault;
 pub use inputs::{CERTS_LIMIT, read_certificates, read_joined, read_source};
-pub use making::{CertificateText, FindReply, FoundCertificates, LongText, Wanted, found, migrated};
+pub use making::{
+    CertificateText, FindReply, FoundCertificates, LongText, Wanted, found, migrated,
+};
 pub use og_report_text::Answer;
 pub use proving::{Search, Texts, proved, proved_outline, tell_all, told_by};
 pub use writing::write_answer;

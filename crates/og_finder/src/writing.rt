@@ -132,11 +132,7 @@ impl Writing<'_> {
     }
 
     // What is left of the room after the entries of all conditions.
-    fn left_after_entries(
-        &self,
-        alloc: Global,
-        room: usize,
-    ) -> Result<Option<usize>, AllocError>
+    fn left_after_entries(&self, alloc: Global, room: usize) -> Result<Option<usize>, AllocError>
         requires lines { AreLines self.now.findings.now.verdicts.items self.now.lines.now }
         requires few { vec_len self.now.findings.now.own ≤ 999999999 }
         ensures { IfOk result (Leaves room (length (lines_from self.now.findings.now 0 (vec_len self.now.findings.now.own)))) }

@@ -22,10 +22,10 @@ use std::alloc::{AllocError, Global};
 fn state_value(alloc: Global, names: &[Name], block: &Block) -> Result<Value, AllocError>
     ensures { IfOk result (λ v. view v ≡ state_data names.now block.now) }
 {
-    let values = &block.values;
+    let (values, details) = (&block.values, &block.details);
     let mut members = Map::new(alloc);
-    put_values(&mut members, alloc, names, true, values, &block.details.state)?;
-    put_values(&mut members, alloc, names, true, values, &block.details.besides)?;
+    put_values(&mut members, alloc, names, true, values, &details.state)?;
+    put_values(&mut members, alloc, names, true, values, &details.besides)?;
     Ok(Value::Object(members))
 }
 
@@ -33,9 +33,10 @@ fn state_value(alloc: Global, names: &[Name], block: &Block) -> Result<Value, Al
 fn after_value(alloc: Global, names: &[Name], block: &Block) -> Result<Value, AllocError>
     ensures { IfOk result (λ v. view v ≡ after_data names.now block.now) }
 {
-    let values = &block.details.explanation.after;
+    let details = &block.details;
+    let values = &details.explanation.after;
     let mut members = Map::new(alloc);
-    put_values(&mut members, alloc, names, false, values, &block.details.assigned)?;
+    put_values(&mut members, alloc, names, false, values, &details.assigned)?;
     Ok(Value::Object(members))
 }
 
@@ -121,7 +122,8 @@ pub(crate) fn after_member(
     let Told::False(block) = told else {
         return Ok(None);
     };
-    match (&block.details.explanation.fault, &block.details.explanation.action) {
+    let explanation = &block.details.explanation;
+    match (&explanation.fault, &explanation.action) {
         (Fault::False(..), Some(_)) => Ok(Some(after_value(alloc, names, block)?)),
         _ => Ok(None),
     }

@@ -185,7 +185,8 @@ fn run_ranges_arg<'a>(alloc: Global) -> Result<Arg<'a>, AllocError>
 fn prove_command<'a>(alloc: Global) -> Result<Command<'a>, AllocError>
     ensures { IfOk result (IsCommand line.prover) }
 {
-    let help = "A constant's value, where SOURCE is a template; with --runs a variable's value at the start, or its values";
+    let help =
+        "A constant's value, where SOURCE is a template; with --runs a variable's value at the start, or its values";
     let about = "Prove an outline, or say what is wrong with it";
     let workers = workers_arg(alloc, "How many threads work, 1 to 64");
     let prove = with_arg(Ok(command(alloc, "prove", about)), Ok(source_arg(alloc)));
@@ -243,7 +244,10 @@ fn conditions_command<'a>(alloc: Global) -> Result<Command<'a>, AllocError>
     let triples = "Print each as a triple, {P} S {Q}, in place of its facts";
     let only = "Print the conditions with these numbers alone, which count from 1";
     let about = "Print every condition with its facts";
-    let conditions = with_arg(Ok(command(alloc, "conditions", about)), Ok(source_arg(alloc)));
+    let conditions = with_arg(
+        Ok(command(alloc, "conditions", about)),
+        Ok(source_arg(alloc)),
+    );
     let conditions = with_arg(conditions, Ok(flag_arg(alloc, "triples", triples)));
     let conditions = with_arg(conditions, smt2_arg(alloc));
     with_arg(conditions, Ok(option_arg(alloc, "only", "N,M..", only)))
