@@ -1,5 +1,5 @@
 -- How messages show the names of files, and words.
-use Rattle.std.specs.Prelude.{ℕ, ◌+◌, ◌/◌, ◌%◌, nat_le, nat_lt, Bool, ◌&&◌, ◌||◌, ◌==◌, false, List, [], ◌∷◌, ◌++◌, if◌then◌else◌, codes}
+use Rattle.std.specs.Prelude.{ℕ, ◌+◌, ◌/◌, ◌%◌, nat_le, nat_lt, Bool, ◌&&◌, ◌||◌, ◌==◌, true, false, List, [], ◌∷◌, ◌++◌, if◌then◌else◌, codes}
 use Rattle.std.specs.List.{list_all}
 use Rattle.og_report_text.specs.Places.{◌&◌}
 
@@ -47,8 +47,12 @@ abbrev pub is_plain_byte : ℕ → Bool
 is_plain_byte b =
     (nat_le 97 b && nat_le b 122) || (nat_le 65 b && nat_le b 90) || (nat_le 43 b && nat_le b 58) || b == 61 || b == 64 || b == 95 || b == 37
 
+abbrev pub plain_command : List ℕ → List ℕ → List ℕ
+plain_command command name = codes "'" & command & name & codes "'"
+
+abbrev pub quoted_command : List ℕ → List ℕ → List ℕ
+quoted_command command name = codes "\"" & command & codes "'" & shown_from true false name & codes "'\""
+
 -- in quotes, as a shell takes the name
 abbrev pub command_text : List ℕ → List ℕ → List ℕ
-command_text command name =
-    if list_all is_plain_byte name then codes "'" & command & name & codes "'"
-    else codes "\"" & command & codes "'" & shown_from true false name & codes "'\""
+command_text command name = if list_all is_plain_byte name then plain_command command name else quoted_command command name

@@ -2,7 +2,7 @@
 
 ghost use Rattle.std.specs.Prelude.{◌≡◌, ◌<◌, ◌++◌, false, OnOk};
 ghost use Rattle.std.specs.List.{list_all};
-ghost use Rattle.og_advice.specs.Names.{is_control, hex_digit, hex_text, escape_text, shown_second, shown_first, shown_byte, shown_from, shown_name, is_plain_byte, command_text};
+ghost use Rattle.og_advice.specs.Names.{is_control, hex_digit, hex_text, escape_text, shown_second, shown_first, shown_byte, shown_from, shown_name, is_plain_byte, plain_command, quoted_command, command_text};
 
 use std::alloc::AllocError;
 
@@ -127,6 +127,27 @@ fn is_plain_name(name: &[u8]) -> bool
     name.iter().all(|byte| is_plain(*byte))
 }
 
+// Adds a command in quotes, with a name as it is.
+fn put_plain(text: &mut Vec<u8>, command: &str, name: &str) -> Result<(), AllocError>
+    ensures { OnOk result (text.new.items ≡ text.old.items ++ plain_command command.now name.now) }
+{
+    text.extend_from_slice(b"'")?;
+    text.extend_from_slice(command.as_bytes())?;
+    text.extend_from_slice(name.as_bytes())?;
+    text.extend_from_slice(b"'")
+}
+
+// Adds a command in quotes, with a name in quotes of its own.
+fn put_quoted(text: &mut Vec<u8>, command: &str, name: &str) -> Result<(), AllocError>
+    ensures { OnOk result (text.new.items ≡ text.old.items ++ quoted_command command.now name.now) }
+{
+    text.extend_from_slice(b"\"")?;
+    text.extend_from_slice(command.as_bytes())?;
+    text.extend_from_slice(b"'")?;
+    put_escaped(text, true, name.as_bytes())?;
+    text.extend_from_slice(b"'\"")
+}
+
 /// Adds a command in quotes to the text; `command` is what stands before the name of a file, with a
 /// space. A name that means something else to a shell stands in quotes of its own, with its control
 /// characters escaped.
@@ -138,14 +159,8 @@ pub fn put_command(text: &mut Vec<u8>, command: &str, name: &str) -> Result<(), 
     ensures { OnOk result (text.new.items ≡ text.old.items ++ command_text command.now name.now) }
 {
     if is_plain_name(name.as_bytes()) {
-        text.extend_from_slice(b"'")?;
-        text.extend_from_slice(command.as_bytes())?;
-        text.extend_from_slice(name.as_bytes())?;
-        return text.extend_from_slice(b"'");
+        put_plain(text, command, name)
+    } else {
+        put_quoted(text, command, name)
     }
-    text.extend_from_slice(b"\"")?;
-    text.extend_from_slice(command.as_bytes())?;
-    text.extend_from_slice(b"'")?;
-    put_escaped(text, true, name.as_bytes())?;
-    text.extend_from_slice(b"'\"")
 }

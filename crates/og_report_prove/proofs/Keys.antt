@@ -1,6 +1,6 @@
 -- Keys, counted and taken out one after another.
 use Rattle.std.proofs.Common.{◌≡◌, ℕ, zero, suc, ◌+◌, ◌-◌, ◌<◌, List, [], ◌∷◌, ◌++◌, length, take, drop, Bool, true, false, true≢false, ◌||◌, cond, Option, Some, None, Vec, refl, sym, ap, ap₂, ◌∙◌, append_assoc, add-one, arith}
-use Rattle.std.specs.Prelude.{slice_get, count_by, option_map, replicate, unwrap_or}
+use Rattle.std.specs.Prelude.{slice_get, count_by, option_map, replicate, unwrap_or, is_none, Result, Ok, Err, IfOk}
 use Rattle.std.specs.Global.{Global}
 use Rattle.std.specs.List.{list_any, sum_by}
 use Rattle.std.specs.Str.{bytes_eq}
@@ -184,3 +184,13 @@ none_more_from all before (c ∷ cs) (t ∷ ts) h = ap (λ ms. Some 0 ∷ ms) (n
 
 pub none_told_together : (cs : List Condition) (ts : List Told) → length ts ≡ length cs → mores (keys_of None cs ts) ≡ replicate (length cs) (Some 0)
 none_told_together cs ts h = none_more_from (keys_of None cs ts) [] cs ts h
+
+no_rows : (rows : Rows) → is_none rows ≡ true → rows ≡ None
+no_rows None e = refl
+no_rows (Some r) e = absurd (true≢false (sym e))
+
+pub none_together : {E : Type 0} (rows : Rows) (cs : List Condition) (ts : List Told) (r : Result (Vec (Option ℕ) Global) E) (count : ℕ) → length ts ≡ length cs → is_none rows ≡ true → count ≡ length cs
+    → IfOk r (λ v. v.items ≡ replicate count (Some 0)) → IfOk r (λ v. v.items ≡ mores (keys_of rows cs ts))
+none_together rows cs ts (Err e) count each none same h = tt
+none_together rows cs ts (Ok v) count each none same h =
+    h ∙ ap (λ n. replicate n (Some 0)) same ∙ sym (none_told_together cs ts each) ∙ ap (λ (r : Rows). mores (keys_of r cs ts)) (sym (no_rows rows none))

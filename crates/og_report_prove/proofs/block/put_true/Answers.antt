@@ -1,6 +1,7 @@
 use Rattle.std.proofs.Common.{◌≡◌, ◌++◌, codes, rules, ap, ◌∙◌}
 use Rattle.std.specs.Prelude.{OnOk}
 use Rattle.og_report_prove.specs.Blocks.{known_lines, more_line, test_line}
+use Rattle.og_report_prove.specs.declared.block.Details.{Details}
 use Rattle.og_report_prove.proofs.Joins.{joined}
 use Rattle.og_report_prove.proofs.block.put_true.Goals as goal
 
@@ -18,6 +19,6 @@ returns c =
     let test = test_line source rows block.details.value.explanation.test in
     let one : first ≡ old ++ known = search rules in
     let two : second ≡ first ++ initial =
-    c.in_ok-put_more_line.ensures ∙ ap (λ vars. first ++ more_line names (codes "initially") block.values vars) c.deref-3.ensures.value in
+    c.in_ok-put_more_line.ensures ∙ ap (λ vars. first ++ more_line names (codes "initially") block.values vars) (c.deref-6.ensures.value ∙ ap (λ (d : Details). d.initial.items) c.deref-5.ensures) in
     let last : OnOk c.put_test.result (c.put_test.new.text.items ≡ second ++ test) = search rules in
     joined c.put_test.result old first _ known _ one (joined c.put_test.result first second _ initial test two last)

@@ -1,8 +1,9 @@
-use Rattle.std.proofs.Common.{◌≡◌, length, map, ap, sym, ◌∙◌, arith}
+use Rattle.std.proofs.Common.{◌≡◌, length, map, ap, sym, ◌∙◌, arith, rules, true}
+use Rattle.std.specs.Prelude.{is_none}
 use Rattle.std.proofs.lemmas.List.{length-map}
 use Rattle.og_cond.specs.Seen.{seen}
 use Rattle.og_report_prove.specs.Together.{key_seen}
-use Rattle.og_report_prove.proofs.Keys.{keys_length}
+use Rattle.og_report_prove.proofs.Keys.{keys_length, none_together}
 use Rattle.og_report_prove.proofs.together.mores.Goals as goal
 
 pub mores_of-requires : goal.mores_of-requires
@@ -16,3 +17,12 @@ mores_of-requires c =
     let all = keys_length c.args.rows cs told each in
     let few = c.requires.few in
     omega (arith, items, mapped, same, all, few)
+
+pub returns-then-is_none : goal.returns-then-is_none
+returns-then-is_none c =
+    let cs = map seen c.args.conditions.now in
+    let told = c.args.told.now in
+    let count = length-map c.args.conditions.now seen in
+    let each : length told ≡ length cs = c.requires.each ∙ sym count in
+    let none : is_none c.args.rows ≡ true = search rules in
+    none_together c.args.rows cs told c.none_more.result (length c.args.conditions.now) each none (sym count) c.none_more.ensures
