@@ -1,6 +1,6 @@
 -- The text of the certificates that are found.
-use Rattle.std.proofs.Common.{◌≡◌, ⊎_elim, ◌≤◌, ◌<◌, ℕ, ◌+◌, ◌-◌, zero, suc, List, [], ◌∷◌, ◌++◌, length, length-append, true, false, Option, Some, None, refl, sym, ap, ◌∙◌, subst, arith}
-use Rattle.std.specs.Prelude.{◌==◌, ◌&&◌, slice_get, is_none, codes, vec_len, IsSomeAnd}
+use Rattle.std.proofs.Common.{◌≡◌, ◌⊎◌, inl, inr, ⊎_elim, ◌≤◌, ◌<◌, ℕ, ◌+◌, ◌-◌, zero, suc, List, [], ◌∷◌, ◌++◌, length, length-append, true, false, true≢false, Option, Some, None, refl, sym, ap, ◌∙◌, subst, arith}
+use Rattle.std.specs.Prelude.{◌==◌, ◌&&◌, ◌↔◌, Bool, IsTrue, slice_get, is_none, is_some, codes, vec_len, IsSomeAnd}
 use Rattle.std.specs.Global.{Vec}
 use Rattle.std.specs.List.{list_all}
 use Rattle.std.proofs.Math.Nat.{eq-or-lt_of_le}
@@ -17,6 +17,7 @@ use Rattle.og_cert_text.specs.declared.file.CertFile.{CertFile}
 use Rattle.og_cert_text.proofs.Forms.{both_true, le_true}
 use Rattle.og_cert_text.proofs.Writing.{entries_text, entry_text}
 use Rattle.og_cond.specs.Condition.{Condition}
+use Rattle.og_cond.specs.Counting.{Leaves}
 use Rattle.og_draws.specs.Answers.{AreAnswers}
 use Rattle.og_find.specs.Found.{AreOf, Certifies}
 use Rattle.og_find.specs.Missing.{lacks, missing_up_to}
@@ -184,3 +185,23 @@ next_length f i n lt =
 
 pub no_more_length : (f : Findings) (i n : ℕ) → n ≤ i → length (lines_from f i (n - i)) ≡ 0
 no_more_length f i n none = ap length (no_more_lines f i n none)
+
+-- a text is within the limit exactly where the room behind its first line takes the lines of all entries
+pub fits : (f : Findings) (limit room : ℕ) (left : Option ℕ) (yes : Bool) → limit ≡ 10 + room → Leaves room (length (lines_from f 0 (vec_len f.own))) left → yes ≡ is_some left
+    → IsTrue yes ↔ (length (file_text (entries_of f)) ≤ limit)
+fits f limit room None b all longer is =
+    let whole = whole_length f in (λ e. absurd (true≢false (sym e ∙ is)), λ few. absurd (omega (arith, all, longer, whole, few)))
+fits f limit room (Some n) b all left is =
+    let whole = whole_length f in (λ e. omega (arith, all, left, whole), λ few. is)
+
+at_most_or_more : (n m : ℕ) → (n ≤ m) ⊎ (m < n)
+at_most_or_more zero m = inl (omega arith)
+at_most_or_more (suc n) zero = inr (omega arith)
+at_most_or_more (suc n) (suc m) = ⊎_elim (λ few. inl (omega (arith, few))) (λ more. inr (omega (arith, more))) (at_most_or_more n m)
+
+pub longer_of : (f : Findings) (limit : ℕ) (yes : Bool) → IsTrue yes ↔ (length (file_text (entries_of f)) ≤ limit) → yes ≡ false → limit < length (file_text (entries_of f))
+longer_of f limit b both e =
+    ⊎_elim (λ few. absurd (true≢false (sym (both.1 few) ∙ e))) (λ longer. longer) (at_most_or_more (length (file_text (entries_of f))) limit)
+
+pub within_of : (f : Findings) (limit : ℕ) (yes : Bool) → IsTrue yes ↔ (length (file_text (entries_of f)) ≤ limit) → yes ≡ true → length (file_text (entries_of f)) ≤ limit
+within_of f limit b both is = both.0 is
