@@ -1,5 +1,5 @@
 -- From the parts of an answer to the whole.
-use Rattle.std.proofs.Common.{◌≡◌, ◌⊎◌, inl, inr, sym, subst, ◌∙◌, ℕ, ◌<◌, ◌≤◌, Bool, List, length, Result, Ok, Err, Option, IfOk, arith}
+use Rattle.std.proofs.Common.{◌≡◌, ◌⊎◌, inl, inr, sym, subst, ◌∙◌, ℕ, ◌<◌, ◌≤◌, Bool, List, length, Result, Ok, Err, Option, IfOk, arith, ap}
 use Rattle.std.specs.Io.KnownBytes.{Appends}
 use Rattle.og_typed.specs.Syntax.{Program}
 use Rattle.og_cond.specs.Condition.{Condition}
@@ -93,13 +93,12 @@ found_of_source version limit source o (Ok a) s h = inr (o, s, h)
 -- ---- texts of certificates
 
 -- what is found of all conditions, by what is found of a file of their certificates
-pub second_searched : {E : Type 0} (limit : ℕ) (cs : List Condition) (es : Entries) (count : ℕ) (r : Result FindReply E) → AreOf cs es → count ≡ length cs → IfOk r (IsSecond limit count es) → IfOk r (IsSearched 2 limit cs)
-second_searched limit cs es count (Err e) of same h = tt
-second_searched limit cs es count (Ok (replies.Found found)) of same h =
+pub second_searched : (limit : ℕ) (cs : List Condition) (es : Entries) (count : ℕ) (reply : FindReply) → AreOf cs es → count ≡ length cs → IsSecond limit count es reply → IsSearched 2 limit cs reply
+second_searched limit cs es count (replies.Found found) of same h =
     ((es, of, h.0, h.2 ∙ ap (missing_up_to es) same, h.3 ∙ same), subst (λ (t : List ℕ). length t ≤ limit) (sym h.0) h.1)
-second_searched limit cs es count (Ok (replies.TooLong long)) of same h =
+second_searched limit cs es count (replies.TooLong long) of same h =
     (h.0, (es, of, h.1), (es, of, subst (IsLength limit (length (shared_text es))) (sym h.2) h.1))
-second_searched limit cs es count (Ok (replies.Refused answer)) of same h = absurd h
+second_searched limit cs es count (replies.Refused answer) of same h = absurd h
 
 -- a text in version 1, or certificates for which it is too long
 pub first_searched : (limit : ℕ) (cs : List Condition) (w : Written) (found : FoundCertificates) → IsText limit cs (texts.Within w) → text_of found.text ≡ w.certificates → found.missing ≡ w.missing → IsSearched 1 limit cs (replies.Found found)

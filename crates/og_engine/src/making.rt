@@ -4,7 +4,7 @@ ghost use Rattle.std.specs.Prelude.{◌≡◌, ◌<◌, ◌≤◌, List, length,
 ghost use Rattle.std.specs.Io.KnownBytes.{Appends};
 ghost use Rattle.og_cert_text.specs.Shown.{shown};
 ghost use Rattle.og_cert_read.specs.Shared.{shared_text};
-ghost use Rattle.og_cond.specs.Condition.{Condition};
+ghost use Rattle.og_cond.specs.Condition as condition;
 ghost use Rattle.og_cond.specs.Limits.{condition_limit};
 ghost use Rattle.og_cond.specs.Seen.{seen};
 ghost use Rattle.og_finder.specs.Written.{IsText};
@@ -174,7 +174,7 @@ fn in_second<G: Gate, H: Threads + Wait + Sync>(
 
 // A text in version 1, or what is told of certificates for which it is too long.
 fn of_text(alloc: Global, text: FoundText, limit: usize) -> Result<FindReply, AllocError>
-    ensures { IfOk result (λ found. (cs : List Condition) → IsText limit cs text → IsSearched 1 limit cs found) }
+    ensures { IfOk result (λ found. (cs : List condition.Condition) → IsText limit cs text → IsSearched 1 limit cs found) }
 {
     match text {
         FoundText::Within(written) => {

@@ -1,6 +1,7 @@
 //! How many conditions have no certificate.
 
-ghost use Rattle.std.specs.Prelude.{◌≡◌, ◌++◌, OnOk, IfOk, option_map};
+ghost use Rattle.std.specs.Prelude.{◌≡◌, ◌++◌, OnOk, IfOk, option_map, codes};
+ghost use Rattle.og_advice.specs.Names.{command_text};
 ghost use Rattle.og_remark.specs.Missing.{counts_text, missing_text, length_text, long_text, IsCount, IsCountOf, IsMissingOf, IsMissingRemark};
 
 use og_advice::put_command;
@@ -12,6 +13,8 @@ use og_report_text::put_number;
 use og_source::{Source, SourceError};
 use og_typed::Outline;
 use std::alloc::{AllocError, Global};
+
+const LACKING: &str = " conditions have no certificate; ";
 
 // How many conditions an outline has; none where they are too many.
 fn counted(alloc: Global, outline: &Outline) -> Result<Option<u32>, AllocError>
@@ -65,6 +68,15 @@ fn put_counts(text: &mut Vec<u8>, missing: Missing) -> Result<(), AllocError>
     put_number(text, missing.conditions as u128)
 }
 
+// Adds the command that proves a source of this name, between two texts.
+fn put_prove(text: &mut Vec<u8>, before: &str, name: &str, after: &str) -> Result<(), AllocError>
+    ensures { OnOk result (text.new.items ≡ text.old.items ++ (before.now ++ (command_text (codes "og prove ") name.now ++ after.now))) }
+{
+    text.extend_from_slice(before.as_bytes())?;
+    put_command(text, "og prove ", name)?;
+    text.extend_from_slice(after.as_bytes())
+}
+
 /// The line that so many conditions of a source of this name have no certificate, and what says why.
 ///
 /// # Errors
@@ -75,9 +87,7 @@ pub fn missing_line(alloc: Global, name: &str, missing: Missing) -> Result<Vec<u
 {
     let mut text = Vec::from_slice(alloc, b"og: ")?;
     put_counts(&mut text, missing)?;
-    text.extend_from_slice(b" conditions have no certificate; ")?;
-    put_command(&mut text, "og prove ", name)?;
-    text.extend_from_slice(b" says why\n")?;
+    put_prove(&mut text, LACKING, name, " says why\n")?;
     Ok(text)
 }
 
@@ -86,9 +96,7 @@ fn put_length(text: &mut Vec<u8>, name: &str, second: Option<usize>) -> Result<(
     ensures { OnOk result (text.new.items ≡ text.old.items ++ length_text name.now second) }
 {
     let Some(bytes) = second else {
-        text.extend_from_slice(b": ")?;
-        put_command(text, "og prove ", name)?;
-        return text.extend_from_slice(b" judges without them\n");
+        return put_prove(text, ": ", name, " judges without them\n");
     };
     text.extend_from_slice(b": --version 2 takes ")?;
     put_number(text, bytes as u128)?;
