@@ -1,6 +1,7 @@
 //! How many conditions have no certificate.
 
 ghost use Rattle.std.specs.Prelude.{◌≡◌, ◌++◌, OnOk, IfOk, option_map, codes};
+ghost use Rattle.std.specs.Fmt.{decimal};
 ghost use Rattle.og_advice.specs.Names.{command_text};
 ghost use Rattle.og_remark.specs.Missing.{counts_text, missing_text, length_text, long_text, IsCount, IsCountOf, IsMissingOf, IsMissingRemark};
 
@@ -91,16 +92,23 @@ pub fn missing_line(alloc: Global, name: &str, missing: Missing) -> Result<Vec<u
     Ok(text)
 }
 
+// Adds a number between two texts.
+fn put_count(text: &mut Vec<u8>, before: &str, count: u128, after: &str) -> Result<(), AllocError>
+    ensures { OnOk result (text.new.items ≡ text.old.items ++ (before.now ++ (decimal count ++ after.now))) }
+{
+    text.extend_from_slice(before.as_bytes())?;
+    put_number(text, count)?;
+    text.extend_from_slice(after.as_bytes())
+}
+
 // Adds in which version the text may be written, where there is one, or else what does without.
 fn put_length(text: &mut Vec<u8>, name: &str, second: Option<usize>) -> Result<(), AllocError>
     ensures { OnOk result (text.new.items ≡ text.old.items ++ length_text name.now second) }
 {
-    let Some(bytes) = second else {
-        return put_prove(text, ": ", name, " judges without them\n");
-    };
-    text.extend_from_slice(b": --version 2 takes ")?;
-    put_number(text, bytes as u128)?;
-    text.extend_from_slice(b"\n")
+    match second {
+        Some(bytes) => put_count(text, ": --version 2 takes ", bytes as u128, "\n"),
+        None => put_prove(text, ": ", name, " judges without them\n"),
+    }
 }
 
 /// The line that the certificates of a source of this name take more bytes than the limit, and how many

@@ -1,4 +1,4 @@
-use Rattle.std.proofs.Common.{true, ap, ◌∙◌}
+use Rattle.std.proofs.Common.{true, ap, ◌∙◌, arith}
 use Rattle.std.proofs.lemmas.Bool.{both_ways}
 use Rattle.og_report_explore.specs.declared.totals.Totals.{Totals}
 use Rattle.og_explorer.specs.Explored.{printed, status_of}
@@ -17,7 +17,7 @@ returns-clause-explored c =
       totals = totals;
       findings = told.findings.items;
       given = c.in_ok-ends.ensures;
-      begins = λ complete zero. both_ways c.has_no_start.result c.if-has_no_start.false (c.has_no_start.ensures.1 (zero, c.in_ok-told.ensures.complete complete));
+      begins = λ complete zero. both_ways c.has_no_start.result c.if-has_no_start.false (c.has_no_start.ensures.1 ((let from = c.from.ensures in omega (arith, from, zero)), c.in_ok-told.ensures.complete complete));
       each = c.in_ok-told.ensures.each;
       safe = λ said. (let parts = c.in_ok-told.ensures.safe said in c.in_ok-found.ensures.sound parts.0 parts.1 parts.2 parts.3);
       unblocked = λ said. (let parts = c.in_ok-told.ensures.unblocked said in c.in_ok-found.ensures.never_stuck parts.0 parts.1);

@@ -1,5 +1,6 @@
 use Rattle.std.proofs.Common.{◌≡◌, ◌++◌, codes, Some, rules}
 use Rattle.og_advice.specs.Advice.{place_text, refusal_text}
+use Rattle.og_advice.specs.Names.{shown_name}
 use Rattle.og_advice.specs.Quotes.{quote_text}
 use Rattle.og_expander.specs.Faults.{number_of_fault, name_of_fault}
 use Rattle.og_remark.proofs.Joins.{four}
@@ -14,6 +15,6 @@ returns c =
       reason = c.reason.result.now;
       one_line = c.reason.ensures;
       told =
-          four all c.in_ok-text.text.items c.put_quote.new.text.items c.args.name.now (place_text c.args.source.now (Some c.args.at)) (refusal_text (number_of_fault fault) (name_of_fault fault)) (quote_text c.args.source.now c.args.at)
+          four all c.in_ok-text.text.items c.put_quote.new.text.items (shown_name c.args.name.now) (place_text c.args.source.now (Some c.args.at)) (refusal_text (number_of_fault fault) (name_of_fault fault)) (quote_text c.args.source.now c.args.at)
           c.in_ok-text.ensures c.in_ok-put_quote.ensures rest c.in_ok-put_reason.ensures;
     }
