@@ -1,4 +1,4 @@
-use Rattle.std.proofs.Common.{true, ap, ◌∙◌, arith}
+use Rattle.std.proofs.Common.{ap, ◌∙◌, arith}
 use Rattle.std.proofs.lemmas.Bool.{both_ways}
 use Rattle.og_report_explore.specs.declared.totals.Totals.{Totals}
 use Rattle.og_explorer.specs.Explored.{printed, status_of}
