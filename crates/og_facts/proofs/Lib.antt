@@ -4,6 +4,7 @@ pub mod Refuted
 pub mod Walked
 pub mod Adding
 pub mod Trees
+pub mod Same
 pub mod Counted
 pub mod Multiples
 pub mod Items

@@ -7,6 +7,7 @@
 
 mod atom;
 mod counting;
+mod equality;
 mod fact;
 mod fault;
 mod goals;

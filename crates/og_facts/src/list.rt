@@ -1,9 +1,10 @@
 //! The facts of a condition, by number.
 
-ghost use Rattle.std.specs.Prelude.{◌≡◌, map, option_map};
+ghost use Rattle.std.specs.Prelude.{◌≡◌, ◌↔◌, map, option_map, IsTrue};
 ghost use Rattle.og_facts.specs.Plain.{plain_fact};
 ghost use Rattle.og_facts.specs.Listed.{numbered};
 
+use crate::equality::same_facts;
 use crate::fact::Fact;
 use std::marker::Model;
 
@@ -61,5 +62,12 @@ impl<'a> FactList<'a> {
         ensures { result ≡ self.now.variables }
     {
         self.variables
+    }
+
+    /// Whether the other list has equal facts in the same order, over as many variables.
+    pub fn equals(&self, other: &FactList) -> bool
+        ensures { IsTrue result ↔ (self.now ≡ other.now) }
+    {
+        other.variables == self.variables && same_facts(self.as_slice(), other.as_slice())
     }
 }
