@@ -9,3 +9,4 @@ pub mod Shown
 pub mod Text
 pub mod Listing
 pub mod Tree
+pub mod Kept

@@ -23,16 +23,15 @@ pub struct CertFile {
 }
 
 impl CertFile {
-    ghost use Rattle.std.specs.Prelude.{[], ◌∷◌, ◌<◌, Some, None, OnOk, OnErr, IfSome, is_some, length, option_map, ◌++◌};
-    ghost use Rattle.std.specs.BTreeMap.{is_at};
-    ghost use Rattle.std.specs.Map.{lookup};
-    ghost use Rattle.std.specs.Ordering.{nat_cmp};
+    ghost use Rattle.std.specs.Prelude.{[], ◌∷◌, ◌<◌, ◌↔◌, Some, None, OnOk, OnErr, IfSome, IsTrue, is_some, length, option_map, vec_len, ◌++◌};
+    ghost use Rattle.std.specs.BTreeMap.{btree_map_len};
     ghost use Rattle.og_cert_text.specs.Plain.{plain_cert};
     ghost use Rattle.og_cert_text.specs.Shallow.{is_well_formed};
     ghost use Rattle.og_cert_text.specs.Lines as lines;
     ghost use Rattle.og_cert_text.specs.Files.{certificate_of, with_entry};
     ghost use Rattle.og_cert_text.specs.Rising.{is_file, IsLeastAbove, IsNextEntry};
     ghost use Rattle.og_cert_text.specs.Stored.{stored, placed};
+    ghost use Rattle.og_cert_text.specs.Kept.{kept_at};
     ghost use Rattle.og_cert_text.specs.Shown.{shown, fault_of_entry, fault_of_same, IsAdded};
 
     /// The file without certificates. Takes no memory.
@@ -52,9 +51,11 @@ impl CertFile {
         let _ = self.numbers.len();
     }
 
-    // The place of the condition's certificate.
-    fn place(&self, n: u32) -> Option<usize>
-        ensures { result ≡ lookup (is_at (nat_cmp n)) self.now.numbers.entries }
+    /// The place at which the certificate of the condition is kept, if it has one. Conditions with one
+    /// place have one certificate. Takes no memory.
+    pub fn kept_at(&self, n: u32) -> Option<usize>
+        ensures place { result ≡ kept_at n self.now }
+        ensures certificate { certificate_of n (shown self.now) ≡ option_map (placed self.now.certs.items) result }
     {
         self.numbers.get(&n).copied()
     }
@@ -63,7 +64,7 @@ impl CertFile {
     fn has(&self, n: u32) -> bool
         ensures { result ≡ is_some (certificate_of n (shown self.now)) }
     {
-        self.place(n).is_some()
+        self.kept_at(n).is_some()
     }
 
     /// The certificate of the condition. Takes no memory.
@@ -71,8 +72,15 @@ impl CertFile {
         ensures found { option_map (λ c. plain_cert c.now) result ≡ certificate_of n (shown self.now) }
         ensures good { IfSome result (λ c. is_well_formed (plain_cert c.now) ≡ true) }
     {
-        let place = self.place(n)?;
+        let place = self.kept_at(n)?;
         self.certs.get(place)
+    }
+
+    /// Whether there are fewer certificates than conditions that have one. Takes no memory.
+    pub fn has_shared(&self) -> bool
+        ensures { IsTrue result ↔ (vec_len self.now.certs < btree_map_len self.now.numbers) }
+    {
+        self.certs.len() < self.numbers.len()
     }
 
     /// The least number above n that has a certificate. Takes no memory.
@@ -115,6 +123,7 @@ impl CertFile {
         requires number { lines.is_number n ≡ true }
         requires within { place < length self.old.certs.items }
         ensures ok { OnOk result (shown self.new ≡ with_entry n (placed self.old.certs.items place) (shown self.old)) }
+        ensures kept { OnOk result (kept_at n self.new ≡ Some place) }
         ensures err { OnErr result (self.new.numbers.entries ≡ self.old.numbers.entries) }
         ensures certs { self.new.certs ≡ self.old.certs }
     {
@@ -173,18 +182,19 @@ impl CertFile {
         Ok(())
     }
 
-    /// Adds the certificate of condition k as that of condition n too. It is not copied.
+    /// Adds the certificate of condition k as that of condition n too, at its place: it is not copied.
     ///
     /// The first that applies: `Twice` where condition n has a certificate; `NoSuchCertificate`
     /// where condition k has none; `BadNumber` where n is not from 1 to 999999999. An error leaves
     /// the file as it was.
     pub fn add_same(&mut self, n: u32, k: u32) -> Result<(), CertFileError>
-        ensures { IsAdded result (fault_of_same n k (shown self.old)) (certificate_of k (shown self.old)) n (shown self.old) (shown self.new) }
+        ensures added { IsAdded result (fault_of_same n k (shown self.old)) (certificate_of k (shown self.old)) n (shown self.old) (shown self.new) }
+        ensures kept { OnOk result (kept_at n self.new ≡ kept_at k self.old) }
     {
         if self.has(n) {
             return Err(CertFileError::Fault(CertFileFault::Twice));
         }
-        let Some(place) = self.place(k) else {
+        let Some(place) = self.kept_at(k) else {
             return Err(CertFileError::Fault(CertFileFault::NoSuchCertificate));
         };
         if !is_number(n) {

@@ -11,3 +11,6 @@ pub returns-clause-ok : goal.returns-clause-ok
 returns-clause-ok c =
     ap (λ es. stored es c.args.self.now.certs.items) c.in_ok-insert.ensures.entries
     ∙ shown_inserted c.args.self.now.numbers.entries c.args.self.now.certs.items c.args.n c.args.place c.requires.fresh
+
+pub returns-clause-kept : goal.returns-clause-kept
+returns-clause-kept c = c.in_ok-insert.ensures.updates.1
