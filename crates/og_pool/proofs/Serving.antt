@@ -7,7 +7,7 @@ use Rattle.og_subst.specs.Prepared.{Prepared}
 use Rattle.og_subst.specs.declared.action.Action.{Action}
 use Rattle.og_cond.specs.declared.condition.Condition.{Condition}
 use Rattle.og_facts.specs.Answer.{IsPrepared}
-use Rattle.og_pool.specs.Last.{IsOfEqual}
+use Rattle.og_pool.specs.Kept.{IsOfEqual}
 
 abbrev action_of : Option Condition → Option Action
 action_of None = None

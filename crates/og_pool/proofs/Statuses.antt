@@ -1,6 +1,8 @@
 -- The status of a condition, by what is found of it.
 use Rattle.std.proofs.lemmas.Option.{slice_get_cases}
 use Rattle.std.proofs.Common.{◌≡◌, ℕ, zero, suc, ◌+◌, ◌-◌, ◌<◌, ◌≤◌, ⊎_elim, arith, length, get_or, List, [], ◌∷◌, map, slice_get, Option, Some, None, Ok, Err, refl, sym, ap, ◌∙◌}
+use Rattle.og_facts.specs.Answer.{IsFacts}
+use Rattle.og_facts.specs.Listed.{Listed}
 use Rattle.og_cond.specs.Condition as plain
 use Rattle.og_cond.specs.declared.condition.Condition.{Condition}
 use Rattle.og_cond.specs.Seen.{seen}
@@ -50,6 +52,25 @@ pub is_replayed : (cs : List Condition) (file : CertFile) (n : ℕ) (c : Conditi
     → by_fault (first_fault (seen c).variables fs proof) ≡ status_of cs file n
 is_replayed cs file n c proof fs at there made =
     sym (by_these cs file n c proof at there ∙ ap (λ r. by_facts (seen c).variables r proof) made)
+
+-- conditions that have one certificate and equal facts have one status
+pub is_like : (cs : List Condition) (file : CertFile) (n m : ℕ) (c d : Condition) (list others : Listed) → slice_get cs (n - 1) ≡ Some c → slice_get cs (m - 1) ≡ Some d
+    → certificate_of n (shown file) ≡ certificate_of m (shown file) → IsFacts (seen c) (Ok list) → IsFacts (seen d) (Ok others) → list ≡ others → status_of cs file m ≡ status_of cs file n
+unfolding status_of
+is_like cs file n m c d list others at there one made found same =
+    ap (λ o. by_condition o (certificate_of m (shown file))) (seen_at cs (m - 1) d there)
+    ∙ by_one (certificate_of m (shown file))
+    ∙ ap (by_condition (Some (seen c))) (sym one)
+    ∙ sym (ap (λ o. by_condition o (certificate_of n (shown file))) (seen_at cs (n - 1) c at))
+  where
+    by_one : (proof : Option Cert) → by_condition (Some (seen d)) proof ≡ by_condition (Some (seen c)) proof
+    by_one None = refl
+    by_one (Some proof) =
+        ap (λ v. by_facts v (facts_of (seen d)) proof) (sym found.1)
+        ∙ ap (λ r. by_facts others.variables r proof) found.0
+        ∙ ap (λ (l : Listed). by_facts l.variables (Ok l.facts) proof) (sym same)
+        ∙ ap (λ r. by_facts list.variables r proof) (sym made.0)
+        ∙ ap (λ v. by_facts v (facts_of (seen c)) proof) made.1
 
 pub some_condition : (cs : List Condition) (n : ℕ) → 0 < n → n ≤ length cs → (c : Condition) × (slice_get cs (n - 1) ≡ Some c)
 some_condition cs n some few = ⊎_elim

@@ -1,4 +1,4 @@
-pub mod Last
+pub mod Kept
 pub mod Names
 pub mod Status
 pub mod Numbered

@@ -4,6 +4,8 @@
 mod checks;
 mod fault;
 mod gate;
+mod marks;
+mod replays;
 mod status;
 
 pub use checks::check_all;

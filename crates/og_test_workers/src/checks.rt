@@ -9,8 +9,8 @@ use og_cond::Condition;
 use og_draws::Draws;
 use og_engine::{Options, checked};
 use og_io::Workers;
-use og_pool::check_all;
-use og_samples::{TWO_ADD, TWO_ADD_CERTS, alike};
+use og_pool::{OpenGate, check_all};
+use og_samples::{TWO_ADD, TWO_ADD_CERTS, alike, equal_processes};
 use std::alloc::Global;
 use std::process::Abort;
 use std::sync::Wait;
@@ -131,6 +131,41 @@ fn each_condition_is_held(rt: HostRuntime) -> Result<(), Fail> {
         expect_report(&rt, rt.alloc(), 2, held)?;
         expect_report(&rt, rt.alloc(), 3, held)?;
         expect_report(&rt, rt.alloc(), 64, held)?;
+    }
+    Ok(())
+}
+
+const FALSE_PROCESS: &str = "{false and x = 0}\nx := 0\n{false and x = 0}\n";
+
+// A certificate of 9,000 sums of 200 terms, for each of 5,052 conditions.
+fn one_for_all(alloc: Global) -> Result<String, Fail> {
+    let terms = " 1*1".repeat(alloc, 200)?;
+    let line = ["sum", terms.as_str(), "\n"].concat(alloc)?;
+    let lines = line.as_str().repeat(alloc, 9_000)?;
+    let mut text = ["og-cert 2\ncond 1\n", lines.as_str(), "close 1*1\n"].concat(alloc)?;
+    for number in 2..5_053 {
+        let entry = format!(in alloc; "cond {number}\nsame 1\n")?;
+        text.push_str(entry.as_str())?;
+    }
+    Ok(text)
+}
+
+const ALL_PROVED: &[u8] = b"conditions: 5052\nproved: 5052\nsafe: yes\nunblocked: yes\n";
+
+// A certificate is replayed once over equal facts: for each condition again it would take minutes.
+#[test]
+fn equal_facts_are_replayed_once(rt: HostRuntime) -> Result<(), Fail> {
+    let head = "var x;\n{false and x = 0}\ncobegin\n";
+    let source = equal_processes(rt.alloc(), head, FALSE_PROCESS, 49, "coend\n{true}\n")?;
+    let certs = one_for_all(rt.alloc())?;
+    for count in [1, 3] {
+        let options = Options {
+            workers: Workers::new(count).expect(&rt, "from 1 to 64"),
+            json: false,
+        };
+        let (source, certs) = (source.as_bytes(), certs.as_bytes());
+        let answer = checked(&rt, rt.alloc(), source, certs, options, &OpenGate)?;
+        assert!(rt; answer.text.as_slice() == ALL_PROVED, "{count} workers");
     }
     Ok(())
 }
