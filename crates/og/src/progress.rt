@@ -1,16 +1,18 @@
-//! How far a check or a search is, told at a terminal.
+//! How far a check, a search or a run is, told at a terminal.
 
 use og_pool::Gate;
 use std::io::{self, IsTerminal, Write};
-use std::sync::atomic::{AtomicU64, Ordering};
+use std::sync::atomic::{AtomicBool, AtomicU64, Ordering};
 use std::time::Instant;
 
-/// Tells on standard error, where that is a terminal, how many of how many conditions are done: after
-/// the first second of work, and then once a second. The line is taken away when all are done.
+/// Tells on standard error, where that is a terminal, how many of how many conditions are done, or
+/// how many steps a run has made: after the first second of work, and then once a second. The line is
+/// taken away when all are done, or the run has ended.
 #[derive(Drop)]
 pub(crate) struct Progress<'r> {
     rt: &'r HostRuntime,
     start: Option<Instant>,
+    runs: AtomicBool,
     count: AtomicU64,
     done: AtomicU64,
     // The last second in which it was told; 0 where it was not yet.
@@ -28,6 +30,7 @@ impl<'r> Progress<'r> {
         Progress {
             rt,
             start,
+            runs: AtomicBool::new(false),
             count: AtomicU64::new(0),
             done: AtomicU64::new(0),
             told: AtomicU64::new(0),
@@ -58,19 +61,31 @@ impl<'r> Progress<'r> {
     // Writes how many are done in place of what stood in the line.
     fn tell(&self, done: u64) -> io::Result<()> {
         let count = self.count.load(Ordering::SeqCst);
-        write!(self.rt.stderr(), "\rog: {done} of {count} conditions")
+        if self.runs.load(Ordering::SeqCst) {
+            write!(self.rt.stderr(), "\rog: {done} of at most {count} steps")
+        } else {
+            write!(self.rt.stderr(), "\rog: {done} of {count} conditions")
+        }
     }
 
-    // Takes the line away.
+    // Takes the line away, if there is one.
     fn clear(&self) -> io::Result<()> {
+        if self.told.load(Ordering::SeqCst) == 0 {
+            return Ok(());
+        }
         self.rt.stderr().write_all(b"\r\x1b[K")
+    }
+
+    // Nothing of this many is done yet.
+    fn restart(&self, count: u32) {
+        self.count.store(count as u64, Ordering::SeqCst);
+        self.done.store(0, Ordering::SeqCst);
     }
 }
 
 impl<'r> Gate for Progress<'r> {
     fn begin(&self, count: u32) {
-        self.count.store(count as u64, Ordering::SeqCst);
-        self.done.store(0, Ordering::SeqCst);
+        self.restart(count);
     }
 
     fn before(&self, _task: u32) {}
@@ -80,8 +95,17 @@ impl<'r> Gate for Progress<'r> {
         if self.takes(self.seconds()) {
             let _ = self.tell(done);
         }
-        if done == self.count.load(Ordering::SeqCst) && self.told.load(Ordering::SeqCst) > 0 {
+        if done == self.count.load(Ordering::SeqCst) {
             let _ = self.clear();
         }
+    }
+
+    fn begin_run(&self, limit: u32) {
+        self.runs.store(true, Ordering::SeqCst);
+        self.restart(limit);
+    }
+
+    fn end_run(&self) {
+        let _ = self.clear();
     }
 }

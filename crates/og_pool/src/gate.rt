@@ -10,6 +10,12 @@ pub trait Gate: Sync {
 
     /// The status of this condition is known.
     fn after(&self, task: u32);
+
+    /// A run begins, which makes at most so many steps; `after` tells of each.
+    fn begin_run(&self, _limit: u32) {}
+
+    /// The run has ended.
+    fn end_run(&self) {}
 }
 
 /// A gate that does nothing.

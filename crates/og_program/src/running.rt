@@ -16,7 +16,7 @@ use crate::program::Program;
 use crate::reading::{both_bytes, source_bytes};
 use og_advice::Names;
 use og_io::RunLimit;
-use og_pool::{Gate, OpenGate};
+use og_pool::Gate;
 use og_running::{ran, ran_by_schedule, ran_proved};
 use std::io::Read;
 use std::sync::Wait;
@@ -50,8 +50,10 @@ impl<'r, F: Files, G: Gate, H: Threads + Wait + Sync> Program<'r, F, G, H> {
     {
         let (rt, alloc) = (self.rt, self.alloc);
         let bytes = source_bytes(alloc, self.files, source, input)?;
-        let reply = ran(rt, alloc, &bytes, words, limit, erased, &OpenGate)?;
-        Ok(beside_run(alloc, source, &bytes, words, None, reply))
+        self.gate.begin_run(limit.steps());
+        let reply = ran(rt, alloc, &bytes, words, limit, erased, self.gate);
+        self.gate.end_run();
+        Ok(beside_run(alloc, source, &bytes, words, None, reply?))
     }
 
     // Runs the program of a source that certificates prove safe.
@@ -69,8 +71,10 @@ impl<'r, F: Files, G: Gate, H: Threads + Wait + Sync> Program<'r, F, G, H> {
     {
         let (rt, alloc) = (self.rt, self.alloc);
         let (source, certs) = both_bytes(alloc, self.files, names, input)?;
-        let reply = ran_proved(rt, alloc, &source, &certs, words, limit, &OpenGate)?;
-        Ok(beside_proved_run(rt, alloc, names, &source, &certs, words, reply))
+        self.gate.begin_run(limit.steps());
+        let reply = ran_proved(rt, alloc, &source, &certs, words, limit, self.gate);
+        self.gate.end_run();
+        Ok(beside_proved_run(rt, alloc, names, &source, &certs, words, reply?))
     }
 
     // Runs the program of a source by a schedule.

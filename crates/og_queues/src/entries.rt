@@ -2,7 +2,7 @@
 
 use crate::candidates::{Candidate, Hidden, Range, Ways, range_of};
 use crate::missed::Missed;
-use crate::narrowing::{Ground, Held, Own, Source, Stage, fact_of};
+use crate::narrowing::{Ground, Held, Narrowing, Own, Source, Stage, fact_of};
 use crate::queue::{Distinct, Doubt, Entry, State, Var};
 use og_choices::Part;
 use std::alloc::{AllocError, Global};
@@ -125,31 +125,58 @@ impl<'a, 'h> Maker<'a, 'h> {
         Err(Missed::Fact)
     }
 
-    // The entry of a candidate, the range of whose number is told so.
+    // What is known of a candidate's flag.
+    fn flagged(&self, ground: &mut Ground, candidate: Candidate) -> Result<Flagged, Missed> {
+        match candidate.ways {
+            Some(ways) => self.in_doubt(ground, ways),
+            None => self.waiting(ground),
+        }
+    }
+
+    // What is left of the range of a candidate's number.
+    fn in_range(
+        &self,
+        ground: &mut Ground,
+        candidate: Candidate,
+        range: Range,
+    ) -> Result<Narrowing, Missed> {
+        let entry = self.entries.len();
+        let waits = held(self.alloc, entry, Stage::Waiting, candidate.waits())?;
+        let place = Source::Path(range.place);
+        ground.narrowing(place, range.parts, &[range.left], &waits)
+    }
+
+    // What is left of the choice that hides that a candidate's number is above the counter.
+    fn above_counter(
+        &self,
+        ground: &mut Ground,
+        candidate: Candidate,
+        range: Range,
+    ) -> Result<Narrowing, Missed> {
+        let (entry, part) = (self.entries.len(), range.parts.get(range.left));
+        let ranged = held(self.alloc, entry, Stage::Ranged, part)?;
+        let apart = candidate.apart;
+        ground.narrowing(apart.choice, apart.parts, &[apart.left], &ranged)
+    }
+
+    // The entry of a candidate, whose number has this range.
     fn entry(
         &mut self,
         ground: &mut Ground,
         candidate: Candidate,
         range: Range,
     ) -> Result<Entry, Missed> {
-        let (alloc, entry) = (self.alloc, self.entries.len());
-        let flagged = match candidate.ways {
-            Some(ways) => self.in_doubt(ground, ways)?,
-            None => self.waiting(ground)?,
-        };
-        let waits = held(alloc, entry, Stage::Waiting, candidate.waits())?;
-        let ranged = held(alloc, entry, Stage::Ranged, range.parts.get(range.left))?;
-        let place = Source::Path(range.place);
-        let narrowing = ground.narrowing(place, range.parts, &[range.left], &waits)?;
-        let apart = candidate.apart;
-        let above = ground.narrowing(apart.choice, apart.parts, &[apart.left], &ranged)?;
+        let flagged = self.flagged(ground, candidate)?;
+        let in_range = self.in_range(ground, candidate, range)?;
+        let above = self.above_counter(ground, candidate, range)?;
         self.flags.push(flagged.flag)?;
+        let flag_low = ground.path_fact(&[(flagged.flag, -1)], 0)?;
         Ok(Entry {
             number: candidate.number,
             state: flagged.state,
-            flag_low: ground.path_fact(&[(flagged.flag, -1)], 0)?,
+            flag_low,
             flag_high: flagged.high,
-            range: narrowing,
+            range: in_range,
             high: range.high,
             above,
         })

@@ -62,29 +62,50 @@ impl Refuter<'_, '_, '_> {
         form_of(self.alloc, flag, own, value.saturating_add(1))
     }
 
-    // Refutes the entries from the next one on, where the counter is in the lower half.
-    #[cycle(halves)]
-    fn refute_halves(&mut self, level: u32, halves: &mut Halves) -> Result<Tree, Unrefuted> {
+    // Refutes the entries so far, if there are too many of either kind.
+    fn refute_either(&mut self, level: u32, halves: &Halves) -> Result<Option<Tree>, Unrefuted> {
         let (middle, most) = (halves.middle, self.queue.most);
         if halves.high.len() as i128 > most.saturating_sub(middle) {
             let least = middle.saturating_add(1);
-            return self.refute_crowd(level, &halves.high, Values { least, most }, None);
+            let values = Values { least, most };
+            return Ok(Some(self.refute_crowd(level, &halves.high, values, None)?));
         }
         if halves.low.len() as i128 > middle.saturating_sub(self.queue.least) {
-            return self.refute_low(level, halves);
+            return Ok(Some(self.refute_low(level, halves)?));
+        }
+        Ok(None)
+    }
+
+    // Refutes the entries from the next one on, where the counter is in the lower half.
+    #[cycle(halves)]
+    fn refute_halves(&mut self, level: u32, halves: &mut Halves) -> Result<Tree, Unrefuted> {
+        if let Some(tree) = self.refute_either(level, halves)? {
+            return Ok(tree);
         }
         let below = level.checked_sub(1).ok_or(Unrefuted::Levels)?;
         let number = halves.next;
         halves.next = number.saturating_add(1);
-        let form = self.above_form(number, middle)?;
+        let form = self.above_form(number, halves.middle)?;
         let first = self.refute_high(below, halves, number)?;
-        let low = Some(told_at(below));
-        let entry = number;
-        halves.low.push(Listed { entry, low })?;
-        let second = self.refute_halves(below, halves)?;
-        halves.low.pop();
+        let second = self.refute_not_high(below, halves, number)?;
         halves.next = number;
         Ok(branch(self.alloc, below, form, first, second)?)
+    }
+
+    // What refutes that an entry does not wait with a number of the upper half, which is the fact at
+    // this level.
+    #[cycle(halves)]
+    fn refute_not_high(
+        &mut self,
+        level: u32,
+        halves: &mut Halves,
+        entry: usize,
+    ) -> Result<Tree, Unrefuted> {
+        let low = Some(told_at(level));
+        halves.low.push(Listed { entry, low })?;
+        let tree = self.refute_halves(level, halves)?;
+        halves.low.pop();
+        Ok(tree)
     }
 
     // Refutes the entries that do not wait with numbers of the upper half.
@@ -98,8 +119,43 @@ impl Refuter<'_, '_, '_> {
         self.refute_sets(level, sets, &mut Course::new(self.alloc))
     }
 
-    // What refutes that an entry waits with a number of the upper half, which is the fact at this
-    // level.
+    // Lets an entry wait with a number of the upper half, by the fact at this place, behind those that
+    // do, at this level.
+    fn join_high(
+        &mut self,
+        level: u32,
+        number: usize,
+        fact: Place,
+        high: &mut Vec<Waiting>,
+    ) -> Result<(), Unrefuted> {
+        let low = self.weighted(self.entry(number)?.flag_low);
+        let least = vec![in self.alloc; once(fact), low]?;
+        self.note_waiting(level, number)?;
+        self.stand(level, number, least, high)
+    }
+
+    // What refutes that an entry waits with a number of the upper half, at this level, by the fact at
+    // this place.
+    #[cycle(halves)]
+    fn refute_waits_high(
+        &mut self,
+        level: u32,
+        halves: &mut Halves,
+        number: usize,
+        fact: Place,
+    ) -> Result<Tree, Unrefuted> {
+        let (count, most) = (halves.high.len(), self.queue.most);
+        let last = level.checked_sub(levels_behind(count));
+        let last = last.ok_or(Unrefuted::Levels)?;
+        self.join_high(level, number, fact, &mut halves.high)?;
+        let tree = self.refute_halves(last, halves)?;
+        halves.high.truncate(count);
+        let facts = self.below_end(number)?;
+        self.with_entry(level, number, &halves.high, most, &facts, tree)
+    }
+
+    // What refutes that an entry has a number of the upper half and is not through, which is the fact
+    // at this level.
     #[cycle(halves)]
     fn refute_high(
         &mut self,
@@ -107,22 +163,10 @@ impl Refuter<'_, '_, '_> {
         halves: &mut Halves,
         number: usize,
     ) -> Result<Tree, Unrefuted> {
-        let told = told_at(level);
+        let fact = told_at(level);
         let below = level.checked_sub(1).ok_or(Unrefuted::Levels)?;
-        let low = self.weighted(self.entry(number)?.flag_low);
-        let least = vec![in self.alloc; once(told), low]?;
-        let count = halves.high.len();
-        self.note_waiting(below, number)?;
-        self.stand(below, number, least, &mut halves.high)?;
-        let last = below
-            .checked_sub(levels_behind(count))
-            .ok_or(Unrefuted::Levels)?;
-        let tree = self.refute_halves(last, halves)?;
-        halves.high.truncate(count);
-        let facts = self.below_end(number)?;
-        let most = self.queue.most;
-        let waits = self.with_entry(below, number, &halves.high, most, &facts, tree)?;
-        let through = self.refute_through_high(below, number, told)?;
+        let waits = self.refute_waits_high(below, halves, number, fact)?;
+        let through = self.refute_through_high(below, number, fact)?;
         self.with_doubt(below, number, waits, through)
     }
 

@@ -112,6 +112,24 @@ fn is_full(entries: usize, values: Values) -> bool {
     values.least >= 0 && wanted == Some(entries as i128)
 }
 
+// The maker with the entries of all candidates.
+fn with_all<'a, 'h>(
+    ground: &mut Ground<'_, 'a>,
+    candidates: &[Candidate<'a>],
+    mut maker: Maker<'a, 'h>,
+) -> Result<Maker<'a, 'h>, Missed> {
+    for candidate in candidates {
+        maker.add(ground, *candidate)?;
+    }
+    Ok(maker)
+}
+
+// The greatest value of a number that is less than the end.
+fn most_of(view: View, end: Var) -> i128 {
+    let end = view.bounds.get(end, Side::Upper).value;
+    end.saturating_sub(1)
+}
+
 // The queue of these candidates, the first of which is this one, with the choices that hide that
 // two numbers differ.
 fn gathered<'a>(
@@ -121,17 +139,15 @@ fn gathered<'a>(
     first: Candidate,
     level: u32,
 ) -> Result<Queue, Missed> {
-    let (alloc, counter) = (ground.alloc, first.counter);
+    let counter = first.counter;
     let end = range_of(ground.view, first).ok_or(Missed::Fact)?.end;
     let count = count_of(ground.view, counter, candidates.len()).ok_or(Missed::Fact)?;
     ground.note(count.place);
-    let mut maker = Maker::new(alloc, counted(alloc, count, counter)?, end, hidden);
-    for candidate in candidates {
-        maker.add(ground, *candidate)?;
-    }
+    let counted = counted(ground.alloc, count, counter)?;
+    let maker = Maker::new(ground.alloc, counted, end, hidden);
+    let maker = with_all(ground, candidates, maker)?;
     let (others, least) = others(ground, count, counter, &maker.flags)?;
-    let most = ground.view.bounds.get(end, Side::Upper).value;
-    let most = most.saturating_sub(1);
+    let most = most_of(ground.view, end);
     if !is_full(maker.entries.len(), Values { least, most }) {
         return Err(Missed::Fact);
     }

@@ -235,6 +235,20 @@ impl<'q> Refuter<'q, '_, '_> {
         Ok(whole)
     }
 
+    // The bound that the number of an entry is at most this value, at this level, where the tree refutes
+    // what is below it.
+    fn with_most(
+        &mut self,
+        level: u32,
+        entry: &Entry,
+        most: i128,
+        facts: &[Multiple],
+        tree: Tree,
+    ) -> Result<Tree, Unrefuted> {
+        let form = beyond(self.alloc, entry.number, Side::Upper, most)?;
+        self.shown(level, form, facts, tree)
+    }
+
     /// What refutes the part in which an entry waits, at this level, where the tree refutes what is
     /// below its facts, and these facts refute that its number is above the value.
     pub(crate) fn with_entry(
@@ -248,8 +262,7 @@ impl<'q> Refuter<'q, '_, '_> {
     ) -> Result<Tree, Unrefuted> {
         let entry = self.entry(number)?;
         let ordered = self.with_orders(lower(level, LEVELS_OF_ENTRY)?, number, before, tree)?;
-        let form = beyond(self.alloc, entry.number, Side::Upper, most)?;
-        let bounded = self.shown(lower(level, 3)?, form, facts, ordered)?;
+        let bounded = self.with_most(lower(level, 3)?, entry, most, facts, ordered)?;
         let above = self.split_one(&entry.above, lower(level, 2)?, bounded)?;
         self.split_one(&entry.range, lower(level, 1)?, above)
     }
@@ -302,6 +315,35 @@ impl<'q> Refuter<'q, '_, '_> {
         Ok(crowd)
     }
 
+    // The facts that the number of an entry is not below the least value, with the one at the place.
+    fn least_facts(
+        &self,
+        one: &Waiting,
+        counter: Option<Place>,
+    ) -> Result<Vec<Multiple>, Unrefuted> {
+        let mut facts = one.least.clone()?;
+        if let Some(counter) = counter {
+            facts.push(once(counter))?;
+        }
+        Ok(facts)
+    }
+
+    // The bound that the number of an entry is not below the least value, at this level, where the
+    // tree refutes what is below it.
+    fn with_least(
+        &mut self,
+        level: u32,
+        one: &Waiting,
+        least: i128,
+        counter: Option<Place>,
+        tree: Tree,
+    ) -> Result<Tree, Unrefuted> {
+        let number = self.entry(one.entry)?.number;
+        let form = beyond(self.alloc, number, Side::Lower, least)?;
+        let facts = self.least_facts(one, counter)?;
+        self.shown(level, form, &facts, tree)
+    }
+
     /// What refutes entries that wait and are one more than their numbers have values, below this
     /// level. The fact at the place belongs to those from which it follows that they are not below
     /// the least value.
@@ -315,13 +357,8 @@ impl<'q> Refuter<'q, '_, '_> {
         let crowd = self.crowd(level, group, values)?;
         let mut tree = crowd.tree(self.leaves)?;
         for (place, one) in group.iter().enumerate().rev() {
-            let number = self.entry(one.entry)?.number;
-            let form = beyond(self.alloc, number, Side::Lower, values.least)?;
-            let mut facts = one.least.clone()?;
-            if let Some(counter) = counter {
-                facts.push(once(counter))?;
-            }
-            tree = self.shown(lower(level, place.saturating_add(1))?, form, &facts, tree)?;
+            let below = lower(level, place.saturating_add(1))?;
+            tree = self.with_least(below, one, values.least, counter, tree)?;
         }
         Ok(tree)
     }

@@ -75,6 +75,22 @@ impl Refuter<'_, '_, '_> {
         self.leaves.close(end)
     }
 
+    // What refutes those that wait with these values above the counter, the least of which is
+    // shown first.
+    fn refute_above_shown(
+        &mut self,
+        level: u32,
+        waiting: &[Waiting],
+        values: Values,
+        least: i128,
+    ) -> Result<Tree, Unrefuted> {
+        let below = lower(level, 1)?;
+        let tree = self.refute_crowd(below, waiting, values, Some(told_at(below)))?;
+        let form = beyond(self.alloc, self.queue.counter, Side::Lower, least)?;
+        let facts = self.counted()?;
+        self.shown(below, form, &facts, tree)
+    }
+
     // What refutes those that wait, where the counter has this least value.
     fn refute_waiting(
         &mut self,
@@ -91,13 +107,7 @@ impl Refuter<'_, '_, '_> {
             Some(known) if known.value == least => {
                 self.refute_crowd(level, waiting, values, Some(known.place))
             }
-            _ => {
-                let below = lower(level, 1)?;
-                let tree = self.refute_crowd(below, waiting, values, Some(told_at(below)))?;
-                let form = beyond(self.alloc, self.queue.counter, Side::Lower, least)?;
-                let facts = self.counted()?;
-                self.shown(below, form, &facts, tree)
-            }
+            _ => self.refute_above_shown(level, waiting, values, least),
         }
     }
 
@@ -110,6 +120,20 @@ impl Refuter<'_, '_, '_> {
         }
     }
 
+    // Refutes the entries so far, where more wait than there are values left.
+    fn refute_full(
+        &mut self,
+        level: u32,
+        sets: Sets,
+        waiting: &[Waiting],
+        least: i128,
+    ) -> Result<Tree, Unrefuted> {
+        if waiting.is_empty() {
+            return self.refute_through(sets.counter);
+        }
+        self.refute_waiting(level, sets, waiting, least)
+    }
+
     /// Refutes a list of entries, below this level.
     #[cycle(sets)]
     pub(crate) fn refute_sets(
@@ -119,12 +143,8 @@ impl Refuter<'_, '_, '_> {
         course: &mut Course,
     ) -> Result<Tree, Unrefuted> {
         let least = self.least_of(sets, course.through);
-        let free = sets.most.saturating_sub(least);
-        if course.waiting.len() as i128 > free {
-            if course.waiting.is_empty() {
-                return self.refute_through(sets.counter);
-            }
-            return self.refute_waiting(level, sets, &course.waiting, least);
+        if course.waiting.len() as i128 > sets.most.saturating_sub(least) {
+            return self.refute_full(level, sets, &course.waiting, least);
         }
         let below = level.checked_sub(1).ok_or(Unrefuted::Levels)?;
         let listed = sets.list.get(course.next).copied();
@@ -136,6 +156,37 @@ impl Refuter<'_, '_, '_> {
         self.with_doubt(below, listed.entry, waits, through)
     }
 
+    // The fact that the number of an entry that waits is above the counter.
+    fn above_counter(&self, number: usize) -> Result<Vec<Multiple>, Unrefuted> {
+        let above = Source::Own(Own {
+            entry: number,
+            stage: Stage::Above,
+            index: 0,
+        });
+        Ok(vec![in self.alloc; once(self.place_of(above)?)]?)
+    }
+
+    // The facts that the number of an entry that waits is at most the greatest value.
+    fn below_most(&self, listed: Listed) -> Result<Vec<Multiple>, Unrefuted> {
+        let Some(low) = listed.low else {
+            return self.below_end(listed.entry);
+        };
+        let high = self.place_of(self.entry(listed.entry)?.flag_high)?;
+        Ok(vec![in self.alloc; once(low), self.weighted(high)]?)
+    }
+
+    // Lets an entry wait behind those that wait, at this level.
+    fn join(
+        &mut self,
+        level: u32,
+        number: usize,
+        waiting: &mut Vec<Waiting>,
+    ) -> Result<(), Unrefuted> {
+        self.note_waiting(level, number)?;
+        let least = self.above_counter(number)?;
+        self.stand(level, number, least, waiting)
+    }
+
     // What refutes that the entry waits too.
     #[cycle(sets)]
     fn refute_one_more(
@@ -145,28 +196,13 @@ impl Refuter<'_, '_, '_> {
         course: &mut Course,
         listed: Listed,
     ) -> Result<Tree, Unrefuted> {
-        let number = listed.entry;
-        self.note_waiting(level, number)?;
-        let above = Source::Own(Own {
-            entry: number,
-            stage: Stage::Above,
-            index: 0,
-        });
-        let least = vec![in self.alloc; once(self.place_of(above)?)]?;
-        let count = course.waiting.len();
-        let last = level
-            .checked_sub(levels_behind(count))
-            .ok_or(Unrefuted::Levels)?;
-        self.stand(level, number, least, &mut course.waiting)?;
+        let (number, count) = (listed.entry, course.waiting.len());
+        let last = level.checked_sub(levels_behind(count));
+        let last = last.ok_or(Unrefuted::Levels)?;
+        self.join(level, number, &mut course.waiting)?;
         let tree = self.refute_sets(last, sets, course)?;
         course.waiting.truncate(count);
-        let facts = match listed.low {
-            Some(low) => {
-                let high = self.place_of(self.entry(number)?.flag_high)?;
-                vec![in self.alloc; once(low), self.weighted(high)]?
-            }
-            None => self.below_end(number)?,
-        };
+        let facts = self.below_most(listed)?;
         self.with_entry(level, number, &course.waiting, sets.most, &facts, tree)
     }
 

@@ -358,25 +358,10 @@ impl<'a> Search<'a> {
         if failing.is_empty() {
             return Err(Stop::Model);
         }
-        if let Some(crowd) = self.crowd(level, bounds)? {
-            return Ok(Decision::Refute(crowd));
+        match self.decide_on_sight(level, bounds)? {
+            Some(decision) => Ok(decision),
+            None => self.decide_among(&failing, bounds),
         }
-        match self.queue(level, bounds)? {
-            Sight::Queue(queue) => return Ok(Decision::Queue(queue)),
-            Sight::Bound(form) => return Ok(Decision::Branch { form, next: None }),
-            Sight::Nothing => {}
-        }
-        if let Some(i) = forced_among(&self.open, &failing, bounds) {
-            return Ok(Decision::Split(i));
-        }
-        if let Some(common) = self.common(&failing, bounds)? {
-            return Ok(Decision::Branch {
-                form: common.form,
-                next: Some(common.choice),
-            });
-        }
-        let choice = self.pick(&failing, bounds)?;
-        Ok(Decision::Split(choice.ok_or(Stop::Stuck)?))
     }
 
     // Both sides of the gap between a variable's values.
@@ -406,23 +391,12 @@ impl<'a> Search<'a> {
 
     // What is done at a level whose facts were taken in.
     fn go_on(&mut self, level: u32, bounds: &Bounds) -> Result<Decision, Halt> {
-        if let Some(i) = self.next.take() {
-            return Ok(Decision::Split(i));
-        }
-        if let Some(Lifted { form, next }) = self.lifted.pop() {
-            return Ok(Decision::Branch { form, next });
+        if let Some(decision) = self.decided() {
+            return Ok(decision);
         }
         self.spend_choices()?;
-        let reach = Reach::of_level(level);
-        if let Some(i) = self.refuted(bounds, reach) {
+        if let Some(i) = self.settled(level, bounds) {
             return Ok(Decision::Split(i));
-        }
-        self.unrefuted = News::none(self.open.len());
-        if level > EAGER_LEVEL {
-            if let Some(i) = forced(&self.open, bounds, self.unforced) {
-                return Ok(Decision::Split(i));
-            }
-            self.unforced = News::none(self.open.len());
         }
         if let Some(i) = self.denied_at(level, bounds)? {
             return Ok(Decision::Split(i));
@@ -433,6 +407,58 @@ impl<'a> Search<'a> {
             Outcome::OutOfRange | Outcome::Unknown => self.decide_without(None, bounds)?,
         };
         Ok(decision)
+    }
+
+    // What was decided before, if something was.
+    fn decided(&mut self) -> Option<Decision> {
+        if let Some(i) = self.next.take() {
+            return Some(Decision::Split(i));
+        }
+        let Lifted { form, next } = self.lifted.pop()?;
+        Some(Decision::Branch { form, next })
+    }
+
+    // The choice that the bounds refute, or force, if there is one.
+    fn settled(&mut self, level: u32, bounds: &Bounds) -> Option<usize> {
+        if let Some(i) = self.refuted(bounds, Reach::of_level(level)) {
+            return Some(i);
+        }
+        self.unrefuted = News::none(self.open.len());
+        if level <= EAGER_LEVEL {
+            return None;
+        }
+        if let Some(i) = forced(&self.open, bounds, self.unforced) {
+            return Some(i);
+        }
+        self.unforced = News::none(self.open.len());
+        None
+    }
+
+    // To refute a crowd or a queue, if one is seen.
+    fn decide_on_sight(&mut self, level: u32, bounds: &Bounds) -> Result<Option<Decision>, Stop> {
+        if let Some(crowd) = self.crowd(level, bounds)? {
+            return Ok(Some(Decision::Refute(crowd)));
+        }
+        Ok(match self.queue(level, bounds)? {
+            Sight::Queue(queue) => Some(Decision::Queue(queue)),
+            Sight::Bound(form) => Some(Decision::Branch { form, next: None }),
+            Sight::Nothing => None,
+        })
+    }
+
+    // To split one of the choices that fail, or to branch by what all parts of one have in common.
+    fn decide_among(&mut self, failing: &[usize], bounds: &Bounds) -> Result<Decision, Stop> {
+        if let Some(i) = forced_among(&self.open, failing, bounds) {
+            return Ok(Decision::Split(i));
+        }
+        if let Some(common) = self.common(failing, bounds)? {
+            return Ok(Decision::Branch {
+                form: common.form,
+                next: Some(common.choice),
+            });
+        }
+        let choice = self.pick(failing, bounds)?;
+        Ok(Decision::Split(choice.ok_or(Stop::Stuck)?))
     }
 
     // Marks the choice as taken or not. Tells it, if it is there.
