@@ -259,12 +259,7 @@ impl<'a, 'c, G: Gate> Numbered for Checks<'a, 'c, G> {
         }
     }
 
-    fn answer(
-        &self,
-        alloc: Global,
-        number: u32,
-        kept: &mut Kept,
-    ) -> Result<Status, AllocError> {
+    fn answer(&self, alloc: Global, number: u32, kept: &mut Kept) -> Result<Status, AllocError> {
         self.gate.before(number);
         let status = self.status(alloc, number, kept)?;
         self.gate.after(number);
