@@ -17,7 +17,7 @@ use Rattle.og_parse.specs.declared.raw.RawProcesses.{RawProcesses}
 use Rattle.og_parse.specs.declared.raw.RawStmt.TheOpen.{RawStmt-F, RawItem-F, RawSeq-F}
 use Rattle.og_parse.specs.declared.raw.RawStmt.TheFolds.{fold-RawStmt, fold-RawSeq, fold-RawItem}
 use Rattle.og_parse.specs.declared.raw.Raw.{Raw}
-use Rattle.og_parse.specs.Trees.{Sum, Assertion, Truth, Falsity, Comparison, Negation, Conjunction, Disjunction, Implication, Note, listed, Basic, Skip, Assign, Stmt, Simple, While, Await, Seq, item, finish, choice, Outline}
+use Rattle.og_parse.specs.Trees.{Sum, Assertion, Truth, Falsity, Comparison, Negation, Conjunction, Disjunction, Implication, Note, listed, Basic, Skip, Assign, Stmt, Simple, While, Await, Seq, Step, item, finish, choice, Outline}
 use Rattle.std.specs.Prelude.{List, [], ◌∷◌, option_map}
 use Rattle.og_parse.specs.declared.outline.RawFront.{RawFront}
 use Rattle.og_parse.specs.declared.outline.RawBack.{RawBack}
@@ -77,6 +77,10 @@ stmt_of = fold-RawStmt Stmt Item Seq stmt_step item_step seq_step
 
 abbrev pub item_of : RawItem → Item
 item_of = fold-RawItem Stmt Item Seq stmt_step item_step seq_step
+
+-- a step after the assertion before it
+abbrev pub item_of_step : Note → Step → Item
+item_of_step before step = record { before = before; place = step.stmt.place; stmt = step.stmt.value }
 
 abbrev pub seq_of : RawSeq → Seq
 seq_of = fold-RawSeq Stmt Item Seq stmt_step item_step seq_step

@@ -1,24 +1,27 @@
 //! Reading statements.
 
-ghost use Rattle.std.specs.Prelude.{◌≡◌, option_map};
+ghost use Rattle.std.specs.Prelude.{◌≡◌, option_map, map, ◌++◌, ◌∷◌, [], IfOk};
 ghost use Rattle.og_text.specs.declared.token.TokenKind.TheVariants.{Else};
 ghost use Rattle.og_grammar.specs.Gives.{IsRead};
 ghost use Rattle.og_grammar.specs.Reading.{starts, if_symbol_at};
 ghost use Rattle.og_parse.specs.Parts.{step_of};
-ghost use Rattle.og_parse.specs.TreeOf.{assertion_of, stmt_of, seq_of, note_of};
+ghost use Rattle.og_parse.specs.Trees.{Simple, While, choice};
+ghost use Rattle.og_parse.specs.TreeOf.{assertion_of, basic_of, item_of, item_of_step, stmt_of, seq_of, note_of};
 ghost use Rattle.og_parse.specs.Reads.{a_stmt, await_at, rest_of_block_by, block_by, tested_by, if_by, while_by, stmt_by, step_by, compound_at, seq_at};
 
 use crate::assertions::{note, test};
 use crate::basic::{basic, body};
-use crate::raw::{RawAssert, RawItem, RawNote, RawSeq, RawStmt};
+use crate::raw::{RawAssert, RawBasic, RawItem, RawNote, RawSeq, RawStmt};
 use og_grammar::{Cursor, FaultKind, Refusal};
 use og_text::{Span, TokenKind};
-use std::alloc::Global;
+use std::alloc::{AllocError, Global};
 
 // A statement with its place, and the assertion after it.
+//
+// Statements and blocks are handed on in boxes, so that a level of statements takes little stack.
 #[derive(Drop)]
 struct RawStep {
-    stmt: RawStmt,
+    stmt: Box<RawStmt>,
     span: Span,
     after: RawNote,
 }
@@ -39,14 +42,57 @@ fn is_at_stmt(cursor: &Cursor) -> bool
     )
 }
 
+fn simple(alloc: Global, basic: RawBasic) -> Result<Box<RawStmt>, AllocError>
+    ensures { IfOk result (λ x. stmt_of x.value ≡ Simple (basic_of basic)) }
+{
+    Ok(Box::new(alloc, RawStmt::Basic(basic))?)
+}
+
+fn two_way(
+    alloc: Global,
+    test: RawAssert,
+    branch: Box<RawSeq>,
+    other: Option<Box<RawSeq>>,
+) -> Result<Box<RawStmt>, AllocError>
+    ensures { IfOk result (λ x. stmt_of x.value ≡ choice (assertion_of test) (seq_of branch.value) (option_map (λ o. seq_of o.value) other)) }
+{
+    let branch = Box::into_inner(branch);
+    let other = other.map(Box::into_inner);
+    Ok(Box::new(alloc, RawStmt::If(test, branch, other))?)
+}
+
+fn looping(alloc: Global, test: RawAssert, body: Box<RawSeq>) -> Result<Box<RawStmt>, AllocError>
+    ensures { IfOk result (λ x. stmt_of x.value ≡ While (assertion_of test) (seq_of body.value)) }
+{
+    let body = Box::into_inner(body);
+    Ok(Box::new(alloc, RawStmt::While(test, body))?)
+}
+
+// Adds a statement after the assertion `before` it, and returns the assertion after it.
+fn with_step(
+    items: &mut Vec<RawItem>,
+    before: RawNote,
+    step: RawStep,
+) -> Result<RawNote, AllocError>
+    ensures after { IfOk result (λ after. after ≡ step.after) }
+    ensures items { IfOk result (λ _. map item_of items.new.items ≡ map item_of items.old.items ++ item_of_step (note_of before) (step_of step.span (stmt_of step.stmt.value) (note_of step.after)) ∷ []) }
+{
+    items.push(RawItem {
+        before,
+        stmt: Box::into_inner(step.stmt),
+        span: step.span,
+    })?;
+    Ok(step.after)
+}
+
 #[tactic(auto, unfolding(crate::specs::Reads::await_at))]
-fn await_stmt(alloc: Global, levels: u32, cursor: &mut Cursor) -> Result<RawStmt, Refusal>
-    ensures { IsRead stmt_of result cursor.new (await_at levels cursor.old) }
+fn await_stmt(alloc: Global, levels: u32, cursor: &mut Cursor) -> Result<Box<RawStmt>, Refusal>
+    ensures { IsRead (λ x. stmt_of x.value) result cursor.new (await_at levels cursor.old) }
 {
     cursor.expect(&TokenKind::Await)?;
     let guard = test(alloc, levels, &TokenKind::Then, cursor)?;
     let body = body(alloc, cursor)?;
-    Ok(RawStmt::Await(guard, body))
+    Ok(Box::new(alloc, RawStmt::Await(guard, body))?)
 }
 
 // A test, the word after it, and a block.
@@ -59,8 +105,8 @@ fn tested(
     depth: u32,
     symbol: &TokenKind,
     cursor: &mut Cursor,
-) -> Result<(RawAssert, RawSeq), Refusal>
-    ensures { IsRead (λ x. (assertion_of x.0, seq_of x.1)) result cursor.new (tested_by symbol.now levels (seq_at levels awaits depth) cursor.old) }
+) -> Result<(RawAssert, Box<RawSeq>), Refusal>
+    ensures { IsRead (λ x. (assertion_of x.0, seq_of x.1.value)) result cursor.new (tested_by symbol.now levels (seq_at levels awaits depth) cursor.old) }
 {
     let test = test(alloc, levels, symbol, cursor)?;
     let all = block(alloc, levels, awaits, depth, cursor)?;
@@ -75,8 +121,8 @@ fn else_part(
     awaits: bool,
     depth: u32,
     cursor: &mut Cursor,
-) -> Result<Option<RawSeq>, Refusal>
-    ensures { IsRead (option_map seq_of) result cursor.new (if_symbol_at Else (block_by (seq_at levels awaits depth)) cursor.old) }
+) -> Result<Option<Box<RawSeq>>, Refusal>
+    ensures { IsRead (option_map (λ x. seq_of x.value)) result cursor.new (if_symbol_at Else (block_by (seq_at levels awaits depth)) cursor.old) }
 {
     if cursor.eat(&TokenKind::Else) {
         return Ok(Some(block(alloc, levels, awaits, depth, cursor)?));
@@ -92,13 +138,13 @@ fn if_stmt(
     awaits: bool,
     depth: u32,
     cursor: &mut Cursor,
-) -> Result<RawStmt, Refusal>
-    ensures { IsRead stmt_of result cursor.new (if_by levels (seq_at levels awaits depth) cursor.old) }
+) -> Result<Box<RawStmt>, Refusal>
+    ensures { IsRead (λ x. stmt_of x.value) result cursor.new (if_by levels (seq_at levels awaits depth) cursor.old) }
 {
     cursor.expect(&TokenKind::If)?;
     let (test, branch) = tested(alloc, levels, awaits, depth, &TokenKind::Then, cursor)?;
     let other = else_part(alloc, levels, awaits, depth, cursor)?;
-    Ok(RawStmt::If(test, branch, other))
+    Ok(two_way(alloc, test, branch, other)?)
 }
 
 #[cycle(statements)]
@@ -109,12 +155,12 @@ fn while_stmt(
     awaits: bool,
     depth: u32,
     cursor: &mut Cursor,
-) -> Result<RawStmt, Refusal>
-    ensures { IsRead stmt_of result cursor.new (while_by levels (seq_at levels awaits depth) cursor.old) }
+) -> Result<Box<RawStmt>, Refusal>
+    ensures { IsRead (λ x. stmt_of x.value) result cursor.new (while_by levels (seq_at levels awaits depth) cursor.old) }
 {
     cursor.expect(&TokenKind::While)?;
     let (test, body) = tested(alloc, levels, awaits, depth, &TokenKind::Do, cursor)?;
-    Ok(RawStmt::While(test, body))
+    Ok(looping(alloc, test, body)?)
 }
 
 // A statement that opens a level, where `depth` levels are left.
@@ -126,8 +172,8 @@ fn compound(
     awaits: bool,
     depth: u32,
     cursor: &mut Cursor,
-) -> Result<RawStmt, Refusal>
-    ensures { IsRead stmt_of result cursor.new (compound_at levels awaits depth cursor.old) }
+) -> Result<Box<RawStmt>, Refusal>
+    ensures { IsRead (λ x. stmt_of x.value) result cursor.new (compound_at levels awaits depth cursor.old) }
 {
     if depth == 0 {
         return Err(Refusal::Fault(FaultKind::TooDeep));
@@ -146,8 +192,8 @@ fn statement(
     awaits: bool,
     depth: u32,
     cursor: &mut Cursor,
-) -> Result<RawStmt, Refusal>
-    ensures { IsRead stmt_of result cursor.new (stmt_by levels awaits (compound_at levels awaits depth) cursor.old) }
+) -> Result<Box<RawStmt>, Refusal>
+    ensures { IsRead (λ x. stmt_of x.value) result cursor.new (stmt_by levels awaits (compound_at levels awaits depth) cursor.old) }
 {
     if cursor.is_at(&TokenKind::If) || cursor.is_at(&TokenKind::While) {
         return compound(alloc, levels, awaits, depth, cursor);
@@ -155,7 +201,8 @@ fn statement(
     if awaits && cursor.is_at(&TokenKind::Await) {
         return await_stmt(alloc, levels, cursor);
     }
-    Ok(RawStmt::Basic(basic(alloc, cursor)?))
+    let basic = basic(alloc, cursor)?;
+    Ok(simple(alloc, basic)?)
 }
 
 #[cycle(statements)]
@@ -167,7 +214,7 @@ fn step(
     depth: u32,
     cursor: &mut Cursor,
 ) -> Result<RawStep, Refusal>
-    ensures { IsRead (λ x. step_of x.span (stmt_of x.stmt) (note_of x.after)) result cursor.new (step_by levels awaits (compound_at levels awaits depth) cursor.old) }
+    ensures { IsRead (λ x. step_of x.span (stmt_of x.stmt.value) (note_of x.after)) result cursor.new (step_by levels awaits (compound_at levels awaits depth) cursor.old) }
 {
     let span = cursor.span();
     let stmt = statement(alloc, levels, awaits, depth, cursor)?;
@@ -188,28 +235,15 @@ pub(crate) fn sequence(
 ) -> Result<RawSeq, Refusal>
     ensures { IsRead seq_of result cursor.new (seq_at levels awaits depth cursor.old) }
 {
-    let first = note(alloc, levels, cursor)?;
+    let before = note(alloc, levels, cursor)?;
     let next = step(alloc, levels, awaits, depth, cursor)?;
     let mut items = Vec::new(alloc);
-    items.push(RawItem {
-        before: first,
-        stmt: next.stmt,
-        span: next.span,
-    })?;
-    let mut before = next.after;
+    let mut last = with_step(&mut items, before, next)?;
     'more: while is_at_stmt(cursor) {
         let next = step(alloc, levels, awaits, depth, cursor)?;
-        items.push(RawItem {
-            before,
-            stmt: next.stmt,
-            span: next.span,
-        })?;
-        before = next.after;
+        last = with_step(&mut items, last, next)?;
     }
-    Ok(RawSeq {
-        items,
-        last: before,
-    })
+    Ok(RawSeq { items, last })
 }
 
 /// Reads a sequence and the `end` after it.
@@ -229,6 +263,7 @@ pub(crate) fn rest_of_block(
     Ok(all)
 }
 
+// A block is what stands between `begin` and `end`.
 #[cycle(statements)]
 #[tactic(auto, unfolding(crate::specs::Reads::block_by))]
 fn block(
@@ -237,9 +272,10 @@ fn block(
     awaits: bool,
     depth: u32,
     cursor: &mut Cursor,
-) -> Result<RawSeq, Refusal>
-    ensures { IsRead seq_of result cursor.new (block_by (seq_at levels awaits depth) cursor.old) }
+) -> Result<Box<RawSeq>, Refusal>
+    ensures { IsRead (λ x. seq_of x.value) result cursor.new (block_by (seq_at levels awaits depth) cursor.old) }
 {
     cursor.expect(&TokenKind::Begin)?;
-    rest_of_block(alloc, levels, awaits, depth, cursor)
+    let all = rest_of_block(alloc, levels, awaits, depth, cursor)?;
+    Ok(Box::new(alloc, all)?)
 }

@@ -36,7 +36,7 @@ abbrev pub decreases-while_stmt : goal.decreases-while_stmt
 decreases-while_stmt l = 8 * l.depth + 7
 
 abbrev pub invariant-sequence-more : goal.invariant-sequence-more
-invariant-sequence-more l = with_items (map item_of l.items.items) (note_of l.before) (many_at a_stmt (step_by l.levels l.awaits (compound_at l.levels l.awaits l.depth)) l.cursor) ≡ seq_at l.levels l.awaits l.depth l.fn.cursor
+invariant-sequence-more l = with_items (map item_of l.items.items) (note_of l.last) (many_at a_stmt (step_by l.levels l.awaits (compound_at l.levels l.awaits l.depth)) l.cursor) ≡ seq_at l.levels l.awaits l.depth l.fn.cursor
 
 abbrev pub decreases-sequence-more : goal.decreases-sequence-more
 decreases-sequence-more l = length l.cursor
