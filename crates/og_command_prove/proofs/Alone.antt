@@ -1,6 +1,6 @@
 -- What is told of conditions where no run is looked for.
 use Rattle.std.proofs.Common.{◌≡◌, ℕ, ◌<◌, ℤ, List, [], ◌∷◌, length, replicate, Option, Some, Bor, sym, ◌∙◌, subst}
-use Rattle.std.specs.Prelude.{slice_get, option_map, IsSomeAnd}
+use Rattle.std.specs.Prelude.{All, slice_get, option_map, IsSomeAnd}
 use Rattle.og_typed.specs.Syntax.{Program}
 use Rattle.og_linear.specs.declared.state.State.{State}
 use Rattle.og_cond.specs.Condition.{Condition}
@@ -10,17 +10,17 @@ use Rattle.og_find.specs.declared.verdict.Verdict.{Verdict}
 use Rattle.og_find.specs.declared.verdict.Verdict.TheVariants as verdicts
 use Rattle.og_finder.specs.Findings.{AreVerdicts, verdict_of}
 use Rattle.og_finder.specs.declared.findings.Findings.{Findings}
-use Rattle.og_report_prove.specs.Told.{AreTold}
+use Rattle.og_report_prove.specs.Told.{IsAllowed, AreTold}
 use Rattle.og_report_prove.specs.declared.telling.Told.{Told}
 use Rattle.og_report_runs.specs.declared.witness.Run.TheVariants as run
 use Rattle.og_command_prove.specs.Shown.{AreShown}
 use Rattle.og_command_prove.specs.Followed.{HasFalse}
 
-pub shown_alone : (o : Program) (lists : List (List (ℤ × ℤ))) (cs : List Condition) (ts : List Told) → AreTold o cs ts → AreShown o lists cs ts (replicate (length cs) run.Open)
-shown_alone o lists [] [] h = tt
-shown_alone o lists [] (t ∷ ts) h = absurd h
-shown_alone o lists (c ∷ cs) [] h = absurd h
-shown_alone o lists (c ∷ cs) (t ∷ ts) h = ((h.0, tt, tt), shown_alone o lists cs ts h.1)
+pub shown_alone : (o : Program) (lists : List (List (ℤ × ℤ))) (cs : List Condition) (ts : List Told) → AreTold o cs ts → All (IsAllowed o) ts → AreShown o lists cs ts (replicate (length cs) run.Open)
+shown_alone o lists [] [] h a = tt
+shown_alone o lists [] (t ∷ ts) h a = absurd h
+shown_alone o lists (c ∷ cs) [] h a = absurd h
+shown_alone o lists (c ∷ cs) (t ∷ ts) h a = ((h.0, tt, a.0), shown_alone o lists cs ts h.1 a.1)
 
 -- a state that was found
 pub false_at : (cs : List Condition) (f : Findings) (i : ℕ) (s : List ℤ) → AreVerdicts cs f → i < length cs → verdict_of f i ≡ Some (verdicts.False s) → HasFalse cs

@@ -1,5 +1,5 @@
 -- What is shown of a source, and the status.
-use Rattle.std.specs.Prelude.{◌≡◌, ◌≤◌, ◌⊎◌, ℕ, true, List, [], length}
+use Rattle.std.specs.Prelude.{◌≡◌, ◌≤◌, ◌⊎◌, ℕ, true, All, List, [], length}
 use Rattle.og_typed.specs.Syntax.{Program}
 use Rattle.og_typed.specs.Erase.{erased}
 use Rattle.og_cond.specs.Conditions.{conditions}
@@ -10,7 +10,7 @@ use Rattle.og_report_text.specs.declared.answer.Answer.{Answer}
 use Rattle.og_report_text.specs.Told.{HasTooMany}
 use Rattle.og_engine.specs.Proving.{told_status}
 use Rattle.og_report_prove.specs.Report.{is_unblocked}
-use Rattle.og_report_prove.specs.Told.{AreTold}
+use Rattle.og_report_prove.specs.Told.{IsAllowed, AreTold}
 use Rattle.og_report_prove.specs.declared.telling.Told.{Told}
 use Rattle.og_report_html.specs.Page.{page_text}
 use Rattle.og_report_html.specs.Targets.{AreTargets}
@@ -29,9 +29,9 @@ pub record IsPage (o : Program) (source : List ℕ) (told : List Told) (before :
   pub sound : answer.status ≡ 0 → IsSound o × IsSoundErased o
   pub unblocked : answer.status ≡ 0 → is_unblocked told ≡ true → IsNeverStuck o × IsNeverStuck (erased o)
 
--- nothing is added
+-- nothing is added; where it is told where processes stand, the assertion at each place is true
 abbrev pub IsPageText : Program → List ℕ → Answer → Type 0
-IsPageText o source answer = (told : List Told) × IsPage o source told [] [] answer
+IsPageText o source answer = (told : List Told) × IsPage o source told [] [] answer × All (IsAllowed o) told
 
 -- that page, or the line that says that there are too many conditions
 abbrev pub IsPageOf : Program → List ℕ → Answer → Type 0

@@ -5,7 +5,7 @@ ghost use Rattle.og_typed.specs.Machine.{Moment as Instant};
 ghost use Rattle.og_cond.specs.Seen.{seen};
 ghost use Rattle.og_explore.specs.Seen.{IsKnown};
 ghost use Rattle.og_explore.specs.From.{IsReachedFrom};
-ghost use Rattle.og_report_prove.specs.Told.{IsTold};
+ghost use Rattle.og_report_prove.specs.Told.{IsTold, IsAllowed};
 ghost use Rattle.og_report_runs.specs.Runs.{IsRun};
 ghost use Rattle.og_report_runs.specs.Told.{LeadsTo, IsToldBy};
 ghost use Rattle.og_command_prove.specs.Shown.{IsOfRun, IsShown};
@@ -78,6 +78,7 @@ fn shown_by_run<'a>(
 ) -> Result<Shown<'a>, AllocError>
     requires index { index.now ≡ outline.now }
     requires told { IsTold outline.now (seen condition.now) told }
+    requires allowed { IsAllowed outline.now told }
     requires run { IsRun outline.now (map (λ l. l.items) lists.now) (seen condition.now) run }
     ensures { IfOk result (λ s. IsShown outline.now (map (λ l. l.items) lists.now) (seen condition.now) s.told s.run) }
 {
@@ -113,6 +114,7 @@ pub(crate) fn show<'a>(
 ) -> Result<Shown<'a>, AllocError>
     requires index { index.now ≡ outline.now }
     requires told { IsTold outline.now (seen condition.now) told }
+    requires allowed { IsAllowed outline.now told }
     requires outline { reach.now.moments.at.outline ≡ outline.now }
     requires all { reach.now.complete ≡ true → (m : Instant) → IsReachedFrom outline.now (map (λ l. l.items) lists.now) m → IsKnown outline.now reach.now.moments.keys m }
     ensures { IfOk result (λ s. IsShown outline.now (map (λ l. l.items) lists.now) (seen condition.now) s.told s.run) }

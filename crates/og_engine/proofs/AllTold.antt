@@ -1,6 +1,6 @@
 -- From what is told of all conditions to the answer.
 use Rattle.std.proofs.Common.{◌≡◌, ◌≤◌, ◌∙◌, ◌+◌, inl, ℕ, List, [], ◌∷◌, Bool, Bor, ap, ap₂, drop, drop-cons, add-one, true, false, refl, sym, subst, length, map, codes, Option, Some, None, option_map, Result, Ok, Err, IfOk, IfSome}
-use Rattle.std.specs.Prelude.{IsSomeAnd, count_by, slice_get}
+use Rattle.std.specs.Prelude.{All, IsSomeAnd, count_by, slice_get}
 use Rattle.std.proofs.lemmas.Option.{slice_get_within, get_or_from_slice_get}
 use Rattle.og_typed.specs.Syntax.{Program}
 use Rattle.og_cond.specs.Condition.{Condition}
@@ -20,7 +20,7 @@ use Rattle.og_json.proofs.Ends.{ends_with, ends_after}
 use Rattle.og_report.proofs.Yes.{text_answers}
 use Rattle.og_report_prove.specs.Report.{is_proved, is_false, is_open, is_safe, is_unblocked, number_line, yes_line, told_lines, report_text}
 use Rattle.og_report_prove.specs.Together.{keys_of, mores}
-use Rattle.og_report_prove.specs.Told.{AreTold}
+use Rattle.og_report_prove.specs.Told.{IsAllowed, AreTold}
 use Rattle.og_report_text.specs.Origins.{Rows}
 use Rattle.og_report_prove.specs.declared.telling.Told.{Told}
 use Rattle.og_report_prove.proofs.Answered.{safe_is_valid, unblocked_is_valid}
@@ -53,14 +53,15 @@ text_says names source rows cs ts h =
 
 -- ---- the answer
 
-pub all_told : {E : Type 0} (json : Bool) (o : Program) (text source : List ℕ) (rows : Rows) (cs : List Condition) (ts : List Told) (r : Result Answer E) → cs ≡ conditions o → length cs ≤ condition_limit → AreTold o cs ts
+pub all_told : {E : Type 0} (json : Bool) (o : Program) (text source : List ℕ) (rows : Rows) (cs : List Condition) (ts : List Told) (r : Result Answer E) → cs ≡ conditions o → length cs ≤ condition_limit → AreTold o cs ts → All (IsAllowed o) ts
     → IfOk r (Says (told_in json o.names text source rows cs ts) (told_status ts)) → IfOk r (IsToldText json o text source rows)
-all_told json o text source rows cs ts (Err e) is few told says = tt
-all_told json o text source rows cs ts (Ok a) is few told says =
+all_told json o text source rows cs ts (Err e) is few told allowed says = tt
+all_told json o text source rows cs ts (Ok a) is few told allowed says =
     record {
       few = subst (λ l. length l ≤ condition_limit) is few;
       told = ts;
       each = subst (λ l. AreTold o l ts) is told;
+      allowed = allowed;
       says = subst (λ l. Says (told_in json o.names text source rows l ts) (told_status ts) a) is says;
     }
 

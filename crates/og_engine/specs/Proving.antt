@@ -1,12 +1,12 @@
 -- What is printed of the conditions of a source, and the status.
-use Rattle.std.specs.Prelude.{◌≤◌, ◌⊎◌, ℕ, Bool, true, false, if◌then◌else◌, None, List, [], ◌∷◌, ◌++◌, length}
+use Rattle.std.specs.Prelude.{◌≤◌, ◌⊎◌, ℕ, Bool, true, false, if◌then◌else◌, None, All, List, [], ◌∷◌, ◌++◌, length}
 use Rattle.og_typed.specs.Syntax.{Program}
 use Rattle.og_cond.specs.Condition.{Condition}
 use Rattle.og_cond.specs.Conditions.{conditions}
 use Rattle.og_cond.specs.Limits.{condition_limit}
 use Rattle.og_source.specs.Source.{IsSource}
 use Rattle.og_report_prove.specs.Report.{report_text, is_safe}
-use Rattle.og_report_prove.specs.Told.{AreTold}
+use Rattle.og_report_prove.specs.Told.{IsAllowed, AreTold}
 use Rattle.og_report_prove.specs.declared.telling.Told.{Told}
 use Rattle.og_report_prove.specs.Json.{json_text}
 use Rattle.og_report_text.specs.Origins.{Rows}
@@ -23,11 +23,12 @@ told_in false names text source rows cs ts = report_text names source rows cs ts
 abbrev pub told_status : List Told → ℕ
 told_status ts = if is_safe ts then 0 else 1
 
--- what is told of each condition, all of which is so
+-- what is told of each condition, all of which is so; and where it is told where processes stand, the assertion at each place is true
 pub record IsToldText (json : Bool) (o : Program) (text source : List ℕ) (rows : Rows) (answer : Answer) : Type 0 where
   pub few : length (conditions o) ≤ condition_limit
   pub told : List Told
   pub each : AreTold o (conditions o) told
+  pub allowed : All (IsAllowed o) told
   pub says : Says (told_in json o.names text source rows (conditions o) told) (told_status told) answer
 
 -- that text, or the line that says that there are too many conditions

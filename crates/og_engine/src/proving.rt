@@ -1,6 +1,6 @@
 //! The answer of the command that searches, judges and says what is wrong.
 
-ghost use Rattle.std.specs.Prelude.{◌≡◌, ◌<◌, ◌≤◌, ◌^◌, length, map, true, false, None, IfOk, IfErr, IfSome, MatchOption};
+ghost use Rattle.std.specs.Prelude.{◌≡◌, ◌<◌, ◌≤◌, ◌^◌, length, map, true, false, None, IfOk, IfErr, IfSome, All, MatchOption};
 ghost use Rattle.og_cond.specs.Conditions.{conditions as conditions_of};
 ghost use Rattle.og_cond.specs.Limits.{condition_limit};
 ghost use Rattle.og_cond.specs.Seen.{seen};
@@ -10,7 +10,7 @@ ghost use Rattle.og_judge.specs.NeverStuck.{IsNeverStuckSource};
 ghost use Rattle.og_judge.specs.Proven.{IsProvenSource};
 ghost use Rattle.og_pool.specs.declared.fault.PoolFault.TheVariants.{Spawn};
 ghost use Rattle.og_report_prove.specs.Report.{is_unblocked};
-ghost use Rattle.og_report_prove.specs.Told.{IsTold, AreTold, Follows};
+ghost use Rattle.og_report_prove.specs.Told.{IsTold, IsAllowed, AreTold, Follows};
 ghost use Rattle.og_json.specs.Yes.{SaysUnblocked};
 ghost use Rattle.og_report_text.specs.Told.{Says};
 ghost use Rattle.og_engine.specs.Promised.{Promises};
@@ -42,7 +42,8 @@ pub struct Search {
     pub json: bool,
 }
 
-/// What is told of a condition by the verdict on it; it is open where there is none.
+/// What is told of a condition by the verdict on it, as by `og_report_prove::tell`; it is open where
+/// there is none.
 ///
 /// # Errors
 ///
@@ -57,6 +58,7 @@ pub fn told_by<'a>(
     requires index { index.now ≡ outline.now }
     requires verdict { IfSome verdict (λ v. IsVerdict (seen condition.now) v.now) }
     ensures told { IfOk result (IsTold outline.now (seen condition.now)) }
+    ensures allowed { IfOk result (IsAllowed outline.now) }
     ensures follows { IfOk result (λ t. MatchOption verdict.entry (t ≡ Told.Open) (λ v. Follows v.now t)) }
 {
     match verdict {
@@ -78,6 +80,7 @@ pub fn tell_all<'a>(
 ) -> Result<Vec<Told<'a>>, AllocError>
     requires { AreVerdicts (map seen conditions.now) findings.now }
     ensures told { IfOk result (λ all. AreTold outline.now (map seen conditions.now) all.items) }
+    ensures allowed { IfOk result (λ all. All (IsAllowed outline.now) all.items) }
     ensures each { IfOk result (λ all. length all.items ≡ length conditions.now) }
 {
     let index = Index::new(alloc, outline)?;

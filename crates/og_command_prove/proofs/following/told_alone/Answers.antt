@@ -14,7 +14,7 @@ returns-clause-followed c =
     let runs : c.in_ok-runs.runs.items ≡ replicate (length cs) run.Open = c.in_ok-runs.ensures ∙ ap (λ n. replicate n run.Open) (sym (length-map c.args.conditions.now seen)) in
     record {
       lists = [];
-      each = subst (AreShown o [] cs told) (sym runs) (shown_alone o [] cs told c.in_ok-told.ensures.told);
+      each = subst (AreShown o [] cs told) (sym runs) (shown_alone o [] cs told c.in_ok-told.ensures.told c.in_ok-told.ensures.allowed);
       all = λ e. absurd (true≢false (sym e));
       needed = inl (refl, refl, refl);
       few = omega arith;

@@ -20,4 +20,4 @@ returns-in-Reached c =
 
 pub returns-in-Never : goal.returns-in-Never
 returns-in-Never c =
-    (c.requires.told, subst (IsRun c.args.outline.now (map (λ l. l.items) c.args.lists.now) (seen c.args.condition.now)) c.in-Never.is c.requires.run, tt)
+    (c.requires.told, subst (IsRun c.args.outline.now (map (λ l. l.items) c.args.lists.now) (seen c.args.condition.now)) c.in-Never.is c.requires.run, c.requires.allowed)

@@ -1,8 +1,10 @@
 use Rattle.std.proofs.Common.{◌≡◌, ◌+◌, ◌≤◌, ◌∙◌, [], length, map, drop, refl, ap, sym, subst, rules}
-use Rattle.std.specs.Prelude.{option_map}
+use Rattle.std.specs.Prelude.{All, option_map}
 use Rattle.std.proofs.lemmas.List.{drop_all}
+use Rattle.std.proofs.lemmas.List.Elements.{All-push}
 use Rattle.std.proofs.lemmas.Option.{slice_get-map, slice_get_read}
 use Rattle.og_cond.specs.Seen.{seen}
+use Rattle.og_report_prove.specs.Told.{IsAllowed}
 use Rattle.og_report_prove.proofs.Answered.{MakesAll, all_go_on, all_end}
 use Rattle.og_engine.proofs.AllTold.{verdict_true, dropped}
 use Rattle.og_engine.proofs.proving.tell_all.Goals as goal
@@ -27,6 +29,7 @@ loop-i-preserved c =
     let before = subst (λ l. MakesAll o (map seen list) l told) (dropped seen list i condition at) c.loop-i.invariant.told in
     record {
       told = subst (MakesAll o (map seen list) rest) (sym c.in_ok-push.ensures.items) (all_go_on o (map seen list) rest (seen condition) told c.in_ok-told.told c.in_ok-told.ensures.told before);
+      allowed = subst (All (IsAllowed o)) (sym c.in_ok-push.ensures.items) (All-push (IsAllowed o) told c.in_ok-told.told c.loop-i.invariant.allowed c.in_ok-told.ensures.allowed);
       each = search rules;
     }
 
