@@ -78,6 +78,14 @@ some_condition cs n some few = ⊎_elim
     (λ (h : (length cs ≤ n - 1) × (slice_get cs (n - 1) ≡ None)). let past = h.0 in absurd (omega arith))
     (slice_get_cases cs (n - 1)).1
 
+-- the status by a replay over the condition's facts
+pub is_fresh : (cs : List Condition) (file : CertFile) (n : ℕ) (list : Listed) (proof : Cert) → 0 < n → n ≤ length cs → ((c : Condition) → slice_get cs (n - 1) ≡ Some c → IsFacts (seen c) (Ok list))
+    → certificate_of n (shown file) ≡ Some proof → by_fault (first_fault list.variables list.facts proof) ≡ status_of cs file n
+is_fresh cs file n list proof some few facts there =
+    let its = some_condition cs n some few in
+    let made = facts its.0 its.1 in
+    ap (λ v. by_fault (first_fault v list.facts proof)) made.1 ∙ is_replayed cs file n its.0 proof list.facts its.1 there made.0
+
 -- an answer for each condition, which may be its status alone
 pub statuses_of : (cs : List Condition) (file : CertFile) (v : List Status) → AreAnswers (length cs) (λ n s. s ≡ status_of cs file n) v
     → (i : ℕ) → i < length cs → slice_get v i ≡ Some (status_of cs file (i + 1))
