@@ -1,12 +1,11 @@
 -- What is told of conditions where no run is looked for.
-use Rattle.std.proofs.Common.{◌≡◌, ℕ, ◌<◌, ℤ, List, [], ◌∷◌, length, replicate, Option, Some, Bor, sym, ◌∙◌, subst}
-use Rattle.std.specs.Prelude.{All, slice_get, option_map, IsSomeAnd}
+use Rattle.std.proofs.Common.{◌≡◌, ℕ, ◌<◌, ℤ, List, [], ◌∷◌, length, replicate, Some, subst}
+use Rattle.std.specs.Prelude.{All, IsSomeAnd}
+use Rattle.std.proofs.lemmas.List.Elements.{All-head, All-tail}
 use Rattle.og_typed.specs.Syntax.{Program}
-use Rattle.og_linear.specs.declared.state.State.{State}
 use Rattle.og_cond.specs.Condition.{Condition}
 use Rattle.og_explore.proofs.Seen.{there_is}
 use Rattle.og_find.specs.Found.{IsVerdict}
-use Rattle.og_find.specs.declared.verdict.Verdict.{Verdict}
 use Rattle.og_find.specs.declared.verdict.Verdict.TheVariants as verdicts
 use Rattle.og_finder.specs.Findings.{AreVerdicts, verdict_of}
 use Rattle.og_finder.specs.declared.findings.Findings.{Findings}
@@ -20,7 +19,7 @@ pub shown_alone : (o : Program) (lists : List (List (ℤ × ℤ))) (cs : List Co
 shown_alone o lists [] [] h a = tt
 shown_alone o lists [] (t ∷ ts) h a = absurd h
 shown_alone o lists (c ∷ cs) [] h a = absurd h
-shown_alone o lists (c ∷ cs) (t ∷ ts) h a = ((h.0, tt, a.0), shown_alone o lists cs ts h.1 a.1)
+shown_alone o lists (c ∷ cs) (t ∷ ts) h a = ((h.0, tt, All-head (IsAllowed o) t ts a), shown_alone o lists cs ts h.1 (All-tail (IsAllowed o) t ts a))
 
 -- a state that was found
 pub false_at : (cs : List Condition) (f : Findings) (i : ℕ) (s : List ℤ) → AreVerdicts cs f → i < length cs → verdict_of f i ≡ Some (verdicts.False s) → HasFalse cs

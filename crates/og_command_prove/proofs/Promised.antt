@@ -11,7 +11,7 @@ use Rattle.og_report_text.specs.declared.answer.Answer.{Answer}
 use Rattle.og_expander.specs.Expanded.{IsOutlineText, HoldsBy, HoldsOf}
 use Rattle.og_judge.specs.Proven.{IsProvenSource}
 use Rattle.og_template_words.specs.Front.{is_template}
-use Rattle.og_command_prove.specs.Proving.{IsShownOf, IsOfTexts, IsUnreadReply, IsOfOutline, IsOfMeant, IsRefusedReply, IsOfTemplate, IsReplyBy, IsReply, OnAnswer}
+use Rattle.og_command_prove.specs.Proving.{IsShownOf, IsOfTexts, IsUnreadReply, IsOfOutline, IsOfMeant, IsRefusedReply, IsReplyBy, IsReply, OnAnswer}
 use Rattle.og_command_prove.specs.declared.reply.Reply.{Reply}
 use Rattle.og_command_prove.specs.declared.reply.Reply.TheVariants as replies
 use denote.Ref.{Bor}
