@@ -14,7 +14,7 @@ returns-clause-came g c =
     let words = map (λ w. w.now) c.args.words.now in
     let source = c.in_ok-source.source.items in
     let certs = c.in_ok-source.certs.items in
-    let reply = c.in_ok-reply.reply in
+    let reply = c.in_ok-reply.field-0 in
     let Beside = λ (s k : List ℕ). Follows (IsProvedRunRemark c.args.names.source.now c.args.names.certs.now s k words) (IsWordRemark s None) reply c.beside_proved_run.result in (
       source,
       c.in_ok-source.ensures.source,

@@ -15,9 +15,9 @@ returns-clause-came g c =
       c.in_ok-bytes.bytes.items,
       c.in_ok-bytes.ensures.text,
       (
-        c.in_ok-reply.reply,
-        subst (λ (s : List ℕ). IsRan c.args.erased c.args.limit s words c.in_ok-reply.reply) c.deref.ensures.value c.in_ok-reply.ensures.told,
-        subst (λ (s : List ℕ). Follows (IsRunRemark c.args.source.now s words) (IsWordRemark s None) c.in_ok-reply.reply c.beside_run.result) c.deref-2.ensures.value c.beside_run.ensures,
+        c.in_ok-reply.field-0,
+        subst (λ (s : List ℕ). IsRan c.args.erased c.args.limit s words c.in_ok-reply.field-0) c.deref.ensures.value c.in_ok-reply.ensures.told,
+        subst (λ (s : List ℕ). Follows (IsRunRemark c.args.source.now s words) (IsWordRemark s None) c.in_ok-reply.field-0 c.beside_run.result) c.deref-2.ensures.value c.beside_run.ensures,
       ),
     )
 
