@@ -19,10 +19,14 @@ Spec = collections.namedtuple("Spec", "title definitions owners imports aliases"
 
 
 class Definition:
-    """A definition: its kind, its type in one line, the comment above it, the parameters of the modules around it with their comments, and its own lines."""
+    """A definition of one of the kinds `defined`, `record` and `data`.
 
-    def __init__(self, kind, name, comment, given, type_of):
-        self.kind, self.name, self.comment, self.given = kind, name, " ".join(comment), given
+    Beside its name and type in one line it has the section of the file in which it stands, the comment above it, the
+    parameters of the modules around it with their comments, and its own lines.
+    """
+
+    def __init__(self, kind, name, section, comment, given, type_of):
+        self.kind, self.name, self.section, self.comment, self.given = kind, name, section, " ".join(comment), given
         self.type, self.lines = type_of.strip(), []
 
     def signature(self):
@@ -55,7 +59,7 @@ class Reader:
 
     def __init__(self):
         self.title, self.definitions, self.imports, self.aliases = [], [], {}, {}
-        self.comment, self.blocks, self.last = [], [], None
+        self.section, self.comment, self.blocks, self.last = "", [], [], None
 
     def note_import(self, crate, module, names, alias):
         """Notes from which file a `use` line has its names: None for types that the code declares."""
@@ -74,7 +78,8 @@ class Reader:
         elif typed or listed:
             head = listed or typed
             given = [(names, comment) for _, names, comment in self.blocks if names]
-            self.last = Definition(listed["kind"] if listed else "defined", head["name"], self.comment, given, head["type"])
+            kind = listed["kind"] if listed else "defined"
+            self.last = Definition(kind, head["name"], self.section, self.comment, given, head["type"])
             self.definitions.append(self.last)
         if typed or listed or block and block["given"]:
             self.comment = []
@@ -97,8 +102,10 @@ class Reader:
         found = IMPORT.match(line)
         if found:
             self.note_import(*found.groups())
-        elif line.startswith(("use ", "pub use ", "pub mod ")) or line.lstrip().startswith("-- ----") or not line.strip():
+        elif line.startswith(("use ", "pub use ", "pub mod ")) or not line.strip():
             self.title, self.comment = self.title or self.comment, []
+        elif line.lstrip().startswith("-- ----"):
+            self.section, self.comment = line.lstrip().removeprefix("-- ----").strip(), []
         elif line.lstrip().startswith("--"):
             self.comment.append(line.lstrip().removeprefix("--").strip())
         else:
