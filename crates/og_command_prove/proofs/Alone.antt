@@ -7,8 +7,8 @@ use Rattle.og_cond.specs.Condition.{Condition}
 use Rattle.og_explore.proofs.Seen.{there_is}
 use Rattle.og_find.specs.Found.{IsVerdict}
 use Rattle.og_find.specs.declared.verdict.Verdict.TheVariants as verdicts
-use Rattle.og_finder.specs.Findings.{AreVerdicts, verdict_of}
-use Rattle.og_finder.specs.declared.findings.Findings.{Findings}
+use Rattle.og_find_all.specs.Findings.{AreVerdicts, verdict_of}
+use Rattle.og_find_all.specs.declared.findings.Findings.{Findings}
 use Rattle.og_report_prove.specs.Told.{IsAllowed, AreTold}
 use Rattle.og_report_prove.specs.declared.telling.Told.{Told}
 use Rattle.og_report_runs.specs.declared.witness.Run.TheVariants as run

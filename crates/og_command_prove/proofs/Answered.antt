@@ -14,7 +14,7 @@ use Rattle.og_report_prove.specs.Report.{is_unblocked}
 use Rattle.og_report_prove.specs.Told.{AreTold}
 use Rattle.og_report_prove.specs.declared.telling.Told.{Told}
 use Rattle.og_report_runs.specs.declared.witness.Run.{Run}
-use Rattle.og_engine.specs.Proving.{told_status}
+use Rattle.og_command_check.specs.Proving.{told_status}
 use Rattle.og_report_runs.specs.declared.lines.Explored.{Explored}
 use Rattle.og_command_prove.specs.Shown.{IsShown, AreShown}
 use Rattle.og_command_prove.specs.Followed.{IsFollowed}

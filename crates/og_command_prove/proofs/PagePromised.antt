@@ -5,7 +5,7 @@ use Rattle.og_typed.specs.Erase.{erased}
 use Rattle.og_cond.specs.Condition.{Condition}
 use Rattle.og_cond.specs.Conditions.{conditions}
 use Rattle.og_cond.specs.Limits.{condition_limit}
-use Rattle.og_source.specs.Source.{IsSource}
+use Rattle.og_typed.specs.Source.{IsSource}
 use Rattle.og_theorem.specs.Sound.{IsSound, IsSoundErased}
 use Rattle.og_theorem.specs.NeverStuck.{IsNeverStuck}
 use Rattle.og_report_text.specs.Told.{Says, IsUnread}
@@ -14,13 +14,13 @@ use Rattle.og_judge.specs.Proven.{IsProvenSource}
 use Rattle.og_report_prove.specs.Report.{is_unblocked}
 use Rattle.og_report_prove.specs.Told.{AreTold}
 use Rattle.og_report_prove.specs.declared.telling.Told.{Told}
-use Rattle.og_engine.specs.Proving.{told_status}
+use Rattle.og_command_check.specs.Proving.{told_status}
 use Rattle.og_report_html.specs.Page.{page_text}
 use Rattle.og_report_html.specs.Targets.{AreTargets}
 use Rattle.og_report_html.specs.declared.target.Target.{Target}
 use Rattle.og_command_prove.specs.Showing.{IsPage, IsPageOf, IsShowing}
-use Rattle.og_explorer.specs.declared.exploring.Reply.{Reply}
-use Rattle.og_explorer.specs.declared.exploring.Reply.TheVariants as replies
+use Rattle.og_command_explore.specs.declared.exploring.Reply.{Reply}
+use Rattle.og_command_explore.specs.declared.exploring.Reply.TheVariants as replies
 use Rattle.og_command_prove.specs.Running.{IsPageWithRunsOf, IsShowingRuns, OnAnswer}
 
 pub page_of : (o : Program) (source : List ℕ) (cs : List Condition) (ts : List Told) (before : List ℕ) (beneath : List (List ℕ)) (gs : List Target) (a : Answer) → cs ≡ conditions o → length cs ≤ condition_limit

@@ -3,14 +3,14 @@ use Rattle.std.proofs.Common.{◌≡◌, ◌⊎◌, inl, inr, ℕ, Bool, true, f
 use Rattle.std.specs.BTreeMap.{BTreeMap}
 use Rattle.std.proofs.lemmas.Result.{IfOk-weaker}
 use Rattle.og_typed.specs.Syntax.{Program}
-use Rattle.og_source.specs.Source.{IsSource}
+use Rattle.og_typed.specs.Source.{IsSource}
 use Rattle.og_report_text.specs.Origins.{Rows}
 use Rattle.og_report_text.specs.declared.row.Row.{Row}
 use Rattle.og_report_text.specs.Told.{IsUnread}
 use Rattle.og_report_text.specs.declared.answer.Answer.{Answer}
-use Rattle.og_expander.specs.Expanded.{IsOutlineText, HoldsBy, HoldsOf}
+use Rattle.og_template_outline.specs.Expanded.{IsOutlineText, HoldsBy, HoldsOf}
 use Rattle.og_judge.specs.Proven.{IsProvenSource}
-use Rattle.og_template_words.specs.Front.{is_template}
+use Rattle.og_template.specs.Front.{is_template}
 use Rattle.og_command_prove.specs.Proving.{IsShownOf, IsOfTexts, IsUnreadReply, IsOfOutline, IsOfMeant, IsRefusedReply, IsReplyBy, IsReply, OnAnswer}
 use Rattle.og_command_prove.specs.declared.reply.Reply.{Reply}
 use Rattle.og_command_prove.specs.declared.reply.Reply.TheVariants as replies

@@ -2,15 +2,15 @@
 use Rattle.std.proofs.Common.{◌≡◌, ℕ, Bool, true, false, List, Some, Result, Ok, Err, IfOk, arith}
 use Rattle.std.specs.BTreeMap.{BTreeMap}
 use Rattle.og_typed.specs.Syntax.{Program}
-use Rattle.og_source.specs.Source.{IsSource}
+use Rattle.og_typed.specs.Source.{IsSource}
 use Rattle.og_report_text.specs.declared.row.Row.{Row}
 use Rattle.og_report_text.specs.declared.answer.Answer.{Answer}
 use Rattle.og_report_text.specs.Told.{IsUnread}
-use Rattle.og_expander.specs.Expanded.{IsOutlineText, IsTold}
-use Rattle.og_expander.specs.declared.fault.ExpandFault.{ExpandFault}
-use Rattle.og_engine.specs.Promised.{Promises}
-use Rattle.og_engine.specs.Proving.{IsToldOf}
-use Rattle.og_engine.proofs.Promised.{sound_source, unblocked_source}
+use Rattle.og_template_outline.specs.Expanded.{IsOutlineText, IsTold}
+use Rattle.og_template_outline.specs.declared.fault.ExpandFault.{ExpandFault}
+use Rattle.og_command_check.specs.Promised.{Promises}
+use Rattle.og_command_check.specs.Proving.{IsToldOf}
+use Rattle.og_command_check.proofs.Promised.{sound_source, unblocked_source}
 use Rattle.og_command_prove.specs.Proof.{IsProvingTemplate, WarrantsBy}
 use denote.Ref.{Bor}
 

@@ -2,18 +2,18 @@
 use Rattle.std.specs.Prelude.{◌≡◌, ℕ, ◌⊎◌, List, [], Bool, true, false, Some, Contains, ⊤}
 use Rattle.std.specs.BTreeMap.{BTreeMap}
 use Rattle.og_typed.specs.Syntax.{Program}
-use Rattle.og_source.specs.Source.{IsSource}
+use Rattle.og_typed.specs.Source.{IsSource}
 use Rattle.og_report_text.specs.declared.row.Row.{Row}
 use Rattle.og_report_text.specs.declared.answer.Answer.{Answer}
 use Rattle.og_report_text.specs.Told.{IsUnread}
 use Rattle.og_judge.specs.Proven.{IsProvenSource}
 use Rattle.og_judge.specs.NeverStuck.{IsNeverStuckSource}
-use Rattle.og_json.specs.Yes.{SaysUnblocked}
-use Rattle.og_engine.specs.Proving.{IsToldOf, IsProving}
-use Rattle.og_template_words.specs.Front.{is_template}
-use Rattle.og_expander.specs.Expanded.{IsOutlineText, IsTold, HoldsBy, HoldsOf}
-use Rattle.og_expander.specs.declared.expanding.Reply.{Reply}
-use Rattle.og_expander.specs.declared.expanding.Reply.TheVariants as replies
+use Rattle.og_report_text.specs.Yes.{SaysUnblocked}
+use Rattle.og_command_check.specs.Proving.{IsToldOf, IsProving}
+use Rattle.og_template.specs.Front.{is_template}
+use Rattle.og_template_outline.specs.Expanded.{IsOutlineText, IsTold, HoldsBy, HoldsOf}
+use Rattle.og_template_outline.specs.declared.expanding.Reply.{Reply}
+use Rattle.og_template_outline.specs.declared.expanding.Reply.TheVariants as replies
 use denote.Ref.{Bor}
 
 -- ---- what is answered

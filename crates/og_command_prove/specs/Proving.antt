@@ -5,18 +5,18 @@ use Rattle.og_typed.specs.Syntax.{Program}
 use Rattle.og_cond.specs.Condition.{Condition}
 use Rattle.og_cond.specs.Conditions.{conditions}
 use Rattle.og_cond.specs.Limits.{condition_limit}
-use Rattle.og_source.specs.Source.{IsSource}
+use Rattle.og_typed.specs.Source.{IsSource}
 use Rattle.og_report_text.specs.Origins.{Rows}
 use Rattle.og_report_text.specs.declared.row.Row.{Row}
 use Rattle.og_report_text.specs.Told.{Says, IsUnread}
 use Rattle.og_report_text.specs.declared.answer.Answer.{Answer}
 use Rattle.og_report_text.specs.Told.{HasTooMany}
-use Rattle.og_engine.specs.Proving.{told_status}
-use Rattle.og_expander.specs.Expanded.{IsOutlineText, IsTold}
-use Rattle.og_expander.specs.Words.{IsSplit}
+use Rattle.og_command_check.specs.Proving.{told_status}
+use Rattle.og_template_outline.specs.Expanded.{IsOutlineText, IsTold}
+use Rattle.og_template_outline.specs.Words.{IsSplit}
 use Rattle.og_report_prove.specs.Report.{is_unblocked}
 use Rattle.og_report_prove.specs.declared.telling.Told.{Told}
-use Rattle.og_template_words.specs.Front.{is_template}
+use Rattle.og_template.specs.Front.{is_template}
 use Rattle.og_theorem.specs.Sound.{IsSound, IsSoundErased}
 use Rattle.og_theorem.specs.NeverStuck.{IsNeverStuck}
 use Rattle.og_typed.specs.Erase.{erased}

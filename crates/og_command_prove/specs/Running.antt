@@ -2,12 +2,12 @@
 use Rattle.std.specs.Prelude.{◌⊎◌, ℕ, List, Contains, ⊤}
 use Rattle.og_typed.specs.Syntax.{Program}
 use Rattle.og_cond.specs.Conditions.{conditions}
-use Rattle.og_source.specs.Source.{IsSource}
+use Rattle.og_typed.specs.Source.{IsSource}
 use Rattle.og_report_text.specs.Told.{IsUnread}
 use Rattle.og_report_text.specs.declared.answer.Answer.{Answer}
 use Rattle.og_report_text.specs.Told.{HasTooMany}
-use Rattle.og_explorer.specs.declared.exploring.Reply.{Reply}
-use Rattle.og_explorer.specs.declared.exploring.Reply.TheVariants as replies
+use Rattle.og_command_explore.specs.declared.exploring.Reply.{Reply}
+use Rattle.og_command_explore.specs.declared.exploring.Reply.TheVariants as replies
 use Rattle.og_report_prove.specs.declared.telling.Told.{Told}
 use Rattle.og_report_runs.specs.declared.witness.Run.{Run}
 use Rattle.og_report_runs.specs.Report.{count_reached}

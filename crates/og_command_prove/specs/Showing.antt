@@ -4,11 +4,11 @@ use Rattle.og_typed.specs.Syntax.{Program}
 use Rattle.og_typed.specs.Erase.{erased}
 use Rattle.og_cond.specs.Conditions.{conditions}
 use Rattle.og_cond.specs.Limits.{condition_limit}
-use Rattle.og_source.specs.Source.{IsSource}
+use Rattle.og_typed.specs.Source.{IsSource}
 use Rattle.og_report_text.specs.Told.{Says, IsUnread}
 use Rattle.og_report_text.specs.declared.answer.Answer.{Answer}
 use Rattle.og_report_text.specs.Told.{HasTooMany}
-use Rattle.og_engine.specs.Proving.{told_status}
+use Rattle.og_command_check.specs.Proving.{told_status}
 use Rattle.og_report_prove.specs.Report.{is_unblocked}
 use Rattle.og_report_prove.specs.Told.{IsAllowed, AreTold}
 use Rattle.og_report_prove.specs.declared.telling.Told.{Told}

@@ -4,17 +4,17 @@ ghost use Rattle.std.specs.Prelude.{◌≡◌, ◌<◌, ◌≤◌, true, length,
 ghost use Rattle.og_cond.specs.Limits.{condition_limit};
 ghost use Rattle.og_cond.specs.Seen.{seen};
 ghost use Rattle.og_pool.specs.declared.fault.PoolFault.TheVariants.{Spawn};
-ghost use Rattle.og_finder.specs.Findings.{AreVerdicts};
+ghost use Rattle.og_find_all.specs.Findings.{AreVerdicts};
 ghost use Rattle.og_explore.specs.From.{HaveLength};
 ghost use Rattle.og_command_prove.specs.Followed.{HasFalse, IsFollowed};
 
 use crate::showing::{Shows, show_all};
 use crate::starting::starts;
+use og_command_check::{Search, tell_all};
 use og_cond::Condition;
-use og_engine::{Search, tell_all};
 use og_explore::{Range, gather};
 use og_find::Verdict;
-use og_finder::{Findings, examine_all};
+use og_find_all::{Findings, examine_all};
 use og_pool::{Gate, PoolFault};
 use og_report_runs::{Explored, Run};
 use og_typed::Outline;
@@ -131,7 +131,7 @@ fn by_findings<'a>(
     gathered(alloc, outline, conditions, findings, &lists, limit)
 }
 
-/// What searches tell of the conditions of an outline, as `og_engine::proved`, and of each false one
+/// What searches tell of the conditions of an outline, as `og_command_check::proved`, and of each false one
 /// whether a run gets to a state in which it is false: among at most `limit` moments of the runs from
 /// the starts within the ranges that are given, as in an exploration, and by at most 2,000,000 steps
 /// that are tried (`og_explore::gather`). Where none is given, the starts are one that a search finds

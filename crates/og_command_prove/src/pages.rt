@@ -13,20 +13,19 @@ ghost use Rattle.og_report_text.specs.Told.{Says};
 ghost use Rattle.og_report_html.specs.Page.{page_text};
 ghost use Rattle.og_report_prove.specs.Report.{is_unblocked};
 ghost use Rattle.og_report_prove.specs.Told.{AreTold};
-ghost use Rattle.og_engine.specs.Proving.{told_status};
+ghost use Rattle.og_command_check.specs.Proving.{told_status};
 ghost use Rattle.og_command_prove.specs.Showing.{IsPage, IsPageText, IsPageOf, IsShowing};
 
+use og_command_check::tell_all;
 use og_cond::{Condition, ConditionsError, conditions};
-use og_engine::tell_all;
-use og_finder::examine_all;
+use og_find_all::examine_all;
 use og_io::{Budget, Workers};
 use og_pool::{Gate, PoolFault};
 use og_report_html::{Additions, Target, page, targets};
 use og_report_prove::{Told, is_safe, is_unblocked};
 use og_report_text::{Answer, InputFault};
-use og_source::Source;
 use og_theorem::Proved;
-use og_typed::Outline;
+use og_typed::{Outline, Source};
 use std::alloc::{AllocError, Global};
 use std::sync::Wait;
 use std::thread::Threads;
@@ -156,7 +155,7 @@ fn of_source<G: Gate, H: Threads + Wait + Sync>(
 /// of a refusal. Status 0 where every condition but the last is proved, 1 where one is not, 2 at a
 /// refusal. Status 0 says that every run of the outline is as promised, with its auxiliaries and
 /// without them. The answer is the same for every number of workers. The gate is told of the
-/// searches as by `og_finder::examine_all`.
+/// searches as by `og_find_all::examine_all`.
 ///
 /// # Errors
 ///

@@ -11,15 +11,14 @@ ghost use Rattle.og_command_prove.specs.Running.{IsPageWithRuns, IsPageWithRunsO
 
 use crate::following::{Followed, follow};
 use crate::pages::paged;
+use og_command_check::Search;
+use og_command_explore::{Reply, WordsError, given};
 use og_cond::{Condition, ConditionsError, conditions};
-use og_engine::Search;
 use og_explore::Range;
-use og_explorer::{Reply, WordsError, given};
 use og_pool::{Gate, PoolFault};
 use og_report_html::{Additions, about, told_runs};
 use og_report_text::{Answer, InputFault};
-use og_source::Source;
-use og_typed::Outline;
+use og_typed::{Outline, Source};
 use std::alloc::{AllocError, Global};
 use std::sync::Wait;
 use std::thread::Threads;

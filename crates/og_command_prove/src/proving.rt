@@ -11,15 +11,15 @@ ghost use Rattle.og_pool.specs.declared.fault.PoolFault.TheVariants.{Spawn};
 ghost use Rattle.og_report_text.specs.Told.{Says};
 ghost use Rattle.og_report_prove.specs.Report.{is_unblocked};
 ghost use Rattle.og_report_prove.specs.Told.{AreTold};
-ghost use Rattle.og_engine.specs.Proving.{told_status};
+ghost use Rattle.og_command_check.specs.Proving.{told_status};
 ghost use Rattle.og_command_prove.specs.Proving.{printed, IsShownText, IsShownOf, IsOfTexts};
 
 use crate::following::{Followed, follow};
 use crate::reply::Reply;
+use og_command_check::{Search, Texts};
+use og_command_explore::{WordsError, given};
 use og_cond::{Condition, ConditionsError, conditions};
-use og_engine::{Search, Texts};
 use og_explore::Range;
-use og_explorer::{WordsError, given};
 use og_pool::{Gate, PoolFault};
 use og_report_prove::{is_safe, is_unblocked};
 use og_report_runs::{json, report};
@@ -142,7 +142,7 @@ fn of_outline<G: Gate, H: Threads + Wait + Sync>(
     }
 }
 
-/// What searches tell of the conditions of an outline, as `og_engine::proved_outline` with these
+/// What searches tell of the conditions of an outline, as `og_command_check::proved_outline` with these
 /// texts, and of each false one whether a run gets there, from the starts that the words give, as by
 /// `proved_with_runs`.
 ///

@@ -1,7 +1,7 @@
 //! What comes of proving with runs.
 
-use og_expander::ExpandFault;
 use og_report_text::Answer;
+use og_template_outline::ExpandFault;
 
 /// What comes of proving with runs.
 #[derive(Debug, Drop)]

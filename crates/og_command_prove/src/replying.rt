@@ -3,19 +3,18 @@
 ghost use Rattle.std.specs.Prelude.{◌≡◌, ◌<◌, ◌≤◌, ◌^◌, length, map, true, false, None, IfOk, IfErr};
 ghost use Rattle.og_judge.specs.Proven.{IsProvenSource};
 ghost use Rattle.og_pool.specs.declared.fault.PoolFault.TheVariants.{Spawn};
-ghost use Rattle.og_source.specs.Source.{IsSource};
-ghost use Rattle.og_expander.specs.Expanded.{IsOutlineText, HoldsBy, HoldsOf};
+ghost use Rattle.og_typed.specs.Source.{IsSource};
+ghost use Rattle.og_template_outline.specs.Expanded.{IsOutlineText, HoldsBy, HoldsOf};
 ghost use Rattle.og_command_prove.specs.Proving.{IsOfTexts, IsOfOutline, IsOfMeant, IsOfSplit, IsOfTemplate, IsReply, OnAnswer};
 
 use crate::proving::of_texts;
 use crate::reply::Reply;
-use og_engine::{Search, Texts};
-use og_expander::{Expansion, SplitWords, expand_template, split_words};
+use og_command_check::{Search, Texts};
 use og_pool::{Gate, PoolFault};
 use og_report_text::{Answer, Rows};
-use og_source::Source;
-use og_template_words::is_template;
-use og_typed::Outline;
+use og_template::is_template;
+use og_template_outline::{Expansion, SplitWords, expand_template, split_words};
+use og_typed::{Outline, Source};
 use std::alloc::{AllocError, Global};
 use std::sync::Wait;
 use std::thread::Threads;
@@ -68,7 +67,7 @@ fn of_outline<'a, G: Gate, H: Threads + Wait + Sync>(
 }
 
 // The reply for a template that means this outline.
-#[tactic(auto, using(og_expander::proofs::ReadAgain::outline_text_short))]
+#[tactic(auto, using(og_template_outline::proofs::ReadAgain::outline_text_short))]
 fn of_expanded<'a, G: Gate, H: Threads + Wait + Sync>(
     rt: &H,
     alloc: Global,
@@ -140,7 +139,7 @@ fn of_template<'a, G: Gate, H: Threads + Wait + Sync>(
     of_split(rt, alloc, text, &split, search, limit, gate)
 }
 
-/// What searches tell of the conditions of the outline of a source, as `og_engine::proved`, and of
+/// What searches tell of the conditions of the outline of a source, as `og_command_check::proved`, and of
 /// each false one whether a run gets to a state in which it is false: among at most `limit` moments
 /// of the runs from the starts that the words give, each NAME=INT or NAME=LO..HI, as in an
 /// exploration. Without words the starts are one that a search finds for the precondition, and for

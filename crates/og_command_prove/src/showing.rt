@@ -4,21 +4,20 @@ ghost use Rattle.std.specs.Prelude.{◌≡◌, ◌+◌, true, length, map, IfOk,
 ghost use Rattle.og_typed.specs.Machine.{Moment as Instant};
 ghost use Rattle.og_cond.specs.Seen.{seen};
 ghost use Rattle.og_find.specs.Found.{IsVerdict};
-ghost use Rattle.og_finder.specs.Findings.{AreVerdicts};
+ghost use Rattle.og_find_all.specs.Findings.{AreVerdicts};
 ghost use Rattle.og_explore.specs.Seen.{IsKnown};
 ghost use Rattle.og_explore.specs.From.{IsReachedFrom};
 ghost use Rattle.og_command_prove.specs.Shown.{IsShown, AreShown};
 
 use crate::telling::{Shown, show};
+use og_command_check::told_by;
 use og_cond::Condition;
-use og_engine::told_by;
 use og_explore::{Range, Reach};
 use og_find::Verdict;
-use og_finder::Findings;
-use og_places::Index;
+use og_find_all::Findings;
 use og_report_prove::Told;
 use og_report_runs::Run;
-use og_typed::Outline;
+use og_typed::{Index, Outline};
 use std::alloc::{AllocError, Global};
 
 /// What is told of all conditions, and of the runs, one for one.

@@ -2,24 +2,23 @@
 
 ghost use Rattle.std.specs.Prelude.{◌≡◌, ◌<◌, ◌≤◌, ◌^◌, [], length, map, true, false, Some, Contains, IfOk, IfErr, IfSome};
 ghost use Rattle.og_pool.specs.declared.fault.PoolFault.TheVariants.{Spawn};
-ghost use Rattle.og_source.specs.Source.{IsSource};
+ghost use Rattle.og_typed.specs.Source.{IsSource};
 ghost use Rattle.og_report_text.specs.Told.{IsUnread};
-ghost use Rattle.og_expander.specs.Expanded.{IsExpansion, IsOutlineText};
+ghost use Rattle.og_template_outline.specs.Expanded.{IsExpansion, IsOutlineText};
 ghost use Rattle.og_command_prove.specs.Proof.{IsOfOutline, IsOfTemplate, IsProvingTemplate, IsReply, WarrantsBy, WarrantsReplyBy, WarrantsReply};
 
-use og_engine::{Search, Texts, proved, proved_outline};
-use og_expander::{Expansion, Reply, expand_template};
+use og_command_check::{Search, Texts, proved, proved_outline};
 use og_pool::{Gate, PoolFault};
 use og_report_text::{Answer, Rows};
-use og_source::Source;
-use og_template_words::is_template;
-use og_typed::Outline;
+use og_template::is_template;
+use og_template_outline::{Expansion, Reply, expand_template};
+use og_typed::{Outline, Source};
 use std::alloc::{AllocError, Global};
 use std::sync::Wait;
 use std::thread::Threads;
 
 // The answer for a template that means this outline.
-#[tactic(auto, using(og_expander::proofs::ReadAgain::outline_text_short))]
+#[tactic(auto, using(og_template_outline::proofs::ReadAgain::outline_text_short))]
 fn of_expanded<G: Gate, H: Threads + Wait + Sync>(
     rt: &H,
     alloc: Global,
@@ -121,14 +120,14 @@ fn of_outline<'a, G: Gate, H: Threads + Wait + Sync>(
     }
 }
 
-/// What searches tell of the conditions of an outline, as `og_engine::proved`; or, of a text whose
+/// What searches tell of the conditions of an outline, as `og_command_check::proved`; or, of a text whose
 /// first word is `template`, of the outline that it means where constants have the values that the
 /// words give, each NAME=INT. Places are those of the template then, with the values of the names
 /// that are bound round them, and false conditions that differ in these values alone are told
-/// together; but as JSON they are places of the outline as `og_expander::expanded` prints it.
+/// together; but as JSON they are places of the outline as `og_template_outline::expanded` prints it.
 /// `Refused` holds the line of a fault of a template with status 2, and the fault; `BadValue` the
 /// first word that gives no constant a value. An outline has no constants, so there it is the first
-/// word, once the outline was read. What status 0 says of the runs is as in `og_engine::proved`, of
+/// word, once the outline was read. What status 0 says of the runs is as in `og_command_check::proved`, of
 /// the outline that the template means.
 ///
 /// # Errors

@@ -3,13 +3,13 @@
 ghost use Rattle.std.specs.Prelude.{map, IfOk, OnOk};
 ghost use Rattle.og_explore.specs.From.{HaveLength};
 
+use og_command_explore::{only, ranges};
 use og_explore::Range;
-use og_explorer::{only, ranges};
 use og_find::Verdict;
-use og_finder::Findings;
+use og_find_all::Findings;
 use og_linear::State;
+use og_subst::Values;
 use og_typed::{Basic, Outline, Seq, Stmt};
-use og_values::Values;
 use std::alloc::{AllocError, Global};
 
 // How many starts are taken where no word gives a range.

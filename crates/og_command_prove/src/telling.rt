@@ -12,10 +12,9 @@ ghost use Rattle.og_command_prove.specs.Shown.{IsOfRun, IsShown};
 
 use og_cond::Condition;
 use og_explore::{Range, Reach};
-use og_places::Index;
 use og_report_prove::Told;
 use og_report_runs::{Run, Witness, find_run, told_by_run};
-use og_typed::Outline;
+use og_typed::{Index, Outline};
 use std::alloc::{AllocError, Global};
 
 /// What is told of a condition, and of the runs that get to a state in which it is false.

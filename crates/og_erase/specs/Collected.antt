@@ -1,7 +1,7 @@
 -- The tree of a program: its expressions in collected form, and no place in a source.
 use Rattle.std.specs.Prelude.{ℕ, ℤ, pos, negsuc, List, [], ◌∷◌, ◌++◌, map, get_or, nat_abs, ◌==◌, if◌then◌else◌, option_map}
 use Rattle.og_text.specs.declared.place.Span.{Span}
-use Rattle.og_grammar.specs.Language.{Placed}
+use Rattle.og_parse.specs.Language.{Placed}
 use Rattle.og_parse.specs.declared.raw.Sign.{Sign}
 use Rattle.og_parse.specs.declared.raw.Sign.TheVariants.{Plus, Minus}
 use Rattle.og_parse.specs.declared.raw.RawName.{RawName}

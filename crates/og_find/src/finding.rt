@@ -16,7 +16,7 @@ use og_cond::Condition;
 use og_facts::{FactList, FactsError, facts};
 use og_linear::State;
 use og_search::{Claim, Model, Start, begin, search_among};
-use og_values::Values;
+use og_subst::Values;
 use std::alloc::{AllocError, Global};
 
 /// The most facts among which a certificate of one sum is searched, and not carried over.

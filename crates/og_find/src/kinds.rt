@@ -1,8 +1,8 @@
 //! What conditions have in common that differ in the names of variables.
 
 use og_cond::{Condition, Goal, Hypothesis, Part};
-use og_inequalities::{last_bits, next_mark};
 use og_linear::Form;
+use og_search_rows::{last_bits, next_mark};
 use og_subst::Action;
 use og_typed::Assert;
 

@@ -3,7 +3,7 @@
 use og_cert::Cert;
 use og_cond::Condition;
 use og_facts::{FactList, FactsError, facts};
-use og_symmetry::Original;
+use og_search_symmetry::Original;
 use std::alloc::{AllocError, Global};
 
 /// How many leaders are kept.

@@ -1,8 +1,8 @@
 //! The marks of conditions.
 
 use og_cond::{Condition, Goal, Hypothesis, Part};
-use og_inequalities::{last_bits, next_mark};
 use og_linear::{Form, FormError, Map};
+use og_search_rows::{last_bits, next_mark};
 use og_subst::{Action, ActionMap};
 use og_typed::Assert;
 use std::alloc::{AllocError, Global};

@@ -1,11 +1,11 @@
 //! The facts of a condition as a search takes them.
 
 use crate::truth::NESTING_LIMIT;
-use og_choices::Chains;
 use og_cond::Condition;
 use og_facts::{Atom, Fact, FactList, FactsError, facts};
-use og_inequalities::{Inequality, last_bits, next_mark};
 use og_search::Part;
+use og_search_choices::Chains;
+use og_search_rows::{Inequality, last_bits, next_mark};
 use std::alloc::{AllocError, Global};
 
 // The inequality as a search takes it.

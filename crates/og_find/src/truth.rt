@@ -9,7 +9,7 @@ ghost use Rattle.og_facts.specs.Truth.{fact_true, some_part_true, all_true_at};
 ghost use Rattle.og_facts.specs.Plain.{plain_fact};
 
 use og_facts::{Atom, Fact};
-use og_values::Values;
+use og_subst::Values;
 
 /// A choice that has so many choices round it counts as false.
 pub(crate) const NESTING_LIMIT: u32 = 200;

@@ -1,10 +1,10 @@
 -- From the errors of the parts to the refusal of the whole.
 use Rattle.std.proofs.Common.{◌≡◌, ℕ, ◌≤◌, List, length, Ok, Err, Some, sym, subst}
 use Rattle.og_typed.specs.Syntax.{Program}
-use Rattle.og_source.specs.Source.{IsSource}
-use Rattle.og_source.specs.Refused.{IsNotRead}
-use Rattle.og_source.specs.declared.fault.SourceError.{SourceError}
-use Rattle.og_source.specs.declared.fault.SourceError.TheVariants as errors
+use Rattle.og_typed.specs.Source.{IsSource}
+use Rattle.og_typed.specs.Refused.{IsNotRead}
+use Rattle.og_typed.specs.declared.source_fault.SourceError.{SourceError}
+use Rattle.og_typed.specs.declared.source_fault.SourceError.TheVariants as errors
 use Rattle.og_cond.specs.Conditions.{conditions}
 use Rattle.og_cond.specs.Limits.{condition_limit}
 use Rattle.og_cond.specs.declared.fault.ConditionsError.{ConditionsError}

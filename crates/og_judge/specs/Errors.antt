@@ -1,6 +1,6 @@
 -- The refusal that an error of a lower crate becomes.
-use Rattle.og_source.specs.declared.fault.SourceError.{SourceError}
-use Rattle.og_source.specs.declared.fault.SourceError.TheVariants as source
+use Rattle.og_typed.specs.declared.source_fault.SourceError.{SourceError}
+use Rattle.og_typed.specs.declared.source_fault.SourceError.TheVariants as source
 use Rattle.og_cond.specs.declared.fault.ConditionsError.{ConditionsError}
 use Rattle.og_cond.specs.declared.fault.ConditionsError.TheVariants as conditions
 use Rattle.og_cert_text.specs.declared.fault.CertTextError.{CertTextError}

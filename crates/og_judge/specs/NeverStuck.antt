@@ -2,7 +2,7 @@
 use Rattle.std.specs.Prelude.{List, ℕ}
 use Rattle.og_typed.specs.Syntax.{Program}
 use Rattle.og_typed.specs.Erase.{erased}
-use Rattle.og_source.specs.Source.{IsSource}
+use Rattle.og_typed.specs.Source.{IsSource}
 use Rattle.og_theorem.specs.NeverStuck.{IsNeverStuck}
 
 -- some outline is that of the source, and no run of it gets stuck, with its auxiliaries or without them

@@ -1,7 +1,7 @@
 -- What a safe source promises of every run.
 use Rattle.std.specs.Prelude.{List, ℕ}
 use Rattle.og_typed.specs.Syntax.{Program}
-use Rattle.og_source.specs.Source.{IsSource}
+use Rattle.og_typed.specs.Source.{IsSource}
 use Rattle.og_theorem.specs.Sound.{IsSound, IsSoundErased}
 
 -- some outline is that of the source, and every run of it is as promised, with its auxiliaries and without them

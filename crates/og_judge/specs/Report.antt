@@ -1,8 +1,8 @@
 -- What is reported of a source and a text of certificates: the first fault, or the status of each condition.
 use Rattle.std.specs.Prelude.{ℕ, List}
 use Rattle.og_typed.specs.Syntax.{Program}
-use Rattle.og_source.specs.Source.{IsSource}
-use Rattle.og_source.specs.Refused.{IsSourceFault}
+use Rattle.og_typed.specs.Source.{IsSource}
+use Rattle.og_typed.specs.Refused.{IsSourceFault}
 use Rattle.og_report_text.specs.declared.fault.InputFault.{InputFault}
 use Rattle.og_report_text.specs.declared.fault.InputFault.TheVariants as faults
 use Rattle.og_judge.specs.declared.entry.Entry.{Entry}

@@ -10,7 +10,7 @@ use og_cert_text::CertTextError;
 use og_cond::ConditionsError;
 use og_pool::PoolFault;
 use og_report_text::{Answer, InputFault};
-use og_source::SourceError;
+use og_typed::SourceError;
 use std::alloc::{AllocError, AllocFailed, Global};
 use thiserror::Error;
 

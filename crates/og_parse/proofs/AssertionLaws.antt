@@ -3,11 +3,11 @@ use Rattle.std.proofs.Common.{◌≡◌, ℕ, zero, suc, ◌≤◌, ◌<◌, Boo
 use Rattle.og_text.specs.Kinds.{number_of}
 use Rattle.og_text.specs.declared.token.TokenKind.TheVariants as kinds
 use Rattle.og_text.specs.declared.token.Token.{Token}
-use Rattle.og_grammar.specs.Fronts.{Begins}
-use Rattle.og_grammar.specs.Reading.{Reader, ◌>>=◌, nothing, is_a, or, symbol_at}
-use Rattle.og_grammar.proofs.Laws.{Laws, Starts, Avoids, symbol_some}
-use Rattle.og_grammar.proofs.More.{gives_avoids, symbol_starts, then_starts, either_avoids, map_some, then_some}
-use Rattle.og_grammar.proofs.Bundle.{Reads, Way, open_way, shut_way, no_way, way_reads, way_starts, optional_avoids, shut_closed, starts_also, or_left, or_right, either_starts, with_place_starts, avoids_by, symbol_avoids, gives_reads, symbol_reads, then_reads, next_reads, map_reads, either_reads, separated_reads, with_place_reads, symbol_goes, either_goes}
+use Rattle.og_parse.specs.Fronts.{Begins}
+use Rattle.og_parse.specs.Reading.{Reader, ◌>>=◌, nothing, is_a, or, symbol_at}
+use Rattle.og_parse.proofs.Languages.{Laws, Starts, Avoids, symbol_some}
+use Rattle.og_parse.proofs.More.{gives_avoids, symbol_starts, then_starts, either_avoids, map_some, then_some}
+use Rattle.og_parse.proofs.Bundle.{Reads, Way, open_way, shut_way, no_way, way_reads, way_starts, optional_avoids, shut_closed, starts_also, or_left, or_right, either_starts, with_place_starts, avoids_by, symbol_avoids, gives_reads, symbol_reads, then_reads, next_reads, map_reads, either_reads, separated_reads, with_place_reads, symbol_goes, either_goes}
 use Rattle.og_parse.specs.Trees.{Assertion, Truth, Falsity, Negation, Implication, conjunction, disjunction}
 use Rattle.og_parse.specs.Grammar.{IsComparison, IsUnitWith, IsConjunctionWith, IsDisjunctionWith, IsAssertionWith, openings, IsAssertion, IsNote}
 use Rattle.og_parse.proofs.Productions.{IsTruth, IsFalsity, IsNegation, IsInParens, IsImplied, IsBraced}

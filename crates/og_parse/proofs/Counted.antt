@@ -6,8 +6,8 @@ use Rattle.og_text.specs.Kinds.{number_of}
 use Rattle.og_text.specs.declared.token.TokenKind.{TokenKind}
 use Rattle.og_text.specs.declared.token.TokenKind.TheVariants as kinds
 use Rattle.og_text.specs.declared.token.Token.{Token}
-use Rattle.og_grammar.specs.Language.{Language, Symbol, One, Gives, Never, Then, Either, Allowed, Many, After, Separated, IfSymbol, WithPlace}
-use Rattle.og_grammar.specs.Reading.{is_a}
+use Rattle.og_parse.specs.Language.{Language, Symbol, One, Gives, Never, Then, Either, Allowed, Many, After, Separated, IfSymbol, WithPlace}
+use Rattle.og_parse.specs.Reading.{is_a}
 use Rattle.og_parse.specs.Limits.{begins_statement, closes_note, statements_after}
 use Rattle.og_parse.specs.Reads.{a_stmt}
 use Rattle.og_parse.proofs.Counts.{closed_after, one_if, statements-append}

@@ -6,7 +6,7 @@ use Rattle.og_text.specs.declared.place.Span.{Span}
 use Rattle.og_text.specs.declared.token.TokenKind.{TokenKind}
 use Rattle.og_text.specs.declared.token.TokenKind.TheVariants as kinds
 use Rattle.og_text.specs.declared.token.Token.{Token}
-use Rattle.og_grammar.specs.Language.{Language, Symbol, One, Gives, ◌>>=◌, After, Separated, IfSymbol}
+use Rattle.og_parse.specs.Language.{Language, Symbol, One, Gives, ◌>>=◌, After, Separated, IfSymbol}
 use Rattle.og_parse.specs.declared.raw.RawName.{RawName}
 use Rattle.og_parse.specs.declared.raw.RawAux.{RawAux}
 use Rattle.og_parse.specs.declared.raw.Sign.{Sign}

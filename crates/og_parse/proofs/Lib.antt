@@ -1,3 +1,11 @@
+pub mod Numbered
+pub mod Symbols
+pub mod Languages
+pub mod More
+pub mod Wider
+pub mod Loops
+pub mod Bundle
+pub mod AllTokens
 pub mod Same
 pub mod Productions
 pub mod TermLaws
@@ -10,3 +18,8 @@ pub mod Parsing
 pub mod Only
 pub mod Counted
 pub mod CountedTree
+pub mod Fronts
+pub mod SameFronts
+pub mod SameGrammar
+pub mod SameKinds
+pub mod Those

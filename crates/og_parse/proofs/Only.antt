@@ -3,7 +3,7 @@ use Rattle.std.proofs.Common.{◌≡◌, ℕ, ◌<◌, ◌≤◌, List, [], ◌�
 use Rattle.std.proofs.lemmas.List.{append-nil}
 use Rattle.og_text.specs.declared.place.Span.{Span}
 use Rattle.og_text.specs.declared.token.Token.{Token}
-use Rattle.og_grammar.specs.Fronts.{Begins}
+use Rattle.og_parse.specs.Fronts.{Begins}
 use Rattle.og_parse.specs.declared.fault.ParseFault.{ParseFault}
 use Rattle.og_parse.specs.declared.fault.ParseFault.TheVariants as faults
 use Rattle.og_parse.specs.Trees.{Outline}

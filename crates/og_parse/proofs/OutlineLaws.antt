@@ -2,12 +2,12 @@
 use Rattle.std.proofs.Common.{◌≡◌, ℕ, ◌≤◌, ◌<◌, Bool, true, false, List, [], Ok, refl, arith}
 use Rattle.std.specs.Prelude.{unwrap_or}
 use Rattle.og_text.specs.declared.token.TokenKind.TheVariants as kinds
-use Rattle.og_grammar.specs.Language.{Language, One, Separated}
+use Rattle.og_parse.specs.Language.{Language, One, Separated}
 use Rattle.og_text.specs.declared.token.Token.{Token}
-use Rattle.og_grammar.specs.Reading.{Reader, ◌>>=◌, nothing, is_a, or, symbol_at, if_symbol_at}
-use Rattle.og_grammar.proofs.Laws.{Laws}
-use Rattle.og_grammar.proofs.More.{then_avoids}
-use Rattle.og_grammar.proofs.Bundle.{Reads, is_a_fails, avoids_by, symbol_avoids, then_avoids_both, if_symbol_avoids, symbol_reads, then_reads, next_reads, map_reads, separated_reads, if_symbol_reads}
+use Rattle.og_parse.specs.Reading.{Reader, ◌>>=◌, nothing, is_a, or, symbol_at, if_symbol_at}
+use Rattle.og_parse.proofs.Languages.{Laws}
+use Rattle.og_parse.proofs.More.{then_avoids}
+use Rattle.og_parse.proofs.Bundle.{Reads, is_a_fails, avoids_by, symbol_avoids, then_avoids_both, if_symbol_avoids, symbol_reads, then_reads, next_reads, map_reads, separated_reads, if_symbol_reads}
 use Rattle.og_parse.specs.Trees.{Outline}
 use Rattle.og_parse.specs.Words.{name_of}
 use Rattle.og_parse.specs.Grammar.{IsAux, IsListed, IsSeq, IsMain, IsOutline}

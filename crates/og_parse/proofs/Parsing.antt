@@ -3,14 +3,14 @@ use Rattle.std.proofs.Common.{◌≡◌, ℕ, ◌≤◌, false, List, [], ◌∷
 use Rattle.std.proofs.lemmas.List.{append-nil}
 use Rattle.og_text.specs.declared.place.Span.{Span}
 use Rattle.og_text.specs.declared.token.Token.{Token}
-use Rattle.og_grammar.specs.declared.fault.FaultKind.{FaultKind}
-use Rattle.og_grammar.specs.declared.fault.FaultKind.TheVariants as stops
-use Rattle.og_grammar.specs.declared.fault.Refusal.{Refusal}
-use Rattle.og_grammar.specs.declared.fault.Refusal.TheVariants as refusals
-use Rattle.og_grammar.specs.Fronts.{Begins}
-use Rattle.og_grammar.specs.Gives.{Fails}
-use Rattle.og_grammar.specs.Reading.{whole_at}
-use Rattle.og_grammar.proofs.Whole.{IsStop, whole_found, whole_fault, one_value}
+use Rattle.og_parse.specs.declared.refusal.FaultKind.{FaultKind}
+use Rattle.og_parse.specs.declared.refusal.FaultKind.TheVariants as stops
+use Rattle.og_parse.specs.declared.refusal.Refusal.{Refusal}
+use Rattle.og_parse.specs.declared.refusal.Refusal.TheVariants as refusals
+use Rattle.og_parse.specs.Fronts.{Begins}
+use Rattle.og_parse.specs.Gives.{Fails}
+use Rattle.og_parse.specs.Reading.{whole_at}
+use Rattle.og_parse.proofs.AllTokens.{IsStop, whole_found, whole_fault, one_value}
 use Rattle.og_parse.specs.declared.raw.Raw.{Raw}
 use Rattle.og_parse.specs.declared.fault.ParseFault.TheVariants as faults
 use Rattle.og_parse.specs.declared.fault.ParseError.TheVariants as errors

@@ -1,7 +1,7 @@
 -- Parts of the grammar by names, for what is proved of them.
 use Rattle.std.proofs.Common.{ℕ, List, [], ◌∷◌}
 use Rattle.og_text.specs.declared.token.TokenKind.TheVariants as kinds
-use Rattle.og_grammar.specs.Language.{Language, Placed, After, Word, Map, Before, Between, Separated}
+use Rattle.og_parse.specs.Language.{Language, Placed, After, Word, Map, Before, Between, Separated}
 use Rattle.og_parse.specs.Trees.{Assertion, Truth, Falsity, Negation, Implication, Basic, Skip, Stmt, Simple, Seq}
 use Rattle.og_parse.specs.Grammar.{IsAssertion, IsBasic, IsElement}
 

@@ -1,11 +1,11 @@
 -- Readers that give the same, however their parts are put together.
 use Rattle.std.proofs.Common.{◌≡◌, ℕ, Bool, List, ◌++◌, Result, Ok, Err, refl, sym, ◌∙◌, inl, inr}
 use Rattle.og_text.specs.declared.token.Token.{Token}
-use Rattle.og_grammar.specs.Language.{Language}
-use Rattle.og_grammar.specs.Reading.{Stop, Reader, ◌>>=◌}
-use Rattle.og_grammar.proofs.Laws.{Laws}
-use Rattle.og_grammar.proofs.Wider.{Widens}
-use Rattle.og_grammar.proofs.Bundle.{Reads}
+use Rattle.og_parse.specs.Language.{Language}
+use Rattle.og_parse.specs.Reading.{Stop, Reader, ◌>>=◌}
+use Rattle.og_parse.proofs.Languages.{Laws}
+use Rattle.og_parse.proofs.Wider.{Widens}
+use Rattle.og_parse.proofs.Bundle.{Reads}
 
 pub nested : {A B C : Type 0} (r : Result A Stop) (f : A → Result B Stop) (g : B → Result C Stop) → ((r >>= f) >>= g) ≡ (r >>= λ x. f x >>= g)
 nested (Ok x) f g = refl

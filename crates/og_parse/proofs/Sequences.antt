@@ -2,8 +2,8 @@
 use Rattle.std.proofs.Common.{◌≡◌, ℕ, Bool, true, List, [], ◌∷◌, ◌++◌, Ok, Err, map, refl, sym, ap, ◌∙◌}
 use Rattle.std.proofs.lemmas.List.{map_push}
 use Rattle.og_text.specs.declared.token.Token.{Token}
-use Rattle.og_grammar.specs.Reading.{Outcome, Reader, ◌>>=◌, starts, many_at}
-use Rattle.og_grammar.proofs.Loops.{Shortens, many_step}
+use Rattle.og_parse.specs.Reading.{Outcome, Reader, ◌>>=◌, starts, many_at}
+use Rattle.og_parse.proofs.Loops.{Shortens, many_step}
 use Rattle.og_text.specs.declared.place.Span.{Span}
 use Rattle.og_parse.specs.declared.raw.RawNote.{RawNote}
 use Rattle.og_parse.specs.declared.raw.RawStmt.{RawStmt}

@@ -3,13 +3,13 @@ use Rattle.std.proofs.Common.{◌≡◌, ℕ, zero, suc, ◌≤◌, ◌<◌, Boo
 use Rattle.og_text.specs.Kinds.{number_of}
 use Rattle.og_text.specs.declared.token.TokenKind.TheVariants as kinds
 use Rattle.og_text.specs.declared.token.Token.{Token}
-use Rattle.og_grammar.specs.Language.{Language, Either, Separated, IfSymbol}
-use Rattle.og_grammar.specs.Fronts.{Begins}
-use Rattle.og_grammar.specs.Reading.{Reader, ◌>>=◌, nothing, is_a, or, symbol_at, if_symbol_at}
-use Rattle.og_grammar.proofs.Laws.{Laws, Starts, symbol_some}
-use Rattle.og_grammar.proofs.More.{starts_nothing, starts_or, starts_neither, symbol_starts, then_starts, then_avoids, either_avoids, map_some, then_some}
-use Rattle.og_grammar.proofs.Bundle.{Reads, Way, open_way, shut_way, no_way, way_reads, way_starts, shut_closed, weaken, starts_also, or_left, or_right, or_fails, or_apart, is_a_fails, either_starts, allowed_starts, with_place_starts, avoids_by, symbol_avoids, symbol_reads, then_reads, next_reads, map_reads, either_reads, allowed_reads, many_reads, separated_reads, if_symbol_reads, with_place_reads, symbol_goes, either_goes}
-use Rattle.og_grammar.proofs.Loops.{Shortens, shortens_by}
+use Rattle.og_parse.specs.Language.{Language, Either, Separated, IfSymbol}
+use Rattle.og_parse.specs.Fronts.{Begins}
+use Rattle.og_parse.specs.Reading.{Reader, ◌>>=◌, nothing, is_a, or, symbol_at, if_symbol_at}
+use Rattle.og_parse.proofs.Languages.{Laws, Starts, symbol_some}
+use Rattle.og_parse.proofs.More.{starts_nothing, starts_or, starts_neither, symbol_starts, then_starts, then_avoids, either_avoids, map_some, then_some}
+use Rattle.og_parse.proofs.Bundle.{Reads, Way, open_way, shut_way, no_way, way_reads, way_starts, shut_closed, weaken, starts_also, or_left, or_right, or_fails, or_apart, is_a_fails, either_starts, allowed_starts, with_place_starts, avoids_by, symbol_avoids, symbol_reads, then_reads, next_reads, map_reads, either_reads, allowed_reads, many_reads, separated_reads, if_symbol_reads, with_place_reads, symbol_goes, either_goes}
+use Rattle.og_parse.proofs.Loops.{Shortens, shortens_by}
 use Rattle.og_parse.specs.Trees.{Skip, Assign, Stmt, Simple, While, Await, choice, sequence, Seq}
 use Rattle.og_parse.specs.Grammar.{IsAssignment, IsBasic, IsElement, IsBody, IsAwait, IsBlock, IsIf, IsWhile, IsStmtWith, IsStepWith, IsSeqWith, compounds, IsSeq}
 use Rattle.og_parse.proofs.Productions.{IsSkip, IsSimple, IsRestOfBlock, IsElements}

@@ -4,13 +4,13 @@ use Rattle.og_text.specs.Kinds.{number_of}
 use Rattle.og_text.specs.declared.token.TokenKind.{TokenKind}
 use Rattle.og_text.specs.declared.token.TokenKind.TheVariants as kinds
 use Rattle.og_text.specs.declared.place.Span.{Span}
-use Rattle.og_grammar.specs.Language.{One}
-use Rattle.og_grammar.specs.Fronts.{Begins}
-use Rattle.og_grammar.specs.Reading.{nothing, is_a, or, token_at}
-use Rattle.og_grammar.proofs.Laws.{Starts, Apart, many_avoids}
-use Rattle.og_grammar.proofs.More.{symbol_starts, then_starts, then_avoids, gives_avoids, one_some, one_avoids}
-use Rattle.og_grammar.proofs.Bundle.{Reads, starts_also, or_left, or_right, or_fails, or_apart, is_a_fails, either_starts, if_starts, with_place_starts, one_starts, avoids_by, map_avoids, gives_reads, symbol_reads, one_reads, then_reads, next_reads, map_reads, either_reads, many_reads, if_symbol_reads, with_place_reads}
-use Rattle.og_grammar.proofs.Loops.{Shortens, shortens_by}
+use Rattle.og_parse.specs.Language.{One}
+use Rattle.og_parse.specs.Fronts.{Begins}
+use Rattle.og_parse.specs.Reading.{nothing, is_a, or, token_at}
+use Rattle.og_parse.proofs.Languages.{Starts, Apart, many_avoids}
+use Rattle.og_parse.proofs.More.{symbol_starts, then_starts, then_avoids, gives_avoids, one_some, one_avoids}
+use Rattle.og_parse.proofs.Bundle.{Reads, starts_also, or_left, or_right, or_fails, or_apart, is_a_fails, either_starts, if_starts, with_place_starts, one_starts, avoids_by, map_avoids, gives_reads, symbol_reads, one_reads, then_reads, next_reads, map_reads, either_reads, many_reads, if_symbol_reads, with_place_reads}
+use Rattle.og_parse.proofs.Loops.{Shortens, shortens_by}
 use Rattle.og_parse.specs.declared.raw.RawName.{RawName}
 use Rattle.og_parse.specs.declared.raw.Sign.{Sign}
 use Rattle.og_parse.specs.declared.raw.Sign.TheVariants.{Plus, Minus}

@@ -2,9 +2,9 @@
 use Rattle.std.specs.Prelude.{◌≡◌, ℕ, ◌<◌, ◌≤◌, List, [], ◌∷◌, ◌++◌}
 use Rattle.og_text.specs.declared.place.Span.{Span}
 use Rattle.og_text.specs.declared.token.Token.{Token}
-use Rattle.og_grammar.specs.declared.fault.FaultKind.TheVariants as stops
-use Rattle.og_grammar.specs.declared.fault.Refusal.{Refusal}
-use Rattle.og_grammar.specs.declared.fault.Refusal.TheVariants as refusals
+use Rattle.og_parse.specs.declared.refusal.FaultKind.TheVariants as stops
+use Rattle.og_parse.specs.declared.refusal.Refusal.{Refusal}
+use Rattle.og_parse.specs.declared.refusal.Refusal.TheVariants as refusals
 use Rattle.og_parse.specs.declared.fault.ParseFault.TheVariants as faults
 use Rattle.og_parse.specs.declared.fault.ParseError.{ParseError}
 use Rattle.og_parse.specs.declared.fault.ParseError.TheVariants as errors

@@ -1,7 +1,7 @@
 -- The grammar. A list of tokens stands for a tree where these say so.
 use Rattle.std.specs.Prelude.{ℕ, zero, suc, Bool, true, false, List, [], ◌∷◌, Option, Some, None, unwrap_or}
 use Rattle.og_text.specs.declared.token.TokenKind.TheVariants as kinds
-use Rattle.og_grammar.specs.Language.{Language, Placed, Symbol, One, Gives, ◌>>=◌, Either, Allowed, Many, After, Word, Map, Before, Between, Separated, IfSymbol, WithPlace, Never}
+use Rattle.og_parse.specs.Language.{Language, Placed, Symbol, One, Gives, ◌>>=◌, Either, Allowed, Many, After, Word, Map, Before, Between, Separated, IfSymbol, WithPlace, Never}
 use Rattle.og_parse.specs.declared.raw.RawFactor.TheVariants.{Number, Variable, Product}
 use Rattle.og_parse.specs.Trees.{RawName, RawAux, RawInt, Sign, Plus, Minus, RawFactor, RawTerm, Sum, Assertion, Truth, Falsity, Comparison, Negation, Implication, conjunction, disjunction, Note, Basic, Skip, Assign, Stmt, Simple, While, Await, choice, Step, sequence, Seq, Outline}
 use Rattle.og_parse.specs.Words.{name_of, value_of, sign_of, relation_of}

@@ -1,3 +1,7 @@
+pub mod Language
+pub mod Fronts
+pub mod Reading
+pub mod Gives
 pub mod Trees
 pub mod Counts
 pub mod Parts
@@ -9,3 +13,4 @@ pub mod Faults
 pub mod Parsed
 pub mod Limits
 pub mod Answers
+pub mod Expected

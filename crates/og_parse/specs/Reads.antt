@@ -3,8 +3,8 @@ use Rattle.std.specs.Prelude.{ℕ, zero, suc, Bool, true, false, ◌&&◌, List,
 use Rattle.og_text.specs.declared.token.TokenKind.{TokenKind}
 use Rattle.og_text.specs.declared.token.TokenKind.TheVariants as kinds
 use Rattle.og_text.specs.declared.place.Span.{Span}
-use Rattle.og_grammar.specs.Language.{Placed}
-use Rattle.og_grammar.specs.Reading.{Reader, ◌>>=◌, is_a, or, starts, symbol_at, token_at, shut_at, many_at, after_at, separated_at, if_symbol_at, with_place_at}
+use Rattle.og_parse.specs.Language.{Placed}
+use Rattle.og_parse.specs.Reading.{Reader, ◌>>=◌, is_a, or, starts, symbol_at, token_at, shut_at, many_at, after_at, separated_at, if_symbol_at, with_place_at}
 use Rattle.og_parse.specs.declared.raw.RawName.{RawName}
 use Rattle.og_parse.specs.declared.raw.RawAux.{RawAux}
 use Rattle.og_parse.specs.declared.raw.RawInt.{RawInt}

@@ -1,7 +1,7 @@
 -- The tree of what lies in memory.
 use Rattle.std.specs.Prelude.{List, [], ◌∷◌, map, option_map}
 use Rattle.og_text.specs.declared.place.Span.{Span}
-use Rattle.og_grammar.specs.Language.{Placed}
+use Rattle.og_parse.specs.Language.{Placed}
 use Rattle.og_parse.specs.declared.raw.RawSum.{RawSum}
 use Rattle.og_parse.specs.declared.raw.RawBasic.{RawBasic}
 use Rattle.og_parse.specs.declared.raw.RawBasic.TheVariants as basics

@@ -1,7 +1,7 @@
 -- Trees, without where they lie in memory.
 use Rattle.std.specs.Prelude.{List, [], ◌∷◌, Option, Some, None}
 use Rattle.og_text.specs.declared.place.Span.{Span}
-use Rattle.og_grammar.specs.Language.{Placed}
+use Rattle.og_parse.specs.Language.{Placed}
 pub use Rattle.og_parse.specs.declared.raw.RawName.{RawName}
 pub use Rattle.og_parse.specs.declared.raw.RawAux.{RawAux}
 pub use Rattle.og_parse.specs.declared.raw.RawInt.{RawInt}

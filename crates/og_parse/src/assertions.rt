@@ -2,15 +2,15 @@
 
 ghost use Rattle.std.specs.Prelude.{◌≡◌, map, IfOk};
 ghost use Rattle.og_text.specs.declared.token.TokenKind.TheVariants.{Arrow};
-ghost use Rattle.og_grammar.specs.Gives.{IsRead};
-ghost use Rattle.og_grammar.specs.Reading.{after_at};
+ghost use Rattle.og_parse.specs.Gives.{IsRead};
+ghost use Rattle.og_parse.specs.Reading.{after_at};
 ghost use Rattle.og_parse.specs.Trees.{Implication, conjunction, disjunction};
 ghost use Rattle.og_parse.specs.TreeOf.{assertion_of, note_of};
 ghost use Rattle.og_parse.specs.Reads.{opens, negation_by, in_parens_by, unit_by, units_by, conjunction_by, conjunctions_by, disjunction_by, assertion_at, test_at, note_at};
 
 use crate::raw::{RawAssert, RawNote};
 use crate::sum::comparison;
-use og_grammar::{Cursor, FaultKind, Refusal};
+use crate::{Cursor, FaultKind, Refusal};
 use og_text::TokenKind;
 use std::alloc::{AllocError, Global};
 

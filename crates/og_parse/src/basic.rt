@@ -1,14 +1,14 @@
 //! Reading statements without parts: `skip`, assignments, and the bodies of awaits.
 
 ghost use Rattle.std.specs.Prelude.{◌≡◌, map};
-ghost use Rattle.og_grammar.specs.Gives.{IsRead};
+ghost use Rattle.og_parse.specs.Gives.{IsRead};
 ghost use Rattle.og_parse.specs.TreeOf.{basic_of, element_of};
 ghost use Rattle.og_parse.specs.Reads.{basic_at, element_at, separated_elements_at, body_at};
 
 use crate::raw::{RawBasic, RawElement};
 use crate::sum::sum;
 use crate::word::name;
-use og_grammar::{Cursor, Refusal};
+use crate::{Cursor, Refusal};
 use og_text::TokenKind;
 use std::alloc::Global;
 

@@ -2,8 +2,8 @@
 
 ghost use Rattle.std.specs.Prelude.{◌≡◌, option_map, unwrap_or, []};
 ghost use Rattle.og_text.specs.declared.token.TokenKind.TheVariants.{Var, Aux};
-ghost use Rattle.og_grammar.specs.Gives.{IsRead};
-ghost use Rattle.og_grammar.specs.Reading.{if_symbol_at, whole_at};
+ghost use Rattle.og_parse.specs.Gives.{IsRead};
+ghost use Rattle.og_parse.specs.Reading.{if_symbol_at, whole_at};
 ghost use Rattle.og_parse.specs.TreeOf.{front_of, back_of, note_of, seq_of, seqs_of, tree_of};
 ghost use Rattle.og_parse.specs.Parts.{joined};
 ghost use Rattle.og_parse.specs.Reads.{aux_at, names_at, auxes_at, listed_by, seq_at, main_at, processes_at, declarations_at, opening_at, front_at, cobegin_at, closing_at, back_at, outline_at};
@@ -13,7 +13,7 @@ use crate::raw::{Raw, RawAux, RawName, RawNote, RawProcesses, RawSeq};
 use crate::statements::{rest_of_block, sequence};
 use crate::sum::int;
 use crate::word::name;
-use og_grammar::{Cursor, FaultKind, Refusal};
+use crate::{Cursor, FaultKind, Refusal};
 use og_text::{Span, TokenKind};
 use std::alloc::Global;
 

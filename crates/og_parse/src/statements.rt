@@ -2,8 +2,8 @@
 
 ghost use Rattle.std.specs.Prelude.{◌≡◌, option_map, map, ◌++◌, ◌∷◌, [], IfOk};
 ghost use Rattle.og_text.specs.declared.token.TokenKind.TheVariants.{Else};
-ghost use Rattle.og_grammar.specs.Gives.{IsRead};
-ghost use Rattle.og_grammar.specs.Reading.{starts, if_symbol_at};
+ghost use Rattle.og_parse.specs.Gives.{IsRead};
+ghost use Rattle.og_parse.specs.Reading.{starts, if_symbol_at};
 ghost use Rattle.og_parse.specs.Parts.{step_of};
 ghost use Rattle.og_parse.specs.Trees.{Simple, While, choice};
 ghost use Rattle.og_parse.specs.TreeOf.{assertion_of, basic_of, item_of, item_of_step, stmt_of, seq_of, note_of};
@@ -12,7 +12,7 @@ ghost use Rattle.og_parse.specs.Reads.{a_stmt, await_at, rest_of_block_by, block
 use crate::assertions::{note, test};
 use crate::basic::{basic, body};
 use crate::raw::{RawAssert, RawBasic, RawItem, RawNote, RawSeq, RawStmt};
-use og_grammar::{Cursor, FaultKind, Refusal};
+use crate::{Cursor, FaultKind, Refusal};
 use og_text::{Span, TokenKind};
 use std::alloc::{AllocError, Global};
 

@@ -1,13 +1,13 @@
 //! Reading sums, initial values and comparisons.
 
 ghost use Rattle.std.specs.Prelude.{◌≡◌, Ok};
-ghost use Rattle.og_grammar.specs.Gives.{IsRead, OnMemory};
+ghost use Rattle.og_parse.specs.Gives.{IsRead, OnMemory};
 ghost use Rattle.og_parse.specs.TreeOf.{sum_of, assertion_of};
 ghost use Rattle.og_parse.specs.Reads.{leading_at, product_at, factor_at, term_after_at, terms_at, sum_at, int_at, comparison_at};
 
 use crate::raw::{RawAssert, RawFactor, RawInt, RawSum, RawTerm, Sign};
 use crate::word::{is_at_name, is_at_sign, name, number, relation, sign};
-use og_grammar::{Cursor, Refusal};
+use crate::{Cursor, Refusal};
 use og_text::TokenKind;
 use std::alloc::Global;
 

@@ -14,7 +14,7 @@ ghost use Rattle.og_parse.specs.Answers.{IsExcess, error_of, excess_error};
 use crate::fault::{ParseError, ParseFault};
 use crate::outline::whole;
 use crate::raw::Raw;
-use og_grammar::{Cursor, FaultKind, Refusal};
+use crate::{Cursor, FaultKind, Refusal};
 use og_text::{Span, Token, TokenKind};
 use std::alloc::Global;
 

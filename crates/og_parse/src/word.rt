@@ -1,13 +1,13 @@
 //! Reading tokens that have a value.
 
 ghost use Rattle.std.specs.Prelude.{◌≡◌, IfOk};
-ghost use Rattle.og_grammar.specs.Gives.{IsRead, OnMemory};
-ghost use Rattle.og_grammar.specs.Reading.{starts, token_at};
+ghost use Rattle.og_parse.specs.Gives.{IsRead, OnMemory};
+ghost use Rattle.og_parse.specs.Reading.{starts, token_at};
 ghost use Rattle.og_parse.specs.Words.{name_of, value_of, sign_of, relation_of};
 ghost use Rattle.og_parse.specs.Reads.{a_name, a_sign};
 
 use crate::raw::{RawName, Relation, Sign};
-use og_grammar::{Cursor, FaultKind, Refusal};
+use crate::{Cursor, FaultKind, Refusal};
 use og_text::{Name, Span, TokenKind};
 use std::alloc::{AllocError, Global};
 

@@ -1,2 +1,7 @@
+pub mod Zips
+pub mod Faults
+pub mod Slots
+pub mod Steps
+pub mod Telling
 pub mod Statuses
 pub mod Serving

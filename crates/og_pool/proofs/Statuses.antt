@@ -13,7 +13,7 @@ use Rattle.og_cert_text.specs.Files.{certificate_of}
 use Rattle.og_cert_text.specs.Shown.{shown}
 use Rattle.og_cert_text.specs.declared.file.CertFile.{CertFile}
 use Rattle.og_cert.specs.Faults.{first_fault}
-use Rattle.og_draws.specs.Answers.{AreAnswers}
+use Rattle.og_pool.specs.Answers.{AreAnswers}
 use Rattle.og_pool.specs.declared.status.Status.{Status}
 use Rattle.og_pool.specs.declared.status.Status.TheVariants as status
 use Rattle.og_pool.specs.Status.{by_fault, by_facts}

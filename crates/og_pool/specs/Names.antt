@@ -2,8 +2,8 @@
 use Rattle.std.specs.Prelude.{ℕ, List, Option, Some, None, codes}
 use Rattle.og_pool.specs.declared.fault.PoolFault.{PoolFault}
 use Rattle.og_pool.specs.declared.fault.PoolFault.TheVariants as faults
-use Rattle.og_threads.specs.declared.fault.ThreadFault.{ThreadFault}
-use Rattle.og_threads.specs.declared.fault.ThreadFault.TheVariants as threads
+use Rattle.og_pool.specs.declared.thread_fault.ThreadFault.{ThreadFault}
+use Rattle.og_pool.specs.declared.thread_fault.ThreadFault.TheVariants as threads
 
 -- want of memory has no number
 abbrev pub number_of_fault : PoolFault → Option ℕ

@@ -4,7 +4,7 @@ ghost use Rattle.std.specs.Prelude.{◌≡◌};
 ghost use Rattle.og_pool.specs.Names.{number_of_fault, name_of_fault, fault_of_threads};
 ghost use Rattle.og_pool.specs.declared.fault.PoolFault.TheVariants.{Memory};
 
-use og_threads::ThreadFault;
+use crate::ThreadFault;
 use std::alloc::AllocError;
 use thiserror::Error;
 

@@ -2,7 +2,7 @@
 //! the hash.
 
 use og_facts::{Atom, Fact};
-use og_inequalities::{last_bits, next_mark};
+use og_search_rows::{last_bits, next_mark};
 
 // The mark of a list with an inequality more.
 fn mark_with_atom(mark: u64, atom: &Atom) -> u64 {

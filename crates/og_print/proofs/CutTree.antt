@@ -6,7 +6,7 @@ use Rattle.std.proofs.lemmas.Bool.Decides.{nat_tests}
 use Rattle.og_text.specs.Lexemes.{is_white, is_letter, is_digit, Each, IsWord, IsNumber}
 use Rattle.og_text.specs.declared.token.TokenKind.{TokenKind}
 use Rattle.og_text.specs.declared.token.TokenKind.TheVariants as kinds
-use Rattle.og_grammar.specs.Language.{Placed}
+use Rattle.og_parse.specs.Language.{Placed}
 use Rattle.og_parse.specs.declared.raw.RawName.{RawName}
 use Rattle.og_parse.specs.declared.raw.RawAux.{RawAux}
 use Rattle.og_parse.specs.declared.raw.Sign.{Sign}

@@ -6,7 +6,7 @@ use Rattle.og_text.specs.declared.place.Span.{Span}
 use Rattle.og_text.specs.declared.token.TokenKind.{TokenKind}
 use Rattle.og_text.specs.declared.token.TokenKind.TheVariants as kinds
 use Rattle.og_text.specs.declared.token.Token.{Token}
-use Rattle.og_grammar.specs.Language.{Language, Symbol, One, Gives, Then, Either, Many, After, Separated, IfSymbol, WithPlace, Placed, first_place}
+use Rattle.og_parse.specs.Language.{Language, Symbol, One, Gives, Then, Either, Many, After, Separated, IfSymbol, WithPlace, Placed, first_place}
 use Rattle.og_print.specs.Plain.{nowhere, placed}
 use Rattle.og_print.specs.Print.{kinds_of}
 

@@ -6,7 +6,7 @@ use Rattle.std.proofs.lemmas.Bool.{cases_lt}
 use Rattle.og_text.specs.declared.token.TokenKind.{TokenKind}
 use Rattle.og_text.specs.declared.token.TokenKind.TheVariants as kinds
 use Rattle.og_text.specs.declared.token.Token.{Token}
-use Rattle.og_grammar.specs.Language.{Language}
+use Rattle.og_parse.specs.Language.{Language}
 use Rattle.og_parse.specs.declared.raw.Relation.{Relation}
 use Rattle.og_parse.specs.Trees.{Sum, Assertion, Assertions, Truth, Falsity, Comparison, Negation, Conjunction, Disjunction, Implication, listed, conjunction, disjunction}
 use Rattle.og_parse.specs.Grammar.{Openings, openings, IsComparison, IsUnitWith, IsConjunctionWith, IsDisjunctionWith, IsAssertionWith}

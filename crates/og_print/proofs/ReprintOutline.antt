@@ -5,7 +5,7 @@ use Rattle.og_text.specs.declared.place.Span.{Span}
 use Rattle.og_text.specs.declared.token.TokenKind.{TokenKind}
 use Rattle.og_text.specs.declared.token.TokenKind.TheVariants as kinds
 use Rattle.og_text.specs.declared.token.Token.{Token}
-use Rattle.og_grammar.specs.Language.{Language, One, IfSymbol, Separated}
+use Rattle.og_parse.specs.Language.{Language, One, IfSymbol, Separated}
 use Rattle.og_parse.specs.declared.raw.RawName.{RawName}
 use Rattle.og_parse.specs.declared.raw.RawInt.{RawInt}
 use Rattle.og_parse.specs.declared.raw.RawAux.{RawAux}

@@ -4,7 +4,7 @@ use Rattle.og_text.specs.declared.place.Span.{Span}
 use Rattle.og_text.specs.declared.token.TokenKind.{TokenKind}
 use Rattle.og_text.specs.declared.token.TokenKind.TheVariants as kinds
 use Rattle.og_text.specs.declared.token.Token.{Token}
-use Rattle.og_grammar.specs.Language.{Placed, One}
+use Rattle.og_parse.specs.Language.{Placed, One}
 use Rattle.og_parse.specs.declared.raw.RawName.{RawName}
 use Rattle.og_parse.specs.declared.raw.RawInt.{RawInt}
 use Rattle.og_parse.specs.declared.raw.Sign.{Sign}

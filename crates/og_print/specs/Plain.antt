@@ -1,7 +1,7 @@
 -- Trees without their places.
 use Rattle.std.specs.Prelude.{map, option_map}
 use Rattle.og_text.specs.declared.place.Span.{Span}
-use Rattle.og_grammar.specs.Language.{Placed}
+use Rattle.og_parse.specs.Language.{Placed}
 use Rattle.og_parse.specs.declared.raw.RawName.{RawName}
 use Rattle.og_parse.specs.declared.raw.RawInt.{RawInt}
 use Rattle.og_parse.specs.declared.raw.RawAux.{RawAux}

@@ -3,29 +3,29 @@ use Rattle.std.proofs.Common.{◌≡◌, inl, inr, ℕ, List, Bool, true, false,
 use Rattle.std.specs.Prelude.{⊤}
 use Rattle.std.specs.Borrow.{Bor}
 use Rattle.og_report_text.specs.declared.answer.Answer.{Answer}
-use Rattle.og_engine.proofs.Promised.{written_text, wrote_unblocked}
-use Rattle.og_expander.specs.declared.expanding.Reply.{Reply as Proving}
-use Rattle.og_expander.specs.declared.expanding.Reply.TheVariants as provings
+use Rattle.og_command_check.proofs.Promised.{written_text, wrote_unblocked}
+use Rattle.og_template_outline.specs.declared.expanding.Reply.{Reply as Proving}
+use Rattle.og_template_outline.specs.declared.expanding.Reply.TheVariants as provings
 use Rattle.og_command_prove.specs.Proof.{IsProvenText, WarrantsReply, WarrantsText}
-use Rattle.og_json.specs.Yes.{SaysUnblocked}
-use Rattle.og_template_words.specs.Front.{is_template}
-use Rattle.og_running.proofs.Answering.{run_proven}
-use Rattle.og_running.specs.declared.reply.Reply.{Reply}
-use Rattle.og_running.specs.declared.reply.Reply.TheVariants as replies
-use Rattle.og_running.specs.Running.{IsRanProved}
+use Rattle.og_report_text.specs.Yes.{SaysUnblocked}
+use Rattle.og_template.specs.Front.{is_template}
+use Rattle.og_command_run.proofs.Answering.{run_proven}
+use Rattle.og_command_run.specs.declared.reply.Reply.{Reply}
+use Rattle.og_command_run.specs.declared.reply.Reply.TheVariants as replies
+use Rattle.og_command_run.specs.Running.{IsRanProved}
 use Rattle.og_judge.specs.Proven.{IsProvenSource}
-use Rattle.og_remark.specs.Starting.{IsProvedRunRemark}
-use Rattle.og_explorer.specs.declared.exploring.Reply.{Reply as Exploring}
-use Rattle.og_explorer.specs.declared.exploring.Reply.TheVariants as explorings
+use Rattle.og_report_refusal.specs.Starting.{IsProvedRunRemark}
+use Rattle.og_command_explore.specs.declared.exploring.Reply.{Reply as Exploring}
+use Rattle.og_command_explore.specs.declared.exploring.Reply.TheVariants as explorings
 use Rattle.og_command_prove.specs.Proving as proving
 use Rattle.og_command_prove.specs.declared.reply.Reply.{Reply as Reaching}
 use Rattle.og_command_prove.specs.declared.reply.Reply.TheVariants as reachings
 use Rattle.og_command_prove.proofs.Promised.{reply_proven}
 use Rattle.og_command_prove.proofs.PagePromised.{shown_proven, shown_runs_proven}
 use Rattle.og_command_prove.specs.Running.{IsShowingRuns}
-use Rattle.og_remark.specs.Remarks.{IsConditionsRemark}
-use Rattle.og_remark.specs.Values.{IsValueRemark}
-use Rattle.og_remark.specs.declared.values.Gives.TheVariants as gives
+use Rattle.og_report_refusal.specs.Remarks.{IsConditionsRemark}
+use Rattle.og_report_refusal.specs.Values.{IsValueRemark}
+use Rattle.og_report_refusal.specs.declared.values.Gives.TheVariants as gives
 use Rattle.og_words.specs.declared.job.Job.{Job}
 use Rattle.og_words.specs.declared.job.Job.TheVariants as jobs
 use Rattle.og_program.specs.Served.{Remarks, IsExpansionNote, OnTold, OnBad, TellsMade, Comes, Does, EndsJob, IsWordRemark, Follows, FollowsExploring, FollowsProving, FollowsRuns, TellsRan, TellsProved, TellsProvedBy, IsProvenIn, IsNeverStuckIn}

@@ -2,8 +2,8 @@
 use Rattle.std.proofs.Common.{◌≡◌, inl, inr, ℕ, List, Option, Some, None, Vec}
 use Rattle.std.specs.Prelude.{IfSome}
 use Rattle.std.specs.Global.{Global}
-use Rattle.og_remark.specs.Values.{schedule_text, reason_line, IsValueRemark}
-use Rattle.og_remark.specs.declared.values.Gives.TheVariants as gives
+use Rattle.og_report_refusal.specs.Values.{schedule_text, reason_line, IsValueRemark}
+use Rattle.og_report_refusal.specs.declared.values.Gives.TheVariants as gives
 use Rattle.og_program.specs.Served.{IsWordRemark}
 use denote.Ref.{Bor}
 

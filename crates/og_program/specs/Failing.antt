@@ -2,7 +2,7 @@
 use Rattle.std.specs.Prelude.{◌≡◌, ◌⊎◌, ℕ, Bool, true, false, List, [], codes, Result, Ok, Err, ⊤}
 use Rattle.og_io.specs.declared.fault.WriteFault.TheVariants as writes
 use Rattle.og_report_text.specs.Places.{◌&◌}
-use Rattle.og_advice.specs.Names.{shown_name}
+use Rattle.og_report_refusal.specs.Names.{shown_name}
 use Rattle.og_io.specs.declared.fault.OutputFault.{OutputFault}
 use Rattle.og_io.specs.declared.fault.OutputFault.TheVariants as outputs
 use Rattle.og_pool.specs.declared.fault.PoolFault.{PoolFault}

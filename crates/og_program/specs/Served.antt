@@ -3,25 +3,25 @@ use Rattle.std.specs.Prelude.{◌≡◌, ◌≢◌, ◌⊎◌, ◌<◌, ℕ, Boo
 use Rattle.std.specs.Borrow.{Bor}
 use Rattle.std.specs.Io.KnownBytes.{Appends, Keeps}
 use Rattle.og_report_text.specs.declared.answer.Answer.{Answer}
-use Rattle.og_engine.specs.Answers.{IsChecked}
-use Rattle.og_engine.specs.NeverStuck.{HasNeverStuckSource}
-use Rattle.og_engine.specs.Proven.{HasProvenSource}
-use Rattle.og_engine.specs.Commands.{IsErased}
-use Rattle.og_engine.specs.Inputs.{source_of, certs_of, joined_of, Reads}
-use Rattle.og_engine.specs.Making.{IsFound, IsMigrated}
-use Rattle.og_engine.specs.declared.making.FindReply.{FindReply}
-use Rattle.og_engine.specs.declared.making.FindReply.TheVariants as finds
-use Rattle.og_engine.specs.declared.making.LongText.{LongText}
+use Rattle.og_command_check.specs.Answers.{IsChecked}
+use Rattle.og_command_check.specs.NeverStuck.{HasNeverStuckSource}
+use Rattle.og_command_check.specs.Proven.{HasProvenSource}
+use Rattle.og_command_check.specs.Commands.{IsErased}
+use Rattle.og_command_check.specs.Inputs.{source_of, certs_of, joined_of, Reads}
+use Rattle.og_command_check.specs.Making.{IsFound, IsMigrated}
+use Rattle.og_command_check.specs.declared.making.FindReply.{FindReply}
+use Rattle.og_command_check.specs.declared.making.FindReply.TheVariants as finds
+use Rattle.og_command_check.specs.declared.making.LongText.{LongText}
 use Rattle.og_io.specs.Written.{AppendsFront}
-use Rattle.og_engine.specs.Warrants.{Warrants}
-use Rattle.og_engine.specs.Wrote.{Wrote}
-use Rattle.og_expander.specs.Expanded as expanding
-use Rattle.og_expander.specs.declared.fault.ExpandFault.{ExpandFault}
-use Rattle.og_expander.specs.declared.expanding.Reply.{Reply as Expanding}
-use Rattle.og_expander.specs.declared.expanding.Reply.TheVariants as expandings
-use Rattle.og_explorer.specs.Explored.{IsReply}
-use Rattle.og_explorer.specs.declared.exploring.Reply.{Reply as Exploring}
-use Rattle.og_explorer.specs.declared.exploring.Reply.TheVariants as explorings
+use Rattle.og_command_check.specs.Warrants.{Warrants}
+use Rattle.og_command_check.specs.Wrote.{Wrote}
+use Rattle.og_template_outline.specs.Expanded as expanding
+use Rattle.og_template_outline.specs.declared.fault.ExpandFault.{ExpandFault}
+use Rattle.og_template_outline.specs.declared.expanding.Reply.{Reply as Expanding}
+use Rattle.og_template_outline.specs.declared.expanding.Reply.TheVariants as expandings
+use Rattle.og_command_explore.specs.Explored.{IsReply}
+use Rattle.og_command_explore.specs.declared.exploring.Reply.{Reply as Exploring}
+use Rattle.og_command_explore.specs.declared.exploring.Reply.TheVariants as explorings
 use Rattle.og_find.specs.declared.counting.Missing.{Missing}
 use Rattle.og_io.specs.Joined.{IsSplit}
 use Rattle.og_judge.specs.Proven.{IsProvenSource}
@@ -31,28 +31,28 @@ use Rattle.og_report_conditions.specs.declared.choosing.Reply.{Reply as Listing}
 use Rattle.og_report_conditions.specs.declared.choosing.Reply.TheVariants as listings
 use Rattle.og_report_conditions.specs.declared.form.Form.{Form}
 use Rattle.og_report_conditions.specs.declared.form.Form.TheVariants as forms
-use Rattle.og_notes.specs.Noted.{IsNoted}
+use Rattle.og_command_notes.specs.Noted.{IsNoted}
 use Rattle.og_command_prove.specs.Proof as proof
-use Rattle.og_remark.specs.Expansion.{IsExpansionRemark}
-use Rattle.og_remark.specs.Missing.{missing_text, long_text, IsMissingRemark}
+use Rattle.og_report_refusal.specs.Expansion.{IsExpansionRemark}
+use Rattle.og_report_refusal.specs.Missing.{missing_text, long_text, IsMissingRemark}
 use Rattle.og_report_text.specs.Told.{Says}
-use Rattle.og_remark.specs.Remarks.{IsSourceRemark, IsConditionsRemark, IsTooManyRemark, IsCheckRemark, IsCertificatesRemark}
-use Rattle.og_remark.specs.Starting.{IsRunRemark, IsProvedRunRemark}
-use Rattle.og_remark.specs.Values.{schedule_text, reason_line, IsValueRemark}
-use Rattle.og_remark.specs.declared.values.Gives.TheVariants as gives
+use Rattle.og_report_refusal.specs.Remarks.{IsSourceRemark, IsConditionsRemark, IsTooManyRemark, IsCheckRemark, IsCertificatesRemark}
+use Rattle.og_report_refusal.specs.Starting.{IsRunRemark, IsProvedRunRemark}
+use Rattle.og_report_refusal.specs.Values.{schedule_text, reason_line, IsValueRemark}
+use Rattle.og_report_refusal.specs.declared.values.Gives.TheVariants as gives
 use Rattle.og_command_prove.specs.Proving as proving
 use Rattle.og_command_prove.specs.declared.reply.Reply.{Reply as Proving}
 use Rattle.og_command_prove.specs.declared.reply.Reply.TheVariants as provings
-use Rattle.og_json.specs.Yes.{SaysUnblocked}
-use Rattle.og_running.specs.Running.{IsRan, IsRanProved}
-use Rattle.og_running.specs.Scheduled.{IsScheduled}
-use Rattle.og_running.specs.Starts.{HasStart, HasProvedStart}
-use Rattle.og_running.specs.declared.reply.Ran.{Ran}
-use Rattle.og_running.specs.declared.reply.Reply.{Reply}
-use Rattle.og_running.specs.declared.reply.Reply.TheVariants as replies
+use Rattle.og_report_text.specs.Yes.{SaysUnblocked}
+use Rattle.og_command_run.specs.Running.{IsRan, IsRanProved}
+use Rattle.og_command_run.specs.Scheduled.{IsScheduled}
+use Rattle.og_command_run.specs.Starts.{HasStart, HasProvedStart}
+use Rattle.og_command_run.specs.declared.reply.Ran.{Ran}
+use Rattle.og_command_run.specs.declared.reply.Reply.{Reply}
+use Rattle.og_command_run.specs.declared.reply.Reply.TheVariants as replies
 use Rattle.og_command_prove.specs.Running.{IsShowingRuns}
 use Rattle.og_command_prove.specs.Showing.{IsShowing}
-use Rattle.og_template_words.specs.Front.{is_template}
+use Rattle.og_template.specs.Front.{is_template}
 use Rattle.og_words.specs.Jobs.{IsAsked}
 use Rattle.og_words.specs.declared.job.Job.{Job}
 use Rattle.og_words.specs.declared.job.Job.TheVariants as jobs

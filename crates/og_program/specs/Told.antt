@@ -3,8 +3,8 @@ use Rattle.std.specs.Prelude.{◌≡◌, ◌⊎◌, ℕ, Bool, true, false, List
 use Rattle.std.specs.Global.{Global}
 use Rattle.std.specs.Io.KnownBytes.{Appends, Keeps}
 use Rattle.std.specs.declared.alloc.AllocError.{AllocError}
-use Rattle.og_advice.specs.Names.{shown_name}
-use Rattle.og_engine.specs.Making.{text_of, status_of_found}
+use Rattle.og_report_refusal.specs.Names.{shown_name}
+use Rattle.og_command_check.specs.Making.{text_of, status_of_found}
 use Rattle.og_io.specs.Written.{AppendsFront}
 use Rattle.og_io.specs.declared.fault.OutputFault.{OutputFault}
 use Rattle.og_io.specs.declared.fault.WriteFault.{WriteFault}

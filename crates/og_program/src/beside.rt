@@ -1,31 +1,30 @@
 //! What goes to standard error beside an answer.
 
 ghost use Rattle.std.specs.Prelude.{◌≡◌, ◌≢◌, [], map, option_map, Ok, None, IfOk, IfSome};
-ghost use Rattle.og_remark.specs.Missing.{IsMissingRemark};
-ghost use Rattle.og_remark.specs.Remarks.{IsSourceRemark, IsConditionsRemark, IsTooManyRemark, IsCheckRemark, IsCertificatesRemark};
-ghost use Rattle.og_remark.specs.Starting.{IsRunRemark, IsProvedRunRemark};
-ghost use Rattle.og_remark.specs.Values.{schedule_text, reason_line, IsValueRemark};
-ghost use Rattle.og_remark.specs.declared.values.Gives.TheVariants as gives;
+ghost use Rattle.og_report_refusal.specs.Missing.{IsMissingRemark};
+ghost use Rattle.og_report_refusal.specs.Remarks.{IsSourceRemark, IsConditionsRemark, IsTooManyRemark, IsCheckRemark, IsCertificatesRemark};
+ghost use Rattle.og_report_refusal.specs.Starting.{IsRunRemark, IsProvedRunRemark};
+ghost use Rattle.og_report_refusal.specs.Values.{schedule_text, reason_line, IsValueRemark};
+ghost use Rattle.og_report_refusal.specs.declared.values.Gives.TheVariants as gives;
 ghost use Rattle.og_report_text.specs.Told.{Says};
 ghost use Rattle.og_program.specs.Told.{IsNote, Noted};
 ghost use Rattle.og_program.specs.Served.{Remarks, RemarksBoth, IsMissingNote, IsLongNote, TellsMissing, FollowsFinding, TellsRan, IsWordRemark, IsExpansionNote, Follows, FollowsExploring, FollowsExpanding, FollowsListing, FollowsProving, FollowsRuns, TellsProved, OnBad};
 
 use crate::outcome::{BadValue, Outcome, Told, ToldFound};
-use og_advice::Names;
+use og_command_check::{FindReply, FoundCertificates, LongText};
+use og_command_explore::Reply as Explored;
 use og_command_prove::Reply as Proved;
-use og_engine::{FindReply, FoundCertificates, LongText};
-use og_expander::{ExpandFault, Reply as Expanded};
-use og_explorer::Reply as Explored;
+use og_command_run::{Ran, Reply};
 use og_find::Missing;
-use og_remark::{
-    Gives, certificates_remark, check_remark, conditions_remark, expansion_remark, long_line,
-    missing_line, missing_remark, proved_run_remark, run_remark, schedule_remark, source_remark,
-    too_many_remark, value_remark,
-};
 use og_report_conditions::Reply as Listed;
+use og_report_refusal::{
+    Gives, Names, certificates_remark, check_remark, conditions_remark, expansion_remark,
+    long_line, missing_line, missing_remark, proved_run_remark, run_remark, schedule_remark,
+    source_remark, too_many_remark, value_remark,
+};
 use og_report_text::Answer;
-use og_running::{Ran, Reply};
-use og_template_words::is_template;
+use og_template::is_template;
+use og_template_outline::{ExpandFault, Reply as Expanded};
 use std::alloc::{AllocError, Global};
 use std::sync::Wait;
 use std::thread::Threads;

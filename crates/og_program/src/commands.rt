@@ -1,7 +1,7 @@
 //! What the commands come to that print what they make of one file.
 
 ghost use Rattle.std.specs.Prelude.{◌≡◌, true, IfErr, IfOk};
-ghost use Rattle.og_engine.specs.Inputs.{certs_of, Reads};
+ghost use Rattle.og_command_check.specs.Inputs.{certs_of, Reads};
 ghost use Rattle.og_program.specs.Failing.{IsReading, IsUnread};
 ghost use Rattle.og_program.specs.Named.{bytes_in, is_file, lacks_bytes};
 ghost use Rattle.og_program.specs.Served.{form_of, OfSource, OnTold, NotesOn, Lists, Erases, Migrates};
@@ -11,9 +11,9 @@ use crate::fault::Fault;
 use crate::files::Files;
 use crate::outcome::Outcome;
 use crate::reading::{certificate_bytes, source_bytes};
-use og_engine::{erased, migrated};
+use og_command_check::{erased, migrated};
+use og_command_notes::noted;
 use og_io::Budget;
-use og_notes::noted;
 use og_report_conditions::{Form, listed};
 use std::alloc::Global;
 use std::io::Read;

@@ -10,7 +10,7 @@ use crate::fault::Fault;
 use crate::files::Files;
 use crate::outcome::Outcome;
 use crate::reading::source_bytes;
-use og_expander::expanded;
+use og_template_outline::expanded;
 use std::alloc::Global;
 use std::io::Read;
 

@@ -10,7 +10,7 @@ use crate::fault::Fault;
 use crate::files::Files;
 use crate::outcome::Outcome;
 use crate::reading::source_bytes;
-use og_explorer::{Request, explored};
+use og_command_explore::{Request, explored};
 use std::alloc::Global;
 use std::io::Read;
 

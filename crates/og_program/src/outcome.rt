@@ -1,6 +1,6 @@
 //! What a job comes to, before anything of it is written.
 
-use og_engine::FoundCertificates;
+use og_command_check::FoundCertificates;
 use og_report_conditions::Listing;
 use og_report_text::Answer;
 use std::alloc::AllocError;

@@ -1,15 +1,15 @@
 //! The bytes of sources and certificates, by the names of their files.
 
 ghost use Rattle.std.specs.Prelude.{◌≡◌, ◌||◌, true, IfErr, IfOk, IfSome};
-ghost use Rattle.og_engine.specs.Inputs.{source_of, certs_of, joined_of};
+ghost use Rattle.og_command_check.specs.Inputs.{source_of, certs_of, joined_of};
 ghost use Rattle.og_program.specs.Failing.{IsReading, IsReadingBoth, IsUnread};
 ghost use Rattle.og_program.specs.Named.{bytes_in, certs_in, is_file, lacks_bytes, lacks_certs};
 
 use crate::fault::{Fault, Why};
 use crate::files::Files;
-use og_advice::Names;
-use og_engine::{read_certificates, read_joined, read_source};
+use og_command_check::{read_certificates, read_joined, read_source};
 use og_io::ReadFault;
+use og_report_refusal::Names;
 use std::alloc::Global;
 use std::io::Read;
 

@@ -1,9 +1,9 @@
 //! Runs, by threads or by a schedule.
 
 ghost use Rattle.std.specs.Prelude.{◌≡◌, ◌||◌, ◌⊎◌, true, false, map, None, Some, IfOk, IfErr, IfSome};
-ghost use Rattle.og_remark.specs.Starting.{IsRunRemark, IsProvedRunRemark};
-ghost use Rattle.og_running.specs.Running.{IsRan, IsRanProved};
-ghost use Rattle.og_running.specs.Scheduled.{IsScheduled};
+ghost use Rattle.og_report_refusal.specs.Starting.{IsRunRemark, IsProvedRunRemark};
+ghost use Rattle.og_command_run.specs.Running.{IsRan, IsRanProved};
+ghost use Rattle.og_command_run.specs.Scheduled.{IsScheduled};
 ghost use Rattle.og_program.specs.Failing.{IsFault, IsReading, IsUnread};
 ghost use Rattle.og_program.specs.Named.{is_file, lacks_bytes, lacks_certs};
 ghost use Rattle.og_program.specs.Served.{OfSource, OfBoth, OfRun, Runs, IsWordRemark, StartsAs, StartsProved, lacks_given, reads_given};
@@ -14,10 +14,10 @@ use crate::files::Files;
 use crate::outcome::Outcome;
 use crate::program::Program;
 use crate::reading::{both_bytes, source_bytes};
-use og_advice::Names;
+use og_command_run::{ran, ran_by_schedule, ran_proved};
 use og_io::RunLimit;
 use og_pool::Gate;
-use og_running::{ran, ran_by_schedule, ran_proved};
+use og_report_refusal::Names;
 use std::io::Read;
 use std::sync::Wait;
 use std::thread::Threads;

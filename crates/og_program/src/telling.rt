@@ -7,10 +7,10 @@ ghost use Rattle.og_program.specs.Told.{line_or_nothing, bad_value_text, Complai
 use crate::ended::Ended;
 use crate::fault::{Fault, Why};
 use crate::outcome::{BadValue, Outcome, Told, ToldFound};
-use og_advice::put_name;
-use og_engine::write_answer;
+use og_command_check::write_answer;
 use og_io::{WriteFault, write_text};
 use og_report_conditions::Listing;
+use og_report_refusal::put_name;
 use std::alloc::{AllocError, Global};
 use std::io::Write;
 

@@ -3,9 +3,9 @@ use Rattle.std.proofs.Common.{◌≡◌, inl, ℕ, suc, List, [], ◌∷◌, ◌
 use Rattle.serde_json.specs.Data.{boolean, object, Members, member}
 use Rattle.serde_json.specs.View.{items_of}
 use Rattle.serde_json.specs.Written.{compact_text, members_text}
-use Rattle.og_json.specs.Numbers.{natural}
-use Rattle.og_json.specs.Yes.{EndsWith, SaysUnblocked}
-use Rattle.og_json.proofs.Ends.{ends_with, ends_after, ends_less, same_before, ends_member, EndsWithBrace, braced, last_members, members_answer}
+use Rattle.og_report_text.specs.Numbers.{natural}
+use Rattle.og_report_text.specs.Yes.{EndsWith, SaysUnblocked}
+use Rattle.og_report_text.proofs.Ends.{ends_with, ends_after, ends_less, same_before, ends_member, EndsWithBrace, braced, last_members, members_answer}
 use Rattle.og_judge.specs.declared.entry.Entry.{Entry}
 use Rattle.og_judge.specs.Entries.{is_proved, is_safe, is_unblocked}
 use Rattle.og_report.specs.Report.{unproved_lines, count_text, answer_text, report_text}

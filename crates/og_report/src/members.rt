@@ -3,19 +3,18 @@
 ghost use Rattle.std.specs.Prelude.{◌≡◌, ◌≤◌, ◌^◌, [], ◌∷◌, ◌++◌, length, map, codes, true, IfOk, OnOk};
 ghost use Rattle.serde_json.specs.Data.{object, member, no_members, string, boolean};
 ghost use Rattle.serde_json.specs.View.{view, members_view};
-ghost use Rattle.og_json.specs.Numbers.{natural};
+ghost use Rattle.og_report_text.specs.Numbers.{natural};
 ghost use Rattle.og_cond.specs.Names.{name_of_kind};
 ghost use Rattle.og_judge.specs.Entries.{is_unblocked};
 ghost use Rattle.og_judge.specs.Shown.{entries_of};
 ghost use Rattle.og_report_text.specs.Places.{position_of};
 ghost use Rattle.og_report.specs.Json.{status_word, entry_data, unproved_data, report_data, json_text};
-ghost use Rattle.og_json.specs.Yes.{SaysUnblocked};
+ghost use Rattle.og_report_text.specs.Yes.{SaysUnblocked};
 
 use crate::report::count_proved;
-use og_json::{bytes_of, list_value, put_number, put_text};
 use og_judge::{Entry, Judgement};
 use og_pool::Status;
-use og_report_text::Places;
+use og_report_text::{Places, bytes_of, list_value, set_number, set_text};
 use serde_json::{Map, Value, json};
 use std::alloc::{AllocError, Global};
 
@@ -48,11 +47,11 @@ fn put_common(
         (member (codes "status") (string (status_word entry.now.status)) no_members))))) }
 {
     let place = places.position(entry.at);
-    put_number(members, alloc, "condition", number)?;
-    put_text(members, alloc, "kind", entry.kind.name())?;
-    put_number(members, alloc, "line", place.line as u64)?;
-    put_number(members, alloc, "column", place.column as u64)?;
-    put_text(members, alloc, "status", word_of(entry.status))
+    set_number(members, alloc, "condition", number)?;
+    set_text(members, alloc, "kind", entry.kind.name())?;
+    set_number(members, alloc, "line", place.line as u64)?;
+    set_number(members, alloc, "column", place.column as u64)?;
+    set_text(members, alloc, "status", word_of(entry.status))
 }
 
 // Sets the members of a condition: one of interference tells its action, a failed one its fault.
@@ -69,12 +68,12 @@ fn put_entry(
     put_common(members, alloc, places, number, entry)?;
     if let Some(at) = entry.action_at {
         let action = places.position(at);
-        put_number(members, alloc, "action_line", action.line as u64)?;
-        put_number(members, alloc, "action_column", action.column as u64)?;
+        set_number(members, alloc, "action_line", action.line as u64)?;
+        set_number(members, alloc, "action_column", action.column as u64)?;
     }
     if let Status::Failed(fault) = entry.status {
-        put_text(members, alloc, "fault", fault.name())?;
-        put_number(members, alloc, "step", fault.step)?;
+        set_text(members, alloc, "fault", fault.name())?;
+        set_number(members, alloc, "step", fault.step)?;
     }
     Ok(())
 }

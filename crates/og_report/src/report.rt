@@ -4,7 +4,7 @@ ghost use Rattle.std.specs.Prelude.{◌≡◌, ◌++◌, ◌≤◌, ◌^◌, len
 ghost use Rattle.og_judge.specs.Entries.{is_proved, is_unblocked};
 ghost use Rattle.og_judge.specs.Shown.{entries_of};
 ghost use Rattle.og_report.specs.Report.{status_text, rest_text, numbered_text, line_text, unproved_lines, count_text, answer_text, totals_text, report_text};
-ghost use Rattle.og_json.specs.Yes.{SaysUnblocked};
+ghost use Rattle.og_report_text.specs.Yes.{SaysUnblocked};
 
 use og_judge::{Entry, Judgement};
 use og_pool::Status;

@@ -10,7 +10,7 @@ use Rattle.og_cond.specs.declared.fault.ConditionsError.{ConditionsError}
 use Rattle.og_cond.specs.declared.fault.ConditionsError.TheVariants as errors
 use Rattle.og_report_text.specs.Places.{◌&◌}
 use Rattle.og_io.specs.Numbers.{AreNumbers}
-use Rattle.og_source.specs.Source.{IsSource}
+use Rattle.og_typed.specs.Source.{IsSource}
 use Rattle.og_report_text.specs.Told.{IsTold, IsUnread}
 use Rattle.og_report_text.specs.declared.fault.InputFault.TheVariants as faults
 use Rattle.og_report_text.specs.Told.{HasTooMany}

@@ -11,8 +11,7 @@ use crate::listing::Listing;
 use og_cond::{ConditionsError, Groups};
 use og_io::numbers;
 use og_report_text::{Answer, InputFault, put_number};
-use og_source::Source;
-use og_typed::Outline;
+use og_typed::{Outline, Source};
 use std::alloc::{AllocError, Global};
 
 /// What is answered to whoever asks for the conditions of a source.

@@ -6,10 +6,10 @@ use Rattle.og_typed.specs.Truth.{truth}
 use Rattle.og_typed.specs.Plain.{noted, item_pair, statement}
 use Rattle.og_typed.specs.Machine.{Moment, next, run_on, todo, current, start_of, start_state}
 use Rattle.og_subst.specs.Actions.{stmt_body, assigns}
-use Rattle.og_values.specs.Large.{first_large}
+use Rattle.og_subst.specs.Large.{first_large}
 use Rattle.og_cond.specs.Condition.{Condition}
 use Rattle.og_find.specs.Found.{IsFalseAt}
-use Rattle.og_explain.specs.Explanations.{IsFalseNote}
+use Rattle.og_report_explain.specs.Explanations.{IsFalseNote}
 use Rattle.og_violation.specs.Violations.{IsWrong}
 use Rattle.og_violation.specs.declared.violation.Violation.{Violation}
 use Rattle.og_violation.specs.declared.violation.Wrong.{Wrong}

@@ -3,7 +3,7 @@ use Rattle.std.specs.Prelude.{ℕ, ℤ, true, List, length, map, codes, Option, 
 use Rattle.serde_json.specs.Data.{Data, Members, string, boolean, array, object, member, no_members}
 use Rattle.serde_json.specs.View.{items_of}
 use Rattle.serde_json.specs.Written.{compact_text}
-use Rattle.og_json.specs.Numbers.{natural}
+use Rattle.og_report_text.specs.Numbers.{natural}
 use Rattle.og_text.specs.Place.{line_at, column_at}
 use Rattle.og_typed.specs.Plain.{formula}
 use Rattle.og_typed.specs.declared.assertion.Assert.{Assert}

@@ -4,8 +4,8 @@ use Rattle.std.specs.Fmt.{decimal}
 use Rattle.og_typed.specs.declared.statement.Item.{Item}
 use Rattle.og_cond.specs.Names.{name_of_kind}
 use Rattle.og_report_text.specs.Places.{◌&◌, position_of, position_text, with_text}
-use Rattle.og_places.specs.declared.sites.Part.{Part}
-use Rattle.og_places.specs.declared.sites.Part.TheVariants as parts
+use Rattle.og_typed.specs.declared.sites.Part.{Part}
+use Rattle.og_typed.specs.declared.sites.Part.TheVariants as parts
 use Rattle.og_report_text.specs.Quotes.{quote_text}
 use Rattle.og_report_text.specs.Values.{values_text}
 use Rattle.og_report_prove.specs.Sentences.{part_text}

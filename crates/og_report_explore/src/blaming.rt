@@ -10,7 +10,7 @@ use crate::passing::goes_through;
 use og_cond::{Condition, Kind};
 use og_find::{Verdict, is_verdict};
 use og_linear::State;
-use og_places::Index;
+use og_typed::Index;
 use std::alloc::{AllocError, Global};
 
 /// Where a run goes wrong: where its last step began, and what is wrong then.

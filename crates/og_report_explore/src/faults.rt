@@ -3,16 +3,15 @@
 ghost use Rattle.std.specs.Prelude.{◌≡◌, ◌<◌, ◌+◌, length, IfOk, IfSome, slice_get, option_map};
 ghost use Rattle.og_typed.specs.Plain.{noted, item_pair, statement};
 ghost use Rattle.og_typed.specs.Machine.{current, todo};
-ghost use Rattle.og_values.specs.Large.{first_large};
+ghost use Rattle.og_subst.specs.Large.{first_large};
 ghost use Rattle.og_violation.specs.Violations.{IsWrongAt};
 ghost use Rattle.og_report_explore.specs.Findings.{assignments_of, AreStands, IsFault};
 
 use crate::finding::Fault;
-use og_explain::{Unexplained, false_in};
+use og_report_explain::{Unexplained, false_in};
 use og_step::Moment;
-use og_subst::Action;
+use og_subst::{Action, Values};
 use og_typed::{Item, Note, Outline, Stmt};
-use og_values::Values;
 use og_violation::Wrong;
 use std::alloc::{AllocError, Global};
 

@@ -1,8 +1,8 @@
 //! What is found at the end of a run, with the run.
 
 use og_cond::Kind;
+use og_subst::Values;
 use og_typed::{Assert, Item, Note};
-use og_values::Values;
 
 /// What a step did.
 #[derive(Debug, Drop)]

@@ -8,12 +8,11 @@ ghost use Rattle.og_report_explore.specs.Json.{kind_word, process_member, histor
 use crate::finding::{Fault, Finding, Row};
 use crate::table::printed_number;
 use crate::texts::{numbers, place_of};
-use og_json::{list_value, put_number, put_text};
 use og_report_prove::{conjunct_values, put_optional, put_values};
-use og_report_text::Places;
+use og_report_text::{Places, list_value, set_number, set_text};
+use og_subst::Values;
 use og_text::Name;
 use og_typed::Assert;
-use og_values::Values;
 use serde_json::{Map, Value, put};
 use std::alloc::{AllocError, Global};
 
@@ -116,7 +115,7 @@ fn put_last(
     let place = page
         .places
         .position(place_of(page.cobegin_at, &finding.fault));
-    put_number(members, alloc, "line", place.line as u64)
+    set_number(members, alloc, "line", place.line as u64)
 }
 
 // Sets the column, what is false, the history and the kind.
@@ -129,7 +128,7 @@ fn put_first(
     requires { members_view members.old.entries ≡ last_members page.names.now page.places.now page.main page.cobegin_at finding.now }
     ensures { OnOk result (object (members_view members.new.entries) ≡ finding_data page.entry.names.now page.entry.places.now page.entry.main page.entry.cobegin_at finding.now) }
 {
-    put_text(members, alloc, "kind", kind_word(&finding.fault))?;
+    set_text(members, alloc, "kind", kind_word(&finding.fault))?;
     let history = list_value(history_values(alloc, page.main, &finding.rows)?);
     put(members, alloc, "history", history)?;
     let found = false_member(alloc, page.names, &finding.fault)?;
@@ -137,7 +136,7 @@ fn put_first(
     let place = page
         .places
         .position(place_of(page.cobegin_at, &finding.fault));
-    put_number(members, alloc, "column", place.column as u64)
+    set_number(members, alloc, "column", place.column as u64)
 }
 
 // The value of a finding.

@@ -1,8 +1,7 @@
 //! Through which assertions a step goes. Nothing is promised of these answers: they only choose what
 //! is evaluated.
 
-use og_places::{Index, StatementSite};
-use og_typed::Stmt;
+use og_typed::{Index, StatementSite, Stmt};
 
 // The most branches and bodies that end together.
 const MOST_ENDS: u32 = 1_000;

@@ -3,15 +3,14 @@
 ghost use Rattle.std.specs.Prelude.{◌≡◌, ◌≤◌, ◌^◌, length, codes, IfOk};
 ghost use Rattle.serde_json.specs.Data.{object, member, no_members, boolean, string};
 ghost use Rattle.serde_json.specs.View.{view};
-ghost use Rattle.og_json.specs.Numbers.{natural};
+ghost use Rattle.og_report_text.specs.Numbers.{natural};
 ghost use Rattle.og_report_explore.specs.Totals.{found_word, safe_of, unblocked_of};
 ghost use Rattle.og_report_explore.specs.Json.{report_data, json_text};
 
 use crate::finding::Finding;
 use crate::objects::{Page, finding_values};
 use crate::totals::Totals;
-use og_json::{bytes_of, list_value};
-use og_report_text::Places;
+use og_report_text::{Places, bytes_of, list_value};
 use og_typed::Outline;
 use serde_json::{Value, json};
 use std::alloc::{AllocError, Global};

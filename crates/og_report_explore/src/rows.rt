@@ -10,9 +10,8 @@ ghost use Rattle.og_report_explore.specs.Findings.{branch_test, assigned_below, 
 use crate::finding::{Did, Row};
 use og_linear::State;
 use og_step::{Moment, Turn};
-use og_subst::Action;
+use og_subst::{Action, Values};
 use og_typed::{Assert, Outline, Stmt};
-use og_values::Values;
 use std::alloc::{AllocError, Global};
 
 // The test of an `if` or a `while`.

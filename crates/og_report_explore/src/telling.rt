@@ -12,12 +12,11 @@ use crate::finding::{Did, Finding, Row};
 use crate::passing::first_at;
 use crate::rows::row;
 use og_cond::Condition;
-use og_explain::Unexplained;
 use og_linear::State;
-use og_places::Index;
+use og_report_explain::Unexplained;
 use og_step::{Moment, StartError, start};
-use og_typed::Outline;
-use og_values::Values;
+use og_subst::Values;
+use og_typed::{Index, Outline};
 use og_violation::Violation;
 use std::alloc::{AllocError, Global};
 

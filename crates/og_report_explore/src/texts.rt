@@ -7,14 +7,13 @@ ghost use Rattle.og_report_explore.specs.Texts.{when_text, part_of, what_text, p
 use crate::finding::{Blame, Fault, Finding};
 use crate::table::{Page, put_table};
 use crate::totals::{Totals, put_totals};
-use og_places::Part;
 use og_report_prove::{put_false, put_part, put_quoted, put_too_large};
 use og_report_text::{
     Origins, Places, put_action_place, put_number, put_position, put_quote, put_values,
 };
+use og_subst::Values;
 use og_text::Name;
-use og_typed::{Assert, Item, Outline};
-use og_values::Values;
+use og_typed::{Assert, Item, Outline, Part};
 use std::alloc::{AllocError, Global};
 
 /// The most bytes of a quote.

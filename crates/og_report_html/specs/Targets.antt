@@ -2,10 +2,10 @@
 use Rattle.std.specs.Prelude.{◌≡◌, ◌⊎◌, ℕ, List, [], ◌∷◌, Option, Some, IfSome, ⊤}
 use Rattle.og_typed.specs.Syntax.{Noted, Program}
 use Rattle.og_cond.specs.Condition.{Condition}
-use Rattle.og_explain.specs.Explained.{IsNoteOf}
-use Rattle.og_places.specs.Seen.{IsOneOf}
-use Rattle.og_places.specs.Sites.{NoteSite, StatementSite, all_notes, all_statements}
-use Rattle.og_places.specs.declared.sites.Part.TheVariants as parts
+use Rattle.og_report_explain.specs.Explained.{IsNoteOf}
+use Rattle.og_typed.specs.Seen.{IsOneOf}
+use Rattle.og_typed.specs.Sites.{NoteSite, StatementSite, all_notes, all_statements}
+use Rattle.og_typed.specs.declared.sites.Part.TheVariants as parts
 use Rattle.og_report_html.specs.declared.target.Target.{Target}
 use Rattle.og_report_html.specs.declared.target.Interference.{Interference}
 

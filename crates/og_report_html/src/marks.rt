@@ -6,7 +6,7 @@ ghost use Rattle.og_report_html.specs.Marks.{fault_place, told_place, is_action,
 
 use crate::target::Target;
 use og_cond::Condition;
-use og_explain::Fault;
+use og_report_explain::Fault;
 use og_report_prove::Told;
 use std::alloc::{AllocError, Global};
 use std::collections::BTreeMap;

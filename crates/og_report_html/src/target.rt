@@ -2,13 +2,12 @@
 
 ghost use Rattle.std.specs.Prelude.{◌≡◌, length, map, IfOk, IfSome};
 ghost use Rattle.og_cond.specs.Seen.{seen};
-ghost use Rattle.og_places.specs.declared.sites.Part.TheVariants as parts;
+ghost use Rattle.og_typed.specs.declared.sites.Part.TheVariants as parts;
 ghost use Rattle.og_report_html.specs.Targets.{IsGoalPlace, IsInterference, IsTarget, AreTargets};
 
 use og_cond::Condition;
-use og_explain::goal_note;
-use og_places::{Index, Part};
-use og_typed::Outline;
+use og_report_explain::goal_note;
+use og_typed::{Index, Outline, Part};
 use std::alloc::{AllocError, Global};
 
 /// Whose step may make whose assertion false. Processes are counted from 0.

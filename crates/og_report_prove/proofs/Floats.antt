@@ -4,15 +4,15 @@ use Rattle.serde_json.specs.Data.{Data, number, Members, no_members, put}
 use Rattle.serde_json.specs.Find.{of_integer}
 use Rattle.serde_json.specs.View.{items_of}
 use Rattle.serde_json.specs.Written.{has_float, items_have_float, members_have_float}
-use Rattle.og_json.specs.Numbers.{natural}
+use Rattle.og_report_text.specs.Numbers.{natural}
 use Rattle.og_linear.specs.Linear.{fits_i64, value_at}
 use Rattle.og_text.specs.Place.{line_at, column_at}
 use Rattle.og_typed.specs.Plain.{formula}
 use Rattle.og_typed.specs.declared.assertion.Assert.{Assert}
 use Rattle.og_cond.specs.Condition.{Condition}
-use Rattle.og_places.specs.declared.sites.StatementSite.{StatementSite}
-use Rattle.og_explain.specs.declared.explanation.Fault.{Fault}
-use Rattle.og_explain.specs.declared.explanation.Fault.TheVariants as fault
+use Rattle.og_typed.specs.declared.sites.StatementSite.{StatementSite}
+use Rattle.og_report_explain.specs.declared.explanation.Fault.{Fault}
+use Rattle.og_report_explain.specs.declared.explanation.Fault.TheVariants as fault
 use Rattle.og_report_prove.specs.Report.{is_proved}
 use Rattle.og_report_prove.specs.declared.telling.Told.{Told}
 use Rattle.og_report_prove.specs.declared.telling.Told.TheVariants as told

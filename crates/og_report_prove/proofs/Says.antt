@@ -3,12 +3,12 @@ use Rattle.std.proofs.Common.{◌≡◌, ℕ, ◌+◌, List, [], ◌∷◌, ◌+
 use Rattle.serde_json.specs.Data.{boolean, object, Members, member}
 use Rattle.serde_json.specs.View.{items_of}
 use Rattle.serde_json.specs.Written.{compact_text, members_text}
-use Rattle.og_json.specs.Numbers.{natural}
+use Rattle.og_report_text.specs.Numbers.{natural}
 use Rattle.og_cond.specs.Condition.{Condition}
 use Rattle.og_report_prove.specs.Report.{is_proved, is_false, is_open, is_safe, is_unblocked}
 use Rattle.og_report_prove.specs.declared.telling.Told.{Told}
-use Rattle.og_json.specs.Yes.{EndsWith, SaysUnblocked}
-use Rattle.og_json.proofs.Ends.{ends_with, ends_after, ends_member, EndsWithBrace, braced, last_members, members_answer}
+use Rattle.og_report_text.specs.Yes.{EndsWith, SaysUnblocked}
+use Rattle.og_report_text.proofs.Ends.{ends_with, ends_after, ends_member, EndsWithBrace, braced, last_members, members_answer}
 use Rattle.og_report_prove.specs.Json.{told_data, unproved_data, json_text}
 
 unproved_step : (names : List (List ℕ)) (source : List ℕ) (n : ℕ) (c : Condition) (t : Told) (cs : List Condition) (ts : List Told) (b : Bool)

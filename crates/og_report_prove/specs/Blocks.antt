@@ -6,17 +6,17 @@ use Rattle.og_typed.specs.declared.assertion.Assert.{Assert}
 use Rattle.og_typed.specs.declared.statement.Note.{Note}
 use Rattle.og_report_text.specs.Places.{◌&◌}
 use Rattle.og_report_text.specs.Origins.{Rows, told_at, quoted_at}
-use Rattle.og_places.specs.Seen.{note_of, statement_of}
-use Rattle.og_places.specs.Sites as plain
-use Rattle.og_places.specs.declared.sites.StatementSite.{StatementSite}
+use Rattle.og_typed.specs.Seen.{note_of, statement_of}
+use Rattle.og_typed.specs.Sites as plain
+use Rattle.og_typed.specs.declared.sites.StatementSite.{StatementSite}
 use Rattle.og_report_text.specs.Assertions.{assertion_text}
 use Rattle.og_report_text.specs.Conjuncts.{known_text}
 use Rattle.og_report_text.specs.Values.{values_text, value_text}
-use Rattle.og_explain.specs.declared.explanation.Fault.{Fault}
-use Rattle.og_explain.specs.declared.explanation.Fault.TheVariants as fault
-use Rattle.og_explain.specs.declared.explanation.Stand.{Stand}
-use Rattle.og_explain.specs.declared.explanation.Stand.TheVariants as stand
-use Rattle.og_explain.specs.declared.explanation.Test.{Test}
+use Rattle.og_report_explain.specs.declared.explanation.Fault.{Fault}
+use Rattle.og_report_explain.specs.declared.explanation.Fault.TheVariants as fault
+use Rattle.og_report_explain.specs.declared.explanation.Stand.{Stand}
+use Rattle.og_report_explain.specs.declared.explanation.Stand.TheVariants as stand
+use Rattle.og_report_explain.specs.declared.explanation.Test.{Test}
 use Rattle.og_report_prove.specs.declared.block.Block.{Block}
 use Rattle.og_report_prove.specs.Sentences.{sentence_text, part_text}
 use denote.Ref.{Bor}

@@ -5,14 +5,14 @@ use Rattle.std.specs.Str.{bytes_eq}
 use Rattle.og_typed.specs.Syntax.{Formula}
 use Rattle.og_report_text.specs.Places.{◌&◌}
 use Rattle.og_report_text.specs.Origins.{Rows, told_at}
-use Rattle.og_places.specs.Seen.{statement_of}
-use Rattle.og_places.specs.declared.sites.StatementSite.{StatementSite}
+use Rattle.og_typed.specs.Seen.{statement_of}
+use Rattle.og_typed.specs.declared.sites.StatementSite.{StatementSite}
 use Rattle.og_report_text.specs.Assertions.{assertion_text}
 use Rattle.og_report_text.specs.Conjuncts.{conjuncts_text}
 use Rattle.og_report_text.specs.Seen.{formulas_of}
 use Rattle.og_cert_read.specs.Firsts.{or_this}
-use Rattle.og_explain.specs.declared.explanation.Fault.{Fault}
-use Rattle.og_explain.specs.declared.explanation.Fault.TheVariants as fault
+use Rattle.og_report_explain.specs.declared.explanation.Fault.{Fault}
+use Rattle.og_report_explain.specs.declared.explanation.Fault.TheVariants as fault
 use Rattle.og_report_prove.specs.declared.telling.Told.{Told}
 use Rattle.og_report_prove.specs.declared.telling.Told.TheVariants as told
 

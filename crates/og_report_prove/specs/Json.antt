@@ -3,17 +3,17 @@ use Rattle.std.specs.Prelude.{ℕ, ◌+◌, true, false, if◌then◌else◌, Li
 use Rattle.serde_json.specs.Data.{Data, Members, string, boolean, array, object, member, no_members}
 use Rattle.serde_json.specs.View.{items_of}
 use Rattle.serde_json.specs.Written.{compact_text}
-use Rattle.og_json.specs.Numbers.{natural}
+use Rattle.og_report_text.specs.Numbers.{natural}
 use Rattle.og_text.specs.Place.{line_at, column_at}
 use Rattle.og_typed.specs.Syntax.{Formula, Noted}
 use Rattle.og_typed.specs.Plain.{noted, formula}
 use Rattle.og_typed.specs.declared.assertion.Assert.{Assert}
 use Rattle.og_cond.specs.Condition.{Condition}
 use Rattle.og_cond.specs.Names.{name_of_kind}
-use Rattle.og_places.specs.declared.sites.StatementSite.{StatementSite}
+use Rattle.og_typed.specs.declared.sites.StatementSite.{StatementSite}
 use Rattle.og_report_text.specs.Assertions.{assertion_text}
-use Rattle.og_explain.specs.declared.explanation.Fault.{Fault}
-use Rattle.og_explain.specs.declared.explanation.Fault.TheVariants as fault
+use Rattle.og_report_explain.specs.declared.explanation.Fault.{Fault}
+use Rattle.og_report_explain.specs.declared.explanation.Fault.TheVariants as fault
 use Rattle.og_report_prove.specs.declared.block.Block.{Block}
 use Rattle.og_report_prove.specs.declared.telling.Told.{Told}
 use Rattle.og_report_prove.specs.declared.telling.Told.TheVariants as told

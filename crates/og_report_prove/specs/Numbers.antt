@@ -4,8 +4,8 @@ use Rattle.og_typed.specs.Syntax.{Formula}
 use Rattle.og_typed.specs.Plain.{noted}
 use Rattle.og_typed.specs.Truth.{truth}
 use Rattle.og_report_text.specs.Conjuncts.{conjuncts}
-use Rattle.og_explain.specs.declared.explanation.Fault.{Fault}
-use Rattle.og_explain.specs.declared.explanation.Fault.TheVariants as fault
+use Rattle.og_report_explain.specs.declared.explanation.Fault.{Fault}
+use Rattle.og_report_explain.specs.declared.explanation.Fault.TheVariants as fault
 
 -- the numbers, from n on, of the false ones among these assertions
 abbrev pub false_numbers : List ℤ → ℕ → List Formula → List ℕ

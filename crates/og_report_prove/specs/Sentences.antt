@@ -4,9 +4,9 @@ use Rattle.std.specs.Fmt.{decimal}
 use Rattle.og_cond.specs.declared.kind.Kind.{Kind}
 use Rattle.og_cond.specs.declared.kind.Kind.TheVariants as kinds
 use Rattle.og_report_text.specs.Places.{◌&◌}
-use Rattle.og_places.specs.declared.sites.Part.{Part}
-use Rattle.og_places.specs.declared.sites.Part.TheVariants as parts
-use Rattle.og_explain.specs.declared.actor.Actors.{Actors}
+use Rattle.og_typed.specs.declared.sites.Part.{Part}
+use Rattle.og_typed.specs.declared.sites.Part.TheVariants as parts
+use Rattle.og_report_explain.specs.declared.actor.Actors.{Actors}
 
 -- at the head of a sentence, or within it
 abbrev pub part_text : Bool → Part → List ℕ

@@ -10,8 +10,8 @@ use Rattle.og_cond.specs.Names.{name_of_kind}
 use Rattle.og_report_text.specs.Places.{◌&◌}
 use Rattle.og_report_text.specs.Origins.{Rows, row_at, from_of}
 use Rattle.og_report_text.specs.declared.row.Row.{Row}
-use Rattle.og_explain.specs.declared.explanation.Fault.{Fault}
-use Rattle.og_explain.specs.declared.explanation.Fault.TheVariants as fault
+use Rattle.og_report_explain.specs.declared.explanation.Fault.{Fault}
+use Rattle.og_report_explain.specs.declared.explanation.Fault.TheVariants as fault
 use Rattle.og_report_prove.specs.declared.block.Block.{Block}
 use Rattle.og_report_prove.specs.declared.telling.Told.{Told}
 use Rattle.og_report_prove.specs.declared.telling.Told.TheVariants as told

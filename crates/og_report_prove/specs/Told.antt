@@ -6,7 +6,7 @@ use Rattle.og_cond.specs.Valid.{IsValid}
 use Rattle.og_find.specs.Found.{IsFalseAt}
 use Rattle.og_find.specs.declared.verdict.Verdict.{Verdict}
 use Rattle.og_find.specs.declared.verdict.Verdict.TheVariants as verdicts
-use Rattle.og_explain.specs.Explanations.{AreAllowed, IsExplained}
+use Rattle.og_report_explain.specs.Explanations.{AreAllowed, IsExplained}
 use Rattle.og_report_prove.specs.Numbers.{fault_numbers}
 use Rattle.og_report_prove.specs.declared.block.Block.{Block}
 use Rattle.og_report_prove.specs.declared.telling.Told.{Told}

@@ -8,10 +8,10 @@ use crate::lines::{
 };
 use crate::sentences::put_sentence;
 use og_cond::Kind;
-use og_explain::{Actors, Explanation};
+use og_report_explain::{Actors, Explanation};
 use og_report_text::Origins;
+use og_subst::Values;
 use og_text::Name;
-use og_values::Values;
 use std::alloc::AllocError;
 
 /// What is told of a condition that is false in a state. A list has room for one for each condition, so

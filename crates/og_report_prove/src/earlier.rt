@@ -5,7 +5,7 @@ ghost use Rattle.og_cert_read.specs.Firsts.{found as number_of, or_this};
 ghost use Rattle.og_report_text.specs.Seen.{formulas_of};
 ghost use Rattle.og_report_prove.specs.Effects.{effect_of, together, alike_line, effect_text};
 
-use og_explain::{Explanation, Fault};
+use og_report_explain::{Explanation, Fault};
 use og_report_text::{Origins, put_assertion, put_conjuncts, put_number};
 use og_text::Name;
 use og_typed::Assert;

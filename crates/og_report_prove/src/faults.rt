@@ -10,9 +10,8 @@ ghost use Rattle.og_report_prove.specs.Json.{state_data, after_data, conjunct_da
 use crate::block::Block;
 use crate::telling::Told;
 use crate::values::{digits_value, name_of, put_values, text_of};
-use og_explain::Fault;
-use og_json::{list_value, put_number};
-use og_report_text::{Places, put_assertion};
+use og_report_explain::Fault;
+use og_report_text::{Places, list_value, put_assertion, set_number};
 use og_text::Name;
 use og_typed::{Assert, Note};
 use serde_json::{Map, Value, put};
@@ -81,9 +80,9 @@ fn conjuncts_value(
     let place = places.position(note.at);
     let conjuncts = list_value(conjunct_values(alloc, names, found)?);
     let mut members = Map::new(alloc);
-    put_number(&mut members, alloc, "line", place.line as u64)?;
+    set_number(&mut members, alloc, "line", place.line as u64)?;
     put(&mut members, alloc, "conjuncts", conjuncts)?;
-    put_number(&mut members, alloc, "column", place.column as u64)?;
+    set_number(&mut members, alloc, "column", place.column as u64)?;
     Ok(Value::Object(members))
 }
 

@@ -2,8 +2,8 @@
 //! that is told is that of the state.
 
 use og_cond::{Condition, Goal, Hypothesis, Part};
-use og_explain::{Explanation, Fault, Stand};
 use og_linear::Form;
+use og_report_explain::{Explanation, Fault, Stand};
 use og_subst::Action;
 use og_typed::{Assert, Basic, Item, Stmt};
 use std::alloc::{AllocError, Global};

@@ -2,17 +2,16 @@
 
 ghost use Rattle.std.specs.Prelude.{◌≡◌, ◌++◌, OnOk};
 ghost use Rattle.og_typed.specs.Plain.{formula, noted};
-ghost use Rattle.og_places.specs.Seen.{note_of, statement_of};
+ghost use Rattle.og_typed.specs.Seen.{note_of, statement_of};
 ghost use Rattle.og_report_prove.specs.Blocks.{place_text, quoted_line, test_line, waits_line, ended_line, stand_line, stand_lines, word_text, values_line, more_line, known_line, known_lines, after_line, action_lines, false_line, false_lines, too_large_line, fault_lines};
 
 use crate::block::Block;
 use crate::sentences::put_part;
-use og_explain::{Explanation, Fault, Stand, Test};
-use og_places::{NoteSite, StatementSite};
+use og_report_explain::{Explanation, Fault, Stand, Test};
 use og_report_text::{Origins, put_assertion, put_known, put_value, put_values};
+use og_subst::Values;
 use og_text::Name;
-use og_typed::{Assert, Note};
-use og_values::Values;
+use og_typed::{Assert, Note, NoteSite, StatementSite};
 use std::alloc::AllocError;
 
 /// The most bytes of a quote.

@@ -4,15 +4,14 @@ ghost use Rattle.std.specs.Prelude.{◌≡◌, ◌<◌, ◌≤◌, ◌^◌, [], 
 ghost use Rattle.serde_json.specs.View.{view};
 ghost use Rattle.og_cond.specs.Seen.{seen};
 ghost use Rattle.og_report_prove.specs.Report.{is_proved, is_false, is_open, is_safe, is_unblocked};
-ghost use Rattle.og_json.specs.Yes.{SaysUnblocked};
+ghost use Rattle.og_report_text.specs.Yes.{SaysUnblocked};
 ghost use Rattle.og_report_prove.specs.Json.{totals_data, report_data, json_text};
 
 use crate::reporting::{Totals, is_safe, is_unblocked};
 use crate::telling::Told;
 use crate::unproved::unproved_values;
 use og_cond::Condition;
-use og_json::{bytes_of, list_value};
-use og_report_text::Places;
+use og_report_text::{Places, bytes_of, list_value};
 use og_text::Name;
 use og_typed::Outline;
 use serde_json::{Value, json};

@@ -4,9 +4,9 @@ ghost use Rattle.std.specs.Prelude.{◌≡◌, ◌++◌, OnOk};
 ghost use Rattle.og_report_prove.specs.Sentences.{part_text, actor_text, begins, opening, closing, ending, sentence_text};
 
 use og_cond::Kind;
-use og_explain::Actors;
-use og_places::Part;
+use og_report_explain::Actors;
 use og_report_text::put_number;
+use og_typed::Part;
 use std::alloc::AllocError;
 
 /// Adds who makes a step, at the head of a sentence or within it.

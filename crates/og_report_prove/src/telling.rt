@@ -6,20 +6,18 @@ ghost use Rattle.og_find.specs.Found.{IsVerdict, IsFalseAt};
 ghost use Rattle.og_typed.specs.Plain.{noted};
 ghost use Rattle.og_report_text.specs.Conjuncts.{conjuncts};
 ghost use Rattle.og_report_prove.specs.Numbers.{false_numbers, fault_numbers};
-ghost use Rattle.og_explain.specs.Explanations.{AreAllowed};
+ghost use Rattle.og_report_explain.specs.Explanations.{AreAllowed};
 ghost use Rattle.og_report_prove.specs.Told.{IsBlock, IsTold, IsOfState, IsAllowed, Follows};
 
 use crate::block::{Block, Details};
 use crate::focus::Vars;
 use og_cond::Condition;
-use og_explain::{Actors, Explanation, Fault, Unexplained, explain};
 use og_find::Verdict;
 use og_linear::State;
-use og_places::Index;
+use og_report_explain::{Actors, Explanation, Fault, Unexplained, explain};
 use og_report_text::add_conjuncts;
-use og_subst::Action;
-use og_typed::{Note, Outline};
-use og_values::Values;
+use og_subst::{Action, Values};
+use og_typed::{Index, Note, Outline};
 use std::alloc::{AllocError, Global};
 
 /// What is told of a condition.

@@ -11,7 +11,7 @@ ghost use Rattle.og_report_prove.specs.Together.{conjunct_at, with_place, with_p
 use crate::block::Block;
 use crate::telling::Told;
 use og_cond::Condition;
-use og_explain::Fault;
+use og_report_explain::Fault;
 use og_report_text::{Row, Rows, put_number};
 use std::alloc::{AllocError, Global};
 use std::collections::BTreeMap;

@@ -11,8 +11,7 @@ use crate::faults::{after_member, false_member, state_member, too_large_member};
 use crate::telling::Told;
 use crate::values::put_optional;
 use og_cond::Condition;
-use og_json::{put_number, put_text};
-use og_report_text::Places;
+use og_report_text::{Places, set_number, set_text};
 use og_text::Name;
 use serde_json::{Map, Value};
 use std::alloc::{AllocError, Global};
@@ -40,7 +39,7 @@ fn put_last(
 {
     let too_large = too_large_member(alloc, names, told)?;
     put_optional(members, alloc, "too_large", too_large)?;
-    put_text(members, alloc, "status", status_word(told))?;
+    set_text(members, alloc, "status", status_word(told))?;
     let state = state_member(alloc, names, told)?;
     put_optional(members, alloc, "state", state)
 }
@@ -59,12 +58,12 @@ fn put_middle(
     ensures { OnOk result (members_view members.new.entries ≡ middle_members names.now places.now number (seen condition.now) told.now) }
 {
     let place = places.position(condition.at);
-    put_number(members, alloc, "line", place.line as u64)?;
-    put_text(members, alloc, "kind", condition.kind.name())?;
+    set_number(members, alloc, "line", place.line as u64)?;
+    set_text(members, alloc, "kind", condition.kind.name())?;
     let found = false_member(alloc, names, places, told)?;
     put_optional(members, alloc, "false", found)?;
-    put_number(members, alloc, "condition", number)?;
-    put_number(members, alloc, "column", place.column as u64)
+    set_number(members, alloc, "condition", number)?;
+    set_number(members, alloc, "column", place.column as u64)
 }
 
 // Sets what the action assigns, and its place in interference.
@@ -86,8 +85,8 @@ fn put_first(
         return Ok(());
     };
     let action = places.position(at);
-    put_number(members, alloc, "action_line", action.line as u64)?;
-    put_number(members, alloc, "action_column", action.column as u64)
+    set_number(members, alloc, "action_line", action.line as u64)?;
+    set_number(members, alloc, "action_column", action.column as u64)
 }
 
 /// The value of a condition, by its number from 1.

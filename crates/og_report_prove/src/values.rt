@@ -5,8 +5,8 @@ ghost use Rattle.serde_json.specs.View.{view, members_view};
 ghost use Rattle.og_report_text.specs.Listing.{name_text};
 ghost use Rattle.og_report_prove.specs.Members.{utf8_text, digits_data, value_data, with_optional, name_of, with_values};
 
+use og_subst::Values;
 use og_text::Name;
-use og_values::Values;
 use serde_json::{Map, Value, put};
 use std::alloc::{AllocError, Global};
 

@@ -3,7 +3,7 @@ use Rattle.std.specs.Prelude.{ℕ, ◌+◌, ℤ, true, List, [], ◌∷◌, ◌+
 use Rattle.serde_json.specs.Data.{Data, string, boolean, array, object, member, no_members, put}
 use Rattle.serde_json.specs.View.{items_of}
 use Rattle.serde_json.specs.Written.{compact_text}
-use Rattle.og_json.specs.Numbers.{natural}
+use Rattle.og_report_text.specs.Numbers.{natural}
 use Rattle.og_typed.specs.Syntax.{Program}
 use Rattle.og_cond.specs.Condition.{Condition}
 use Rattle.og_report_explore.specs.Table.{printed_number}

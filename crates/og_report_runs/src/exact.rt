@@ -4,11 +4,10 @@
 use crate::place::Place;
 use crate::placing::number_of;
 use og_cond::Kind;
-use og_places::{Index, StatementSite};
 use og_report_explore::first_at;
 use og_step::Moment;
-use og_typed::{Item, Outline, Stmt};
-use og_values::Values;
+use og_subst::Values;
+use og_typed::{Index, Item, Outline, StatementSite, Stmt};
 use std::alloc::{AllocError, Global};
 
 // Whether process p stands at the assertion of this byte offset.

@@ -12,9 +12,8 @@ ghost use Rattle.og_find.specs.Found.{IsFalseAt};
 
 use og_cond::{Condition, Goal, Hypothesis, Part};
 use og_linear::State;
-use og_subst::Action;
+use og_subst::{Action, Values};
 use og_typed::{Assert, Basic};
-use og_values::Values;
 use std::alloc::{AllocError, Global};
 
 // Whether the assertion may have this truth.

@@ -7,9 +7,9 @@ use crate::witness::{Run, Witness};
 use og_linear::State;
 use og_report_explore::printed_number;
 use og_report_text::{put_number, put_values};
+use og_subst::Values;
 use og_text::Name;
 use og_typed::Outline;
-use og_values::Values;
 use std::alloc::{AllocError, Global};
 
 /// The longest history that is printed.

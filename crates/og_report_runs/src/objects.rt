@@ -11,14 +11,13 @@ use crate::lines::Explored;
 use crate::reporting::count_reached;
 use crate::witness::{Run, Witness};
 use og_cond::Condition;
-use og_json::{bytes_of, list_value, put_number, put_text};
 use og_linear::State;
 use og_report_explore::{numbers, printed_number};
 use og_report_prove::{Told, put_values, told_value, totals_value};
-use og_report_text::Places;
+use og_report_text::{Places, bytes_of, list_value, set_number, set_text};
+use og_subst::Values;
 use og_text::Name;
 use og_typed::Outline;
-use og_values::Values;
 use serde_json::{Map, Value, put};
 use std::alloc::{AllocError, Global};
 
@@ -80,7 +79,7 @@ fn witness_value(alloc: Global, outline: &Outline, witness: &Witness) -> Result<
     let mut members = Map::new(alloc);
     put(&mut members, alloc, "start", start)?;
     put(&mut members, alloc, "history", history)?;
-    put_text(&mut members, alloc, "found", "reached")?;
+    set_text(&mut members, alloc, "found", "reached")?;
     Ok(Value::Object(members))
 }
 
@@ -94,7 +93,7 @@ fn run_value(alloc: Global, outline: &Outline, run: &Run) -> Result<Value, Alloc
         Run::Open => "open",
     };
     let mut members = Map::new(alloc);
-    put_text(&mut members, alloc, "found", word)?;
+    set_text(&mut members, alloc, "found", word)?;
     Ok(Value::Object(members))
 }
 
@@ -171,9 +170,9 @@ fn explored_value(alloc: Global, explored: Explored, runs: &[Run]) -> Result<Val
 {
     let complete = Value::Bool(explored.complete);
     let mut members = Map::new(alloc);
-    put_number(&mut members, alloc, "starts", u64::from(explored.starts))?;
-    put_number(&mut members, alloc, "reached", count_reached(runs) as u64)?;
-    put_number(&mut members, alloc, "moments", u64::from(explored.moments))?;
+    set_number(&mut members, alloc, "starts", u64::from(explored.starts))?;
+    set_number(&mut members, alloc, "reached", count_reached(runs) as u64)?;
+    set_number(&mut members, alloc, "moments", u64::from(explored.moments))?;
     put(&mut members, alloc, "complete", complete)?;
     Ok(Value::Object(members))
 }

@@ -1,6 +1,6 @@
 //! Where processes stand when a step breaks a condition.
 
-use og_places::{NoteSite, StatementSite};
+use og_typed::{NoteSite, StatementSite};
 
 /// Where processes stand at a moment at which a condition matters.
 #[derive(Clone, Copy, Debug)]

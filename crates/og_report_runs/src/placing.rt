@@ -2,13 +2,12 @@
 
 ghost use Rattle.std.specs.Prelude.{◌≡◌, IfSome};
 ghost use Rattle.og_cond.specs.Seen.{seen};
-ghost use Rattle.og_places.specs.Seen.{statement_of};
+ghost use Rattle.og_typed.specs.Seen.{statement_of};
 ghost use Rattle.og_report_runs.specs.Places.{number_of, IsExit, IsStatementPlace, IsInterferencePlace, IsNotePlace, IsLeavingPlace, IsEndPlace, IsPlaceOf};
 
 use crate::place::Place;
 use og_cond::{Condition, Kind};
-use og_places::{Index, Part, StatementSite};
-use og_typed::{Outline, Seq, Stmt};
+use og_typed::{Index, Outline, Part, Seq, StatementSite, Stmt};
 
 /// The number of the process of a part.
 pub(crate) fn number_of(outline: &Outline, part: Part) -> u32

@@ -4,18 +4,17 @@ ghost use Rattle.std.specs.Prelude.{◌≡◌, ◌↔◌, IfOk, IsTrue, option_m
 ghost use Rattle.og_typed.specs.Plain.{formula, noted, statement};
 ghost use Rattle.og_typed.specs.Machine.{todo};
 ghost use Rattle.og_subst.specs.Actions.{action_tree, stmt_action};
-ghost use Rattle.og_places.specs.Seen.{note_of, statement_of};
+ghost use Rattle.og_typed.specs.Seen.{note_of, statement_of};
 ghost use Rattle.og_report_text.specs.Assertions.{assertion_text};
 ghost use Rattle.og_report_runs.specs.Places.{number_of, next_action, IsAt, IsBefore, Stands};
 
 use crate::place::Place;
 use crate::placing::number_of;
-use og_places::StatementSite;
 use og_report_text::put_assertion;
 use og_step::Moment;
 use og_subst::Action;
 use og_text::Name;
-use og_typed::{Assert, Note, Outline, Stmt};
+use og_typed::{Assert, Note, Outline, StatementSite, Stmt};
 use std::alloc::{AllocError, Global};
 
 /// Whether two assertions read alike.

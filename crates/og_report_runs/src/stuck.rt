@@ -3,18 +3,17 @@
 ghost use Rattle.std.specs.Prelude.{◌≡◌, IfOk, IfSome, IsTrue, option_map};
 ghost use Rattle.og_typed.specs.Plain.{formula};
 ghost use Rattle.og_typed.specs.Machine.{todo};
-ghost use Rattle.og_places.specs.Seen.{statement_of};
+ghost use Rattle.og_typed.specs.Seen.{statement_of};
 ghost use Rattle.og_report_text.specs.Assertions.{assertion_text};
 ghost use Rattle.og_report_runs.specs.Told.{next_test, IsNext, StandsAt, AreStandsAt};
 
 use crate::placing::number_of;
 use crate::standing::{is_at, is_before, read_alike};
-use og_explain::{Stand, Unexplained, test_of, tested};
-use og_places::{Index, StatementSite};
+use og_report_explain::{Stand, Unexplained, test_of, tested};
 use og_step::Moment;
+use og_subst::Values;
 use og_text::Name;
-use og_typed::{Assert, Outline};
-use og_values::Values;
+use og_typed::{Assert, Index, Outline, StatementSite};
 use std::alloc::{AllocError, Global};
 
 // The test of what process p does next, or its guard.

@@ -4,19 +4,18 @@ ghost use Rattle.std.specs.Prelude.{◌≡◌, IfOk};
 ghost use Rattle.og_typed.specs.Machine.{IsReached};
 ghost use Rattle.og_cond.specs.Seen.{seen};
 ghost use Rattle.og_find.specs.Found.{IsFalseAt};
-ghost use Rattle.og_explain.specs.Explanations.{IsExplained};
+ghost use Rattle.og_report_explain.specs.Explanations.{IsExplained};
 ghost use Rattle.og_report_prove.specs.Told.{IsBlock, IsTold};
 ghost use Rattle.og_report_runs.specs.Told.{IsPlaced, IsToldAt, LeadsTo, IsToldBy};
 
 use crate::stuck::stands_at;
 use crate::witness::Witness;
 use og_cond::Condition;
-use og_explain::{Explanation, Fault, Stand, Unexplained, explain};
-use og_places::Index;
+use og_report_explain::{Explanation, Fault, Stand, Unexplained, explain};
 use og_report_prove::{Block, Told, block_of};
 use og_step::Moment;
-use og_typed::Outline;
-use og_values::Values;
+use og_subst::Values;
+use og_typed::{Index, Outline};
 use og_violation::moment_after;
 use std::alloc::{AllocError, Global};
 

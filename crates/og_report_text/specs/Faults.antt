@@ -1,6 +1,6 @@
 -- The number and the name of a fault, and where in the source it stands.
 use Rattle.std.specs.Prelude.{ℕ, List, Option, None, codes}
-use Rattle.og_source.specs.Faults.{number_of_source, name_of_source, place_of_source}
+use Rattle.og_typed.specs.SourceFaults.{number_of_source, name_of_source, place_of_source}
 use Rattle.og_cert_text.specs.Faults.{text_fault_number, text_fault_name}
 use Rattle.og_report_text.specs.declared.fault.InputFault.{InputFault}
 use Rattle.og_report_text.specs.declared.fault.InputFault.TheVariants as faults

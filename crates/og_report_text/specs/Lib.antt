@@ -10,3 +10,5 @@ pub mod Relations
 pub mod Seen
 pub mod Told
 pub mod Values
+pub mod Numbers
+pub mod Yes

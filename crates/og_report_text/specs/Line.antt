@@ -1,7 +1,7 @@
 -- The line of a refusal.
 use Rattle.std.specs.Prelude.{ℕ, List, Option, Some, None, codes}
 use Rattle.std.specs.Fmt.{decimal}
-use Rattle.og_source.specs.Faults.{number_of_source, name_of_source, place_of_source}
+use Rattle.og_typed.specs.SourceFaults.{number_of_source, name_of_source, place_of_source}
 use Rattle.og_cert_text.specs.Faults.{text_fault_number, text_fault_name, text_fault_line}
 use Rattle.og_report_text.specs.Places.{◌&◌, position_of, position_text}
 use Rattle.og_report_text.specs.declared.fault.InputFault.{InputFault}

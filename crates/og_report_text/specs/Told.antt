@@ -4,8 +4,8 @@ use Rattle.og_typed.specs.Syntax.{Program}
 use Rattle.og_cond.specs.Conditions.{conditions}
 use Rattle.og_cond.specs.Limits.{condition_limit}
 use Rattle.og_cond.specs.declared.fault.TooMany.{TooMany}
-use Rattle.og_source.specs.Refused.{IsSourceFault}
-use Rattle.og_source.specs.declared.fault.SourceFault.{SourceFault}
+use Rattle.og_typed.specs.Refused.{IsSourceFault}
+use Rattle.og_typed.specs.declared.source_fault.SourceFault.{SourceFault}
 use Rattle.og_report_text.specs.declared.fault.InputFault.{InputFault}
 use Rattle.og_report_text.specs.declared.fault.InputFault.TheVariants as faults
 use Rattle.og_report_text.specs.declared.answer.Answer.{Answer}

@@ -3,11 +3,11 @@
 ghost use Rattle.std.specs.Prelude.{◌≡◌, ◌≤◌, ◌^◌, length, IfOk, IsSome};
 ghost use Rattle.og_report_text.specs.Faults.{place_of_input};
 ghost use Rattle.og_report_text.specs.Told.{IsTold, IsUnread};
-ghost use Rattle.og_source.specs.Refused.{IsNotRead};
+ghost use Rattle.og_typed.specs.Refused.{IsNotRead};
 
 use crate::fault::InputFault;
 use crate::line::refused_line;
-use og_source::SourceError;
+use og_typed::SourceError;
 use std::alloc::{AllocError, Global};
 
 /// What is printed, and the status with which the program ends.

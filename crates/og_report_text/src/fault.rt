@@ -6,7 +6,7 @@ ghost use Rattle.og_report_text.specs.declared.fault.InputFault.TheVariants as f
 
 use og_cert_text::CertTextFault;
 use og_cond::TooMany;
-use og_source::SourceFault;
+use og_typed::SourceFault;
 use thiserror::Error;
 
 /// What is wrong with a source and its certificates: the first of these that applies, in this

@@ -1,5 +1,5 @@
 //! What reports share: places and numbers, the facts of conditions, quoted lines, assertions and values,
-//! and the texts of refusals.
+//! the texts of refusals, and members, lists and bytes of JSON.
 //!
 //! specs/ defines each text, in a file named for it.
 #![tactic(auto)]
@@ -12,6 +12,7 @@ mod facts;
 mod fault;
 mod forms;
 mod heading;
+mod json_values;
 mod line;
 mod origins;
 mod places;
@@ -28,6 +29,7 @@ pub use conjuncts::{add_conjuncts, put_conjuncts, put_known, speaks_of};
 pub use fault::InputFault;
 pub use forms::{put_constant, put_name, put_times};
 pub use heading::put_heading;
+pub use json_values::{bytes_of, list_value, set_number, set_text};
 pub use line::{put_opening, refused_line};
 pub use origins::Origins;
 pub use places::{Places, Position};

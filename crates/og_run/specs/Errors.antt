@@ -4,8 +4,8 @@ use Rattle.og_step.specs.declared.fault.StartError.TheVariants as start_errors
 use Rattle.og_run.specs.declared.fault.RunFault.TheVariants as faults
 use Rattle.og_run.specs.declared.fault.RunError.{RunError}
 use Rattle.og_run.specs.declared.fault.RunError.TheVariants as errors
-use Rattle.og_threads.specs.declared.fault.ThreadFault.{ThreadFault}
-use Rattle.og_threads.specs.declared.fault.ThreadFault.TheVariants as threads
+use Rattle.og_pool.specs.declared.thread_fault.ThreadFault.{ThreadFault}
+use Rattle.og_pool.specs.declared.thread_fault.ThreadFault.TheVariants as threads
 use Rattle.og_run.specs.Faults.{fault_of_start}
 
 abbrev pub error_of_start : StartError → RunError

@@ -4,8 +4,8 @@ ghost use Rattle.std.specs.Prelude.{◌≡◌};
 ghost use Rattle.og_run.specs.Faults.{number_of_fault, name_of_fault};
 ghost use Rattle.og_run.specs.Errors.{error_of_start, error_of_thread};
 
+use og_pool::ThreadFault;
 use og_step::{StartError, StartFault};
-use og_threads::ThreadFault;
 use std::alloc::AllocError;
 use thiserror::Error;
 

@@ -9,8 +9,7 @@ use crate::arena::{Arena, Blank, Seat};
 use crate::machine::Machine;
 use crate::rule::ArenaName;
 use crate::turn::RunTurn;
-use og_pool::Gate;
-use og_threads::{Job, ThreadFault, in_threads};
+use og_pool::{Gate, Job, ThreadFault, in_threads};
 use std::alloc::Global;
 use std::marker::Brand;
 use std::sync::{Condvar, Mutex, Wait};
@@ -80,7 +79,7 @@ struct Run<'a, K: ArenaName, B: Machine, G> {
 impl<'a, K: ArenaName + Send + Sync, B: Machine + Send, G: Gate> Job for Run<'a, K, B, G> {
     ghost use Rattle.std.specs.Prelude.{◌≡◌, ⊤};
     ghost use Rattle.og_run.specs.Cards.{CameBack};
-    ghost use Rattle.og_threads.specs.declared.fault.ThreadFault.TheVariants.{Spawn};
+    ghost use Rattle.og_pool.specs.declared.thread_fault.ThreadFault.TheVariants.{Spawn};
 
     type Part = Seat<K>;
 

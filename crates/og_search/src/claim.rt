@@ -5,9 +5,9 @@ use crate::rests::Rests;
 use crate::search::Search;
 use crate::stop::{Halt, Stop};
 use og_cert_text::Cert;
-use og_choices::Part;
-use og_inequalities::{Bounds, Model, TOP};
-use og_refutation::{certificate, leaf};
+use og_search_choices::Part;
+use og_search_refutation::{certificate, leaf};
+use og_search_rows::{Bounds, Model, TOP};
 use std::alloc::{AllocError, Global};
 
 /// What a search ends with. Whoever relies on it has to check it.

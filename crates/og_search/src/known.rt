@@ -1,9 +1,9 @@
 //! What is known on the path of a search: rows, those of several variables by their terms.
 
 use crate::stop::Halt;
-use og_choices::{Atom, Index, Part};
-use og_elimination::{close_within, note_bound};
-use og_inequalities::{Added, Bounds, Inequality, Place, Rows, Variables};
+use og_search_choices::{Atom, Index, Part};
+use og_search_elimination::{close_within, note_bound};
+use og_search_rows::{Added, Bounds, Inequality, Place, Rows, Variables};
 use std::alloc::{AllocError, Global};
 
 /// The rows of a search.

@@ -12,5 +12,5 @@ mod steps;
 mod stop;
 
 pub use claim::{Claim, Ground, Start, begin, search_among};
-pub use og_choices::Part;
-pub use og_inequalities::Model;
+pub use og_search_choices::Part;
+pub use og_search_rows::Model;

@@ -4,7 +4,7 @@
 //! in the parts of all other choices too. Once the search is in a part of one of them, they are
 //! known, and need not be looked at in the others.
 
-use og_choices::{Atom, Chains, Choice, Part, mark_of_atom};
+use og_search_choices::{Atom, Chains, Choice, Part, mark_of_atom};
 use std::alloc::{AllocError, Global};
 
 /// The fewest facts of a choice that is looked at.

@@ -4,15 +4,15 @@ use crate::known::KnownRows;
 use crate::rests::Rests;
 use crate::steps::{Decision, Entry, Parts};
 use crate::stop::{Halt, Stop};
-use og_choices::{
+use og_search_choices::{
     Against, Chains, Choice, Clash, Common, Denials, Facts, News, Open, Part, Reach, View,
     common_to_choice, failing, forced, forced_among, refuted_by, untaken, weight,
 };
-use og_elimination::{Gap, Outcome, Problem, Ranges, eliminate, narrow};
-use og_inequalities::{Bounds, Inequality, Model, Place, TOP, Term, Variables};
-use og_pigeons::{Crowd, look, weight_of_pairs};
-use og_queues::{Queue, Sight, look as look_for_queue};
-use og_refutation::{Cases, Lifted, Placed, Proof, both_sides, denial, leaf, refute_clash};
+use og_search_elimination::{Gap, Outcome, Problem, Ranges, eliminate, narrow};
+use og_search_pigeons::{Crowd, look, weight_of_pairs};
+use og_search_queues::{Queue, Sight, look as look_for_queue};
+use og_search_refutation::{Cases, Lifted, Placed, Proof, both_sides, denial, leaf, refute_clash};
+use og_search_rows::{Bounds, Inequality, Model, Place, TOP, Term, Variables};
 use std::alloc::{AllocError, Global};
 
 /// Below this level a choice is taken only where it is false of the values.

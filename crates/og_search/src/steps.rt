@@ -1,10 +1,10 @@
 //! With what a level of a search begins, and how it goes on.
 
-use og_choices::Part;
-use og_inequalities::Inequality;
-use og_pigeons::Crowd;
-use og_queues::Queue;
-use og_refutation::{Lifted, Proof};
+use og_search_choices::Part;
+use og_search_pigeons::Crowd;
+use og_search_queues::Queue;
+use og_search_refutation::{Lifted, Proof};
+use og_search_rows::Inequality;
 
 /// The facts with which a level begins.
 #[derive(Drop)]

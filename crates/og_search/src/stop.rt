@@ -1,8 +1,8 @@
 //! Why a search ends without a certificate, and what ends the work on its rows.
 
-use og_inequalities::{AddError, RowError};
-use og_pigeons::Unrefuted;
-use og_refutation::{Unshown, Unwritten};
+use og_search_pigeons::Unrefuted;
+use og_search_refutation::{Unshown, Unwritten};
+use og_search_rows::{AddError, RowError};
 use std::alloc::{AllocError, AllocFailed};
 
 /// Why a search ends.

@@ -1,13 +1,12 @@
 //! One step of what is left at a point.
 
 ghost use Rattle.std.specs.Prelude.{◌≡◌, ◌≤◌, length};
-ghost use Rattle.og_flow.specs.Points.{rest_at};
+ghost use Rattle.og_typed.specs.Points.{rest_at};
 ghost use Rattle.og_step.specs.Turns.{AreUsable, rest_turn, IsStep};
 
 use crate::truth::evaluate;
 use crate::values::Values;
-use og_flow::Points;
-use og_typed::Stmt;
+use og_typed::{Points, Stmt};
 
 /// What came of a step.
 #[derive(Clone, Copy, Debug, Drop, PartialEq, Eq)]

@@ -3,3 +3,4 @@ pub mod Touching
 pub mod Running
 pub mod Mapping
 pub mod Equal
+pub mod Terms

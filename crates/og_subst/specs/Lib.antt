@@ -3,3 +3,4 @@ pub mod Trees
 pub mod Prepared
 pub mod Subst
 pub mod Running
+pub mod Large

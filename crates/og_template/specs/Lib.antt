@@ -1,1 +1,4 @@
+pub mod Front
+pub mod Mask
+pub mod Words
 pub mod Faults

@@ -2,14 +2,13 @@
 
 ghost use Rattle.std.specs.Prelude.{◌≡◌, ◌<◌, ◌≤◌, length, true, OnOk};
 
+use crate::Special;
 use crate::binders::binder_to_colon;
 use crate::cursor::Cursor;
 use crate::lists::{boxed, put};
 use crate::sums::sum;
 use crate::tree::{Assertion, Binder, Conjunction, Disjunction, Factor, Note, Sum, TermKind, Unit};
-use og_grammar::{FaultKind, Refusal};
-use og_parse::Sign;
-use og_template_words::Special;
+use og_parse::{FaultKind, Refusal, Sign};
 use og_text::{Span, TokenKind};
 use std::alloc::Global;
 

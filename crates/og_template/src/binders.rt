@@ -2,12 +2,12 @@
 
 ghost use Rattle.std.specs.Prelude.{◌≤◌, length};
 
+use crate::Special;
 use crate::cursor::Cursor;
 use crate::exprs::expr;
 use crate::lists::{Listed, list};
 use crate::tree::{Binder, Bounds, Test};
-use og_grammar::{FaultKind, Refusal};
-use og_template_words::Special;
+use og_parse::{FaultKind, Refusal};
 use og_text::TokenKind;
 use std::alloc::Global;
 

@@ -3,9 +3,8 @@
 ghost use Rattle.std.specs.Prelude.{◌≡◌, ◌<◌, ◌≤◌, drop, length, IfSome, OnOk};
 ghost use Rattle.std.specs.Bool.{MatchBool};
 
-use og_grammar::{FaultKind, Refusal};
-use og_parse::{RawName, Relation, Sign};
-use og_template_words::{Special, Word, WordKind};
+use crate::{Special, Word, WordKind};
+use og_parse::{FaultKind, RawName, Refusal, Relation, Sign};
 use og_text::{Name, Span, TokenKind};
 use std::alloc::Global;
 use std::marker::Model;
@@ -18,7 +17,7 @@ pub(crate) struct Cursor<'a> {
 
 impl<'a> Model for Cursor<'a> {
     ghost use Rattle.std.specs.Prelude.{List};
-    ghost use Rattle.og_template_words.specs.declared.word.Word.{Word};
+    ghost use Rattle.og_template.specs.declared.word.Word.{Word};
 
     ghost Value = { List Word };
 

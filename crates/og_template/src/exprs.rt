@@ -2,11 +2,11 @@
 
 ghost use Rattle.std.specs.Prelude.{◌<◌, ◌≤◌, length, IfSome};
 
+use crate::Special;
 use crate::cursor::Cursor;
 use crate::lists::{Listed, list, put};
 use crate::tree::{Expr, Link, Operator};
-use og_grammar::{FaultKind, Refusal};
-use og_template_words::Special;
+use og_parse::{FaultKind, Refusal};
 use og_text::{Span, TokenKind};
 use std::alloc::{AllocError, Global};
 

@@ -3,8 +3,7 @@
 ghost use Rattle.std.specs.Prelude.{◌≤◌, length};
 
 use crate::cursor::Cursor;
-use og_grammar::Refusal;
-use og_parse::RawName;
+use og_parse::{RawName, Refusal};
 use og_text::TokenKind;
 use std::alloc::Global;
 

@@ -2,6 +2,7 @@
 
 ghost use Rattle.std.specs.Prelude.{◌<◌, ◌≤◌, length, OnOk};
 
+use crate::Special;
 use crate::assertions::{note, test};
 use crate::binders::{binder, binder_to_colon};
 use crate::cursor::Cursor;
@@ -9,8 +10,7 @@ use crate::exprs::bracketed;
 use crate::lists::{Listed, list};
 use crate::sums::sum;
 use crate::tree::{Assertion, Basic, Binder, Element, Sequence, Statement, Step};
-use og_grammar::{FaultKind, Refusal};
-use og_template_words::Special;
+use og_parse::{FaultKind, Refusal};
 use og_text::TokenKind;
 use std::alloc::Global;
 

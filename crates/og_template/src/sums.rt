@@ -2,14 +2,13 @@
 
 ghost use Rattle.std.specs.Prelude.{◌≤◌, length};
 
+use crate::Special;
 use crate::binders::binder_to_colon;
 use crate::cursor::Cursor;
 use crate::exprs::{arguments, bracketed};
 use crate::lists::put;
 use crate::tree::{Factor, Sum, Term, TermKind};
-use og_grammar::{FaultKind, Refusal};
-use og_parse::Sign;
-use og_template_words::Special;
+use og_parse::{FaultKind, Refusal, Sign};
 use og_text::TokenKind;
 use std::alloc::Global;
 

@@ -12,9 +12,8 @@ use crate::statements::{Limits, rest_of_block, sequence};
 use crate::tree::{
     Auxiliary, Binder, Bounds, Constant, Named, Note, Process, Sequence, Template, Variable,
 };
-use og_grammar::{FaultKind as Stop, Refusal};
-use og_parse::RawName;
-use og_template_words::{Special, Word};
+use crate::{Special, Word};
+use og_parse::{FaultKind as Stop, RawName, Refusal};
 use og_text::{Span, TokenKind};
 use std::alloc::Global;
 

@@ -3,8 +3,8 @@
 use og_cond::{Condition, Goal, Hypothesis, Kind, conditions};
 use og_facts::{FactList, FactsError, FactsFault, facts, facts_with};
 use og_linear::{Form, FormError};
-use og_samples::{SKIP_AND_ASSIGN, TOLD_ADD, TWO_ADD, outline_of};
 use og_subst::Action;
+use og_test_samples::{SKIP_AND_ASSIGN, TOLD_ADD, TWO_ADD, outline_of};
 use og_typed::{Basic, Outline};
 use std::alloc::{AllocError, Global};
 use std::process::Abort;

@@ -1,7 +1,7 @@
 //! The room that a list of conditions takes.
 
 use og_cond::conditions;
-use og_samples::{equal_processes, outline_of};
+use og_test_samples::{equal_processes, outline_of};
 use og_typed::Outline;
 use std::alloc::Global;
 use std::process::Abort;

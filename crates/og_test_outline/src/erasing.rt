@@ -2,7 +2,7 @@
 
 use og_erase::{Program, erase};
 use og_print::print_outline;
-use og_samples::outline_of;
+use og_test_samples::outline_of;
 use og_typed::Outline;
 use std::alloc::Global;
 use std::test::Fail;

@@ -1,8 +1,7 @@
 //! What stands where in an outline.
 
-use og_places::{Index, Part};
-use og_samples::{NESTED, outline_of};
-use og_typed::Outline;
+use og_test_samples::{NESTED, outline_of};
+use og_typed::{Index, Outline, Part};
 use std::alloc::Global;
 use std::process::Abort;
 use std::test::Fail;

@@ -1,8 +1,8 @@
 //! Moments: starts, current assertions, and processes that have ended.
 
 use og_linear::State;
-use og_samples::{TWO_ADD, WITH_MAIN, outline_of};
 use og_step::{Moment, StartError, start};
+use og_test_samples::{TWO_ADD, WITH_MAIN, outline_of};
 use og_typed::{Assert, Outline};
 use std::alloc::{AllocError, Global};
 use std::process::Abort;

@@ -1,12 +1,12 @@
 //! What commands answer, as texts.
 
-use og_engine::{
+use og_command_check::{
     Answer, EngineFault, FindReply, Options, Wanted, checked, engine, erased, found, migrated,
 };
 use og_io::{Budget, CertVersion, OutputFault, Workers};
 use og_pool::{OpenGate, PoolFault};
 use og_report_conditions::{Form, Listing, Reply, listed};
-use og_samples::{
+use og_test_samples::{
     ONE_SKIP, ONE_SKIP_CERTS, ONE_SKIP_CERTS_2, TOLD_ADD, TWO_ADD, TWO_ADD_CERTS, alike,
 };
 use std::alloc::Global;

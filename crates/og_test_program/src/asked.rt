@@ -1,6 +1,6 @@
 //! Checks and searches by so many workers.
 
-use og_engine::{Answer, CERTS_LIMIT, FindReply, Options, Wanted, checked, found};
+use og_command_check::{Answer, CERTS_LIMIT, FindReply, Options, Wanted, checked, found};
 use og_find::Missing;
 use og_io::{Budget, CertVersion, Workers};
 use og_pool::{Gate, OpenGate};

@@ -1,10 +1,10 @@
 //! Checks from readers and to writers that fail.
 
 use crate::devices::{Lapse, OneByOne, Paper, Restless, Spaces};
-use og_engine::{EngineFault, Options, engine, engine_joined};
+use og_command_check::{EngineFault, Options, engine, engine_joined};
 use og_io::{Workers, read_up_to};
 use og_pool::OpenGate;
-use og_samples::{ONE_SKIP, ONE_SKIP_CERTS};
+use og_test_samples::{ONE_SKIP, ONE_SKIP_CERTS};
 use std::alloc::Global;
 use std::io::{ErrorKind, Read};
 use std::process::Abort;

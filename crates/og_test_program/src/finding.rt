@@ -4,7 +4,7 @@ use crate::asked::{certs_by, checked_by};
 use og_find::Missing;
 use og_io::CertVersion;
 use og_pool::OpenGate;
-use og_samples::{EQUAL_ADD, TWO_ADD, alike};
+use og_test_samples::{EQUAL_ADD, TWO_ADD, alike};
 use std::alloc::Global;
 use std::process::Abort;
 use std::sync::Wait;

@@ -1,10 +1,10 @@
 //! Every front of a source, and of its certificates.
 
 use crate::asked::{certs_by, checked_by};
-use og_engine::Answer;
+use og_command_check::Answer;
 use og_io::CertVersion;
 use og_pool::OpenGate;
-use og_samples::TWO_ADD;
+use og_test_samples::TWO_ADD;
 use std::alloc::Global;
 use std::process::Abort;
 use std::str;

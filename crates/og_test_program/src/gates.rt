@@ -2,7 +2,7 @@
 
 use crate::asked::checked_by;
 use og_pool::Gate;
-use og_samples::TWO_ADD;
+use og_test_samples::TWO_ADD;
 use std::sync::atomic::{AtomicU64, Ordering};
 use std::test::Fail;
 use std::thread;

@@ -3,7 +3,7 @@
 use og_judge::{Judgement, Refusal, judge};
 use og_pool::{OpenGate, PoolFault};
 use og_report::{json, text};
-use og_samples::{SKIP_AND_ASSIGN, SKIP_AND_ASSIGN_CERTS, TWO_ADD, TWO_ADD_CERTS};
+use og_test_samples::{SKIP_AND_ASSIGN, SKIP_AND_ASSIGN_CERTS, TWO_ADD, TWO_ADD_CERTS};
 use std::alloc::Global;
 use std::sync::Wait;
 use std::thread::Threads;

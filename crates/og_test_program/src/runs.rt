@@ -1,9 +1,9 @@
 //! Runs of sources.
 
+use og_command_run::{Ran, Reply, ran, ran_by_schedule, ran_proved};
 use og_io::RunLimit;
 use og_pool::{OpenGate, PoolFault};
-use og_running::{Ran, Reply, ran, ran_by_schedule, ran_proved};
-use og_samples::{TWO_ADD, TWO_ADD_CERTS};
+use og_test_samples::{TWO_ADD, TWO_ADD_CERTS};
 use std::alloc::Global;
 use std::sync::Wait;
 use std::thread::Threads;

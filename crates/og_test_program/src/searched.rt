@@ -4,11 +4,10 @@ ghost use Rattle.std.specs.Prelude.{◌<◌, ◌^◌, IfOk, IfSome, vec_len};
 
 use og_cond::{Condition, ConditionsError, conditions};
 use og_find::{Missing, Verdict, examine};
-use og_finder::find_all;
+use og_find_all::find_all;
 use og_pool::{OpenGate, PoolFault};
-use og_samples::{TWO_ADD, outline_of};
-use og_source::SourceError;
-use og_typed::Outline;
+use og_test_samples::{TWO_ADD, outline_of};
+use og_typed::{Outline, SourceError};
 use std::alloc::Global;
 use std::sync::Wait;
 use std::thread::Threads;

@@ -4,7 +4,7 @@ ghost use Rattle.std.specs.Prelude.{◌≡◌, []};
 
 use crate::sources::{ONE_OVERFLOWS, ONE_WAITS, state_of};
 use og_run::{Arena, ArenaName, Blank, Board, RunTurn, Seat};
-use og_samples::{TWO_ADD, WITH_MAIN, outline_of};
+use og_test_samples::{TWO_ADD, WITH_MAIN, outline_of};
 use og_typed::Outline;
 use std::alloc::{AllocError, Global};
 use std::marker::Brand;

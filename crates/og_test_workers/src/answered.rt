@@ -1,10 +1,10 @@
 //! What is printed of runs whose gates say which process goes first.
 
 use crate::gates::Holds;
+use og_command_run::{Ran, Reply, ran, ran_proved};
 use og_io::RunLimit;
 use og_run::Gate;
-use og_running::{Ran, Reply, ran, ran_proved};
-use og_samples::{TOLD_ADD, TWO_ADD, TWO_ADD_CERTS};
+use og_test_samples::{TOLD_ADD, TWO_ADD, TWO_ADD_CERTS};
 use std::alloc::Global;
 use std::process::Abort;
 use std::sync::Wait;

@@ -7,7 +7,7 @@ use crate::finder::{
     Expected, expect_by_all, expect_found, expect_greater_budget, expect_other_sign,
 };
 use og_cond::{Condition, conditions};
-use og_samples::outline_of;
+use og_test_samples::outline_of;
 use og_typed::Outline;
 use std::alloc::Global;
 use std::process::Abort;

@@ -3,7 +3,7 @@
 use crate::sources::state_of;
 use og_judge::{Judgement, judge};
 use og_run::{OpenGate, ProvedBoard, RunTurn};
-use og_samples::{TWO_ADD, TWO_ADD_CERTS};
+use og_test_samples::{TWO_ADD, TWO_ADD_CERTS};
 use std::alloc::Global;
 use std::process::Abort;
 use std::test::Fail;

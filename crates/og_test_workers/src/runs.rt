@@ -3,7 +3,9 @@
 use crate::gates::{Counts, Holds};
 use crate::sources::{ONE_OVERFLOWS, ONE_WAITS, state_of};
 use og_run::{Finish, Gate, OpenGate, Outcome, RunError, RunFault, run};
-use og_samples::{AUXILIARY_LOOP, EACH_WAITS, TWO_ADD, UP_AND_DOWN, WITH_MAIN, alike, outline_of};
+use og_test_samples::{
+    AUXILIARY_LOOP, EACH_WAITS, TWO_ADD, UP_AND_DOWN, WITH_MAIN, alike, outline_of,
+};
 use std::alloc::Global;
 use std::process::Abort;
 use std::sync::Wait;

@@ -14,3 +14,7 @@ pub mod Counting
 pub mod Following
 pub mod Below
 pub mod Meets
+pub mod OneOutline
+pub mod Resolution
+pub mod SiteItems
+pub mod Tables

@@ -18,3 +18,13 @@ pub mod Resolved
 pub mod Answer
 pub mod Bounds
 pub mod Scoped
+pub mod Source
+pub mod Refused
+pub mod SourceFaults
+pub mod Errors
+pub mod Shown
+pub mod Seen
+pub mod Sites
+pub mod Points
+pub mod Table
+pub mod Beginning

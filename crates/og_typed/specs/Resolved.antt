@@ -1,7 +1,7 @@
 -- The outline that a tree with names stands for, or its first fault in the order of the text.
 use Rattle.std.specs.Prelude.{ℕ, ◌+◌, ℤ, pos, negsuc, neg_ℤ, List, [], ◌∷◌, ◌++◌, length, if◌then◌else◌, nat_lt, Option, Some, None, position, Result, Ok, Err}
 use Rattle.std.specs.Str.{bytes_eq}
-use Rattle.og_grammar.specs.Language.{Placed}
+use Rattle.og_parse.specs.Language.{Placed}
 use Rattle.og_parse.specs.declared.raw.Sign.{Sign}
 use Rattle.og_parse.specs.declared.raw.Sign.TheVariants.{Plus, Minus}
 use Rattle.og_parse.specs.declared.raw.RawName.{RawName}

@@ -3,7 +3,7 @@ use Rattle.std.proofs.lemmas.List.{length-map}
 use Rattle.og_cond.specs.Limits.{condition_limit}
 use Rattle.og_cond.specs.Seen.{seen}
 use Rattle.og_report_text.specs.Told.{Says}
-use Rattle.og_engine.specs.Proving.{told_status}
+use Rattle.og_command_check.specs.Proving.{told_status}
 use Rattle.og_report_html.specs.Page.{page_text}
 use Rattle.og_report_html.specs.declared.target.Target.{Target}
 use Rattle.og_command_prove.proofs.PagePromised.{page_of}

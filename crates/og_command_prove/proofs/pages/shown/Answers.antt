@@ -1,6 +1,6 @@
 use Rattle.std.proofs.Common.{ℕ, List, IfOk, subst}
 use Rattle.std.proofs.lemmas.Result.{IfOk-weaker}
-use Rattle.og_engine.proofs.Answering.{of_source}
+use Rattle.og_command_check.proofs.Answering.{of_source}
 use Rattle.og_command_prove.specs.Showing.{IsPageOf}
 use Rattle.og_command_prove.proofs.PagePromised.{shown_proven}
 use Rattle.og_command_prove.proofs.pages.shown.Goals as goal

@@ -2,7 +2,7 @@ use Rattle.std.proofs.Common.{◌≡◌, Bool, true, map, rules, sym, subst}
 use Rattle.og_cond.specs.Seen.{seen}
 use Rattle.og_theorem.specs.Proved.{IsProved}
 use Rattle.og_report_prove.specs.Report.{is_safe}
-use Rattle.og_engine.proofs.AllTold.{proved_by}
+use Rattle.og_command_check.proofs.AllTold.{proved_by}
 use Rattle.og_command_prove.proofs.proving.answer_of.Goals as goal
 
 pub new-proved-requires : goal.new-proved-requires

@@ -3,7 +3,7 @@ use Rattle.std.specs.Prelude.{option_map}
 use Rattle.std.proofs.lemmas.List.{drop_all}
 use Rattle.std.proofs.lemmas.Option.{slice_get-map, slice_get_read}
 use Rattle.og_cond.specs.Seen.{seen}
-use Rattle.og_engine.proofs.AllTold.{verdict_true, dropped}
+use Rattle.og_command_check.proofs.AllTold.{verdict_true, dropped}
 use Rattle.og_command_prove.proofs.Answered.{MakesAll, all_go_on, all_end}
 use Rattle.og_command_prove.proofs.showing.show_all.Goals as goal
 

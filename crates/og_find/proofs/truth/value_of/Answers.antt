@@ -3,7 +3,7 @@ use mir.Syntax.{w128}
 use Rattle.std.specs.Prelude.{slice_get}
 use Rattle.std.proofs.lemmas.Int.{to_z-of_z}
 use Rattle.og_linear.specs.Linear.{val_terms, value_at}
-use Rattle.og_values.proofs.Terms.{value_turn, value_end}
+use Rattle.og_subst.proofs.Terms.{value_turn, value_end}
 use Rattle.og_find.proofs.truth.value_of.Goals as goal
 
 pub returns-in-None : goal.returns-in-None

@@ -1,7 +1,7 @@
 use Rattle.std.proofs.Common.{◌≡◌, map, ◌+◌, ◌*◌, length}
 use Rattle.og_text.specs.declared.token.TokenKind.TheVariants.{And, Or}
-use Rattle.og_grammar.specs.Reading.{is_a, many_at, after_at}
-use Rattle.og_grammar.proofs.Loops.{with_front}
+use Rattle.og_parse.specs.Reading.{is_a, many_at, after_at}
+use Rattle.og_parse.proofs.Loops.{with_front}
 use Rattle.og_parse.specs.TreeOf.{assertion_of}
 use Rattle.og_parse.specs.Reads.{opens, unit_by, units_by, conjunction_by, conjunctions_by}
 use Rattle.og_parse.proofs.assertions.+assertions.Given as goal

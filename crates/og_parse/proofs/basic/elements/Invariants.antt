@@ -1,7 +1,7 @@
 use Rattle.std.proofs.Common.{◌≡◌, map, length}
 use Rattle.og_text.specs.declared.token.TokenKind.TheVariants.{Semicolon}
-use Rattle.og_grammar.specs.Reading.{is_a, many_at, after_at}
-use Rattle.og_grammar.proofs.Loops.{with_front}
+use Rattle.og_parse.specs.Reading.{is_a, many_at, after_at}
+use Rattle.og_parse.proofs.Loops.{with_front}
 use Rattle.og_parse.specs.TreeOf.{element_of}
 use Rattle.og_parse.specs.Reads.{element_at, separated_elements_at}
 use Rattle.og_parse.proofs.basic.elements.Given as goal

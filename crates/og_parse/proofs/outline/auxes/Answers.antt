@@ -1,7 +1,7 @@
 use Rattle.std.proofs.Common.{sym, arith}
 use Rattle.og_text.specs.declared.token.TokenKind.TheVariants.{Comma}
-use Rattle.og_grammar.specs.Language.{first_place}
-use Rattle.og_grammar.proofs.Loops.{goes_on_after, onward, symbol_onward}
+use Rattle.og_parse.specs.Language.{first_place}
+use Rattle.og_parse.proofs.Loops.{goes_on_after, onward, symbol_onward}
 use Rattle.og_parse.specs.Reads.{auxes_at}
 use Rattle.og_parse.proofs.OutlineLaws.{aux_laws}
 use Rattle.og_parse.proofs.outline.auxes.Goals as goal

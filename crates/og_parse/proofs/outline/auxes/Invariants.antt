@@ -1,7 +1,7 @@
 use Rattle.std.proofs.Common.{◌≡◌, length}
 use Rattle.og_text.specs.declared.token.TokenKind.TheVariants.{Comma}
-use Rattle.og_grammar.specs.Reading.{is_a, many_at, after_at}
-use Rattle.og_grammar.proofs.Loops.{with_front}
+use Rattle.og_parse.specs.Reading.{is_a, many_at, after_at}
+use Rattle.og_parse.proofs.Loops.{with_front}
 use Rattle.og_parse.specs.Reads.{aux_at, auxes_at}
 use Rattle.og_parse.proofs.outline.auxes.Given as goal
 

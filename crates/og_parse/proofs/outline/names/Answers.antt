@@ -1,7 +1,7 @@
 use Rattle.std.proofs.Common.{sym}
 use Rattle.og_text.specs.declared.token.TokenKind.TheVariants.{Comma}
-use Rattle.og_grammar.specs.Language.{first_place}
-use Rattle.og_grammar.proofs.Loops.{goes_on_after, token_onward}
+use Rattle.og_parse.specs.Language.{first_place}
+use Rattle.og_parse.proofs.Loops.{goes_on_after, token_onward}
 use Rattle.og_parse.specs.Words.{name_of}
 use Rattle.og_parse.specs.Reads.{names_at}
 use Rattle.og_parse.proofs.outline.names.Goals as goal

@@ -1,8 +1,8 @@
 use Rattle.std.proofs.Common.{sym, ◌∷◌, map, true, arith}
 use Rattle.std.proofs.lemmas.List.{map_push}
 use Rattle.og_text.specs.declared.token.TokenKind.TheVariants.{Parallel}
-use Rattle.og_grammar.specs.Language.{first_place}
-use Rattle.og_grammar.proofs.Loops.{goes_on_after, onward, symbol_onward}
+use Rattle.og_parse.specs.Language.{first_place}
+use Rattle.og_parse.proofs.Loops.{goes_on_after, onward, symbol_onward}
 use Rattle.og_parse.specs.TreeOf.{seq_of}
 use Rattle.og_parse.specs.Reads.{processes_at}
 use Rattle.og_parse.proofs.StatementLaws.{seq_laws}

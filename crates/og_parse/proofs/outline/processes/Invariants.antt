@@ -1,7 +1,7 @@
 use Rattle.std.proofs.Common.{◌≡◌, ◌∷◌, map, length, true}
 use Rattle.og_text.specs.declared.token.TokenKind.TheVariants.{Parallel}
-use Rattle.og_grammar.specs.Reading.{is_a, many_at, after_at}
-use Rattle.og_grammar.proofs.Loops.{with_front}
+use Rattle.og_parse.specs.Reading.{is_a, many_at, after_at}
+use Rattle.og_parse.proofs.Loops.{with_front}
 use Rattle.og_parse.specs.TreeOf.{seq_of}
 use Rattle.og_parse.specs.Reads.{seq_at, processes_at}
 use Rattle.og_parse.proofs.outline.processes.Given as goal

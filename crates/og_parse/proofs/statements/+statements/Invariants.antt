@@ -1,5 +1,5 @@
 use Rattle.std.proofs.Common.{◌≡◌, map, ◌+◌, ◌*◌, length}
-use Rattle.og_grammar.specs.Reading.{many_at}
+use Rattle.og_parse.specs.Reading.{many_at}
 use Rattle.og_parse.specs.TreeOf.{item_of, note_of}
 use Rattle.og_parse.specs.Reads.{a_stmt, step_by, compound_at, seq_at}
 use Rattle.og_parse.proofs.Sequences.{with_items}

@@ -1,5 +1,5 @@
 use Rattle.std.proofs.Common.{sym}
-use Rattle.og_grammar.proofs.Loops.{goes_on}
+use Rattle.og_parse.proofs.Loops.{goes_on}
 use Rattle.og_parse.specs.Reads.{a_sign, terms_at}
 use Rattle.og_parse.proofs.TermLaws.{term_after_shortens}
 use Rattle.og_parse.proofs.sum.terms.Goals as goal

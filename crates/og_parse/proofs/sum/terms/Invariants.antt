@@ -1,6 +1,6 @@
 use Rattle.std.proofs.Common.{◌≡◌, length}
-use Rattle.og_grammar.specs.Reading.{many_at}
-use Rattle.og_grammar.proofs.Loops.{with_front}
+use Rattle.og_parse.specs.Reading.{many_at}
+use Rattle.og_parse.proofs.Loops.{with_front}
 use Rattle.og_parse.specs.Reads.{a_sign, term_after_at, terms_at}
 use Rattle.og_parse.proofs.sum.terms.Given as goal
 

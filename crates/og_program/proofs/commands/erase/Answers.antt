@@ -1,7 +1,7 @@
 use Rattle.std.proofs.Common.{ℕ, List}
 use Rattle.og_report_text.specs.declared.answer.Answer.{Answer}
-use Rattle.og_engine.specs.Commands.{IsErased}
-use Rattle.og_remark.specs.Remarks.{IsSourceRemark}
+use Rattle.og_command_check.specs.Commands.{IsErased}
+use Rattle.og_report_refusal.specs.Remarks.{IsSourceRemark}
 use Rattle.og_program.specs.Served.{Remarks}
 use Rattle.og_program.specs.declared.outcome.Told.{Told}
 use Rattle.og_program.proofs.Shown.{shown}

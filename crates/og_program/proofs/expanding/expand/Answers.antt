@@ -1,5 +1,5 @@
 use Rattle.std.proofs.Common.{ℕ, List, map, subst}
-use Rattle.og_expander.specs.Expanded.{IsReply}
+use Rattle.og_template_outline.specs.Expanded.{IsReply}
 use Rattle.og_program.specs.Served.{FollowsExpanding}
 use Rattle.og_program.proofs.expanding.expand.Goals as goal
 

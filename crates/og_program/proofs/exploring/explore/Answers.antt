@@ -1,8 +1,8 @@
 use Rattle.std.proofs.Common.{ℕ, List, map, subst}
-use Rattle.og_explorer.specs.Explored.{IsReply}
-use Rattle.og_remark.specs.Remarks.{IsSourceRemark}
-use Rattle.og_remark.specs.Values.{IsValueRemark}
-use Rattle.og_remark.specs.declared.values.Gives.TheVariants as gives
+use Rattle.og_command_explore.specs.Explored.{IsReply}
+use Rattle.og_report_refusal.specs.Remarks.{IsSourceRemark}
+use Rattle.og_report_refusal.specs.Values.{IsValueRemark}
+use Rattle.og_report_refusal.specs.declared.values.Gives.TheVariants as gives
 use Rattle.og_program.specs.Served.{FollowsExploring}
 use Rattle.og_program.proofs.exploring.explore.Goals as goal
 

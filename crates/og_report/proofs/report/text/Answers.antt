@@ -1,7 +1,7 @@
 use Rattle.std.proofs.Common.{◌≡◌, subst, false, rules}
 use Rattle.og_judge.specs.Shown.{entries_of}
 use Rattle.og_report.specs.Report.{report_text}
-use Rattle.og_json.specs.Yes.{SaysUnblocked}
+use Rattle.og_report_text.specs.Yes.{SaysUnblocked}
 use Rattle.og_report.proofs.Yes.{text_says}
 use Rattle.og_report.proofs.report.text.Goals as goal
 

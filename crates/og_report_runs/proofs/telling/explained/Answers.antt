@@ -1,7 +1,7 @@
 use Rattle.std.proofs.Common.{subst}
 use Rattle.og_typed.specs.Stuck.{IsStuck}
 use Rattle.og_cond.specs.Seen.{seen}
-use Rattle.og_explain.specs.Explanations.{IsExplained}
+use Rattle.og_report_explain.specs.Explanations.{IsExplained}
 use Rattle.og_report_runs.proofs.Placed.{explained_with}
 use Rattle.og_report_runs.proofs.telling.explained.Goals as goal
 

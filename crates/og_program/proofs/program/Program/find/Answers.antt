@@ -1,5 +1,5 @@
 use Rattle.std.proofs.Common.{ℕ, List, subst}
-use Rattle.og_engine.specs.Making.{IsFound}
+use Rattle.og_command_check.specs.Making.{IsFound}
 use Rattle.og_program.specs.Served.{FollowsFinding}
 use Rattle.og_program.proofs.program.Program.find.Goals as goal
 

@@ -1,6 +1,6 @@
 use Rattle.std.proofs.Common.{ℕ, List, Some, map, subst}
-use Rattle.og_remark.specs.Starting.{IsRunRemark}
-use Rattle.og_running.specs.Scheduled.{IsScheduled}
+use Rattle.og_report_refusal.specs.Starting.{IsRunRemark}
+use Rattle.og_command_run.specs.Scheduled.{IsScheduled}
 use Rattle.og_program.specs.Served.{IsWordRemark, Follows}
 use Rattle.og_program.proofs.program.Program.run_by_schedule.Goals as goal
 

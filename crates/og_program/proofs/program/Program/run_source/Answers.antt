@@ -1,8 +1,8 @@
 use Rattle.std.proofs.Common.{◌≡◌, sym, ℕ, List, None, map, subst}
 use Rattle.std.proofs.lemmas.Result.{err_from_is_err_and}
-use Rattle.og_remark.specs.Starting.{IsRunRemark}
-use Rattle.og_running.specs.Running.{IsRan}
-use Rattle.og_running.specs.Starts.{HasStart}
+use Rattle.og_report_refusal.specs.Starting.{IsRunRemark}
+use Rattle.og_command_run.specs.Running.{IsRan}
+use Rattle.og_command_run.specs.Starts.{HasStart}
 use Rattle.og_program.specs.Failing.{IsFault}
 use Rattle.og_program.specs.Served.{IsWordRemark, Follows, StartsAs}
 use Rattle.og_program.specs.declared.fault.Fault.{Fault}

@@ -1,8 +1,8 @@
 use Rattle.std.proofs.Common.{ℕ, List, map, subst}
 use Rattle.og_command_prove.specs.Running.{IsShowingRuns}
-use Rattle.og_remark.specs.Remarks.{IsConditionsRemark}
-use Rattle.og_remark.specs.Values.{IsValueRemark}
-use Rattle.og_remark.specs.declared.values.Gives.TheVariants as gives
+use Rattle.og_report_refusal.specs.Remarks.{IsConditionsRemark}
+use Rattle.og_report_refusal.specs.Values.{IsValueRemark}
+use Rattle.og_report_refusal.specs.declared.values.Gives.TheVariants as gives
 use Rattle.og_program.specs.Served.{FollowsExploring}
 use Rattle.og_program.proofs.program.Program.show_runs.Goals as goal
 

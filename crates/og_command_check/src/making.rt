@@ -1,0 +1,298 @@
+//! The answers of the commands that make certificates.
+
+ghost use Rattle.std.specs.Prelude.{◌≡◌, ◌<◌, ◌≤◌, List, length, map, IfOk, IfErr, OnOk};
+ghost use Rattle.std.specs.Io.KnownBytes.{Appends};
+ghost use Rattle.og_cert_text.specs.Shown.{shown};
+ghost use Rattle.og_cert_read.specs.Shared.{shared_text};
+ghost use Rattle.og_cond.specs.Condition as condition;
+ghost use Rattle.og_cond.specs.Limits.{condition_limit};
+ghost use Rattle.og_cond.specs.Seen.{seen};
+ghost use Rattle.og_find_all.specs.Written.{IsText};
+ghost use Rattle.og_io.specs.Written.{AppendsFront};
+ghost use Rattle.og_pool.specs.declared.fault.PoolFault.TheVariants.{Spawn};
+ghost use Rattle.og_command_check.specs.Making.{text_of, status_of_found, IsLength, IsSecond, IsSearched, IsFoundOf, IsFound, IsMigrated};
+
+use og_cert_read::write_certs_2;
+use og_cert_text::{CertFile, CertTextError};
+use og_cond::{Condition, ConditionsError, conditions};
+use og_find::Missing;
+use og_find_all::{Certificates, FoundText, Written, examine_all, find_all};
+use og_io::{Budget, CertVersion, OutputFault, Workers, write_whole};
+use og_judge::migrate;
+use og_pool::{Gate, PoolFault};
+use og_report_text::{Answer, InputFault};
+use og_typed::Source;
+use std::alloc::{AllocError, Global};
+use std::io::Write;
+use std::sync::Wait;
+use std::thread::Threads;
+
+/// The text of certificates.
+#[derive(Debug, Drop)]
+pub enum CertificateText {
+    /// In version 1, written as it is made.
+    First(Certificates),
+    /// In version 2.
+    Second(Vec<u8>),
+}
+
+impl CertificateText {
+    // Writes the text.
+    fn write<W: Write>(&self, alloc: Global, out: &mut W) -> Result<(), OutputFault>
+        ensures written { OnOk result (Appends (W.contents out.old) (W.contents out.new) (text_of self.now)) }
+        ensures unfinished { IfErr result (λ _. AppendsFront (W.contents out.old) (W.contents out.new) (text_of self.now)) }
+    {
+        match self {
+            CertificateText::First(certificates) => certificates.write(alloc, out),
+            CertificateText::Second(text) => Ok(write_whole(out, text)?),
+        }
+    }
+}
+
+/// Certificates of the conditions of an outline, as searches found them. Nothing of them is written
+/// yet.
+#[derive(Debug, Drop)]
+pub struct FoundCertificates {
+    /// Their text.
+    pub text: CertificateText,
+    /// How many conditions have none.
+    pub missing: Missing,
+}
+
+impl FoundCertificates {
+    // The status: 0 where each condition has a certificate, 1 where some has none.
+    fn status(&self) -> u8
+        ensures { result ≡ status_of_found self.now }
+    {
+        if self.missing.count == 0 { 0 } else { 1 }
+    }
+
+    /// Writes the text of the certificates, and tells the status: 0 where each condition has one, 1
+    /// where some has none.
+    ///
+    /// # Errors
+    ///
+    /// An allocation was refused, or the writer failed; a front of the text may have been written
+    /// then.
+    pub fn write<W: Write>(&self, alloc: Global, out: &mut W) -> Result<u8, OutputFault>
+        ensures written { OnOk result (Appends (W.contents out.old) (W.contents out.new) (text_of self.now.text)) }
+        ensures status { IfOk result (λ status. status ≡ status_of_found self.now) }
+        ensures unfinished { IfErr result (λ _. AppendsFront (W.contents out.old) (W.contents out.new) (text_of self.now.text)) }
+    {
+        self.text.write(alloc, out)?;
+        Ok(self.status())
+    }
+}
+
+/// A text of certificates that would have more bytes than it may have.
+#[derive(Clone, Copy, Debug, PartialEq, Eq)]
+pub struct LongText {
+    /// How many bytes it may have.
+    pub limit: usize,
+    /// How many it has in version 2, where these are no more.
+    pub second: Option<usize>,
+}
+
+/// What is answered to whoever asks for certificates of a source.
+#[derive(Debug, Drop)]
+pub enum FindReply {
+    /// Those that were found.
+    Found(FoundCertificates),
+    /// Their text would be too long.
+    TooLong(LongText),
+    /// The line of a refusal, with status 2.
+    Refused(Answer),
+}
+
+/// Which certificates are wanted, and how they are searched.
+#[derive(Clone, Copy, Debug, PartialEq, Eq)]
+pub struct Wanted {
+    /// The budget of each search, as in `og_find::find`.
+    pub budget: Budget,
+    /// How many workers search.
+    pub workers: Workers,
+    /// The version of the text.
+    pub version: CertVersion,
+    /// How many bytes the text may have.
+    pub limit: usize,
+}
+
+// The number of bytes, where they are no more than the limit.
+fn within(bytes: usize, limit: usize) -> Option<usize>
+    ensures { IsLength limit bytes result }
+{
+    if bytes <= limit { Some(bytes) } else { None }
+}
+
+// What is told of certificates whose text in version 1 is too long.
+fn of_long(alloc: Global, file: &CertFile, limit: usize) -> Result<LongText, AllocError>
+    ensures limit { IfOk result (λ long. long.limit ≡ limit) }
+    ensures second { IfOk result (λ long. IsLength limit (length (shared_text (shown file.now))) long.second) }
+{
+    let text = write_certs_2(alloc, file)?;
+    let second = within(text.len(), limit);
+    Ok(LongText { limit, second })
+}
+
+// The text in version 2 of a file of the certificates of so many conditions, where it has at most so
+// many bytes.
+fn of_file(
+    alloc: Global,
+    file: &CertFile,
+    conditions: u32,
+    limit: usize,
+) -> Result<FindReply, AllocError>
+    ensures { IfOk result (IsSecond limit conditions (shown file.now)) }
+{
+    let text = write_certs_2(alloc, file)?;
+    if text.len() > limit {
+        let second = None;
+        return Ok(FindReply::TooLong(LongText { limit, second }));
+    }
+    let text = CertificateText::Second(text);
+    let missing = Missing::of(file, conditions);
+    Ok(FindReply::Found(FoundCertificates { text, missing }))
+}
+
+// The certificates that are found for conditions, in version 2.
+fn in_second<G: Gate, H: Threads + Wait + Sync>(
+    rt: &H,
+    alloc: Global,
+    conditions: &[Condition],
+    wanted: Wanted,
+    gate: &G,
+) -> Result<FindReply, PoolFault>
+    requires { length conditions.now ≤ condition_limit }
+    ensures found { IfOk result (IsSearched 2 wanted.limit (map seen conditions.now)) }
+    ensures spawn { IfErr result (λ e. e ≡ Spawn → 1 < wanted.workers) }
+{
+    let (budget, workers) = (wanted.budget.facts(), wanted.workers.count());
+    let file = find_all(rt, alloc, conditions, budget, workers, gate)?;
+    let found = of_file(alloc, &file, conditions.len() as u32, wanted.limit)?;
+    Ok(found)
+}
+
+// A text in version 1, or what is told of certificates for which it is too long.
+fn of_text(alloc: Global, text: FoundText, limit: usize) -> Result<FindReply, AllocError>
+    ensures { IfOk result (λ found. (cs : List condition.Condition) → IsText limit cs text → IsSearched 1 limit cs found) }
+{
+    match text {
+        FoundText::Within(written) => {
+            let text = CertificateText::First(written.certificates);
+            let missing = written.missing;
+            Ok(FindReply::Found(FoundCertificates { text, missing }))
+        }
+        FoundText::TooLong(file) => {
+            let long = of_long(alloc, &file, limit)?;
+            Ok(FindReply::TooLong(long))
+        }
+    }
+}
+
+// The certificates that are found for conditions, in version 1.
+fn in_first<G: Gate, H: Threads + Wait + Sync>(
+    rt: &H,
+    alloc: Global,
+    conditions: &[Condition],
+    wanted: Wanted,
+    gate: &G,
+) -> Result<FindReply, PoolFault>
+    requires { length conditions.now ≤ condition_limit }
+    ensures found { IfOk result (IsSearched 1 wanted.limit (map seen conditions.now)) }
+    ensures spawn { IfErr result (λ e. e ≡ Spawn → 1 < wanted.workers) }
+{
+    let (budget, workers) = (wanted.budget.facts(), wanted.workers.count());
+    let findings = examine_all(rt, alloc, conditions, budget, workers, gate)?;
+    let text = findings.text(rt, alloc, workers, wanted.limit)?;
+    let found = of_text(alloc, text, wanted.limit)?;
+    Ok(found)
+}
+
+// The certificates that are found for conditions.
+fn of_search<G: Gate, H: Threads + Wait + Sync>(
+    rt: &H,
+    alloc: Global,
+    conditions: &[Condition],
+    wanted: Wanted,
+    gate: &G,
+) -> Result<FindReply, PoolFault>
+    requires { length conditions.now ≤ condition_limit }
+    ensures found { IfOk result (IsSearched wanted.version wanted.limit (map seen conditions.now)) }
+    ensures spawn { IfErr result (λ e. e ≡ Spawn → 1 < wanted.workers) }
+{
+    if wanted.version.is_second() {
+        in_second(rt, alloc, conditions, wanted, gate)
+    } else {
+        in_first(rt, alloc, conditions, wanted, gate)
+    }
+}
+
+// The answer for the outline of a source.
+fn found_of<G: Gate, H: Threads + Wait + Sync>(
+    rt: &H,
+    alloc: Global,
+    source: &Source,
+    wanted: Wanted,
+    gate: &G,
+) -> Result<FindReply, PoolFault>
+    ensures found { IfOk result (IsFoundOf wanted.version wanted.limit source.now.outline source.now.bytes) }
+    ensures spawn { IfErr result (λ e. e ≡ Spawn → 1 < wanted.workers) }
+{
+    match conditions(alloc, source.outline()) {
+        Ok(conditions) => of_search(rt, alloc, &conditions, wanted, gate),
+        Err(ConditionsError::Fault(fault)) => {
+            let why = InputFault::Conditions(fault);
+            let answer = Answer::refused(alloc, &why, source.bytes())?;
+            Ok(FindReply::Refused(answer))
+        }
+        Err(ConditionsError::Memory) => Err(PoolFault::Memory),
+    }
+}
+
+/// The certificates that searches find for the conditions of the outline of a source, in the wanted
+/// version of their text, and how many conditions have none; that this text would have more bytes than
+/// it may have; or the line of a refusal and status 2. The text is the same for every number of workers.
+/// The gate is told of the searches as by `og_find_all::examine_all`.
+///
+/// # Errors
+///
+/// `Spawn`, of two workers or more, where a thread could not be started. `Memory` where an allocation
+/// was refused.
+pub fn found<G: Gate, H: Threads + Wait + Sync>(
+    rt: &H,
+    alloc: Global,
+    source: &[u8],
+    wanted: Wanted,
+    gate: &G,
+) -> Result<FindReply, PoolFault>
+    ensures found { IfOk result (IsFound wanted.version wanted.limit source.now) }
+    ensures spawn { IfErr result (λ e. e ≡ Spawn → 1 < wanted.workers) }
+{
+    match Source::read(alloc, source) {
+        Ok(source) => {
+            let found = found_of(rt, alloc, &source, wanted, gate);
+            drop(source);
+            found
+        }
+        Err(error) => {
+            let answer = Answer::unread(alloc, &error, source)?;
+            Ok(FindReply::Refused(answer))
+        }
+    }
+}
+
+/// A text of certificates in version 2, as `og_judge::migrate` gives it, and status 0; or the line of a
+/// refusal and status 2.
+///
+/// # Errors
+///
+/// An allocation was refused.
+pub fn migrated(alloc: Global, certs: &[u8]) -> Result<Answer, AllocError>
+    ensures { IfOk result (IsMigrated certs.now) }
+{
+    match migrate(alloc, certs) {
+        Ok(text) => Ok(Answer { text, status: 0 }),
+        Err(CertTextError::Memory) => Err(AllocError),
+        Err(CertTextError::Fault(fault)) => Answer::refused(alloc, &InputFault::Certs(fault), b""),
+    }
+}

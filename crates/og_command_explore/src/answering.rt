@@ -1,0 +1,203 @@
+//! The answer of an exploration of an outline.
+
+ghost use Rattle.std.specs.Prelude.{◌≡◌, ◌↔◌, ◌≤◌, ◌^◌, length, map, true, None, IfOk, IfSome, IfNone, IsTrue};
+ghost use Rattle.std.specs.List.{AllByRecursion};
+ghost use Rattle.og_cond.specs.Seen.{seen};
+ghost use Rattle.og_explore.specs.Told.{AreWithin};
+ghost use Rattle.og_explore.specs.Within.{HasNoStart};
+ghost use Rattle.og_report_explore.specs.Totals.{safe_of, unblocked_of};
+ghost use Rattle.og_command_explore.specs.Told.{IsOneFinding, AreViolations};
+ghost use Rattle.og_command_explore.specs.Explored.{is_yes, status_of, printed, IsExplored};
+ghost use Rattle.og_report_explore.specs.declared.totals.Found.TheVariants as yes_or_no;
+
+use crate::request::Request;
+use crate::told::{Told, add};
+use og_cond::Condition;
+use og_explore::{Exploration, Range, explore};
+use og_report_explore::{Finding, Found, Totals, json, report};
+use og_report_text::Answer;
+use og_typed::{Index, Outline};
+use std::alloc::{AllocError, Global};
+
+// The ends of the ranges.
+fn ends(alloc: Global, ranges: &[Range]) -> Result<Vec<(i64, i64)>, AllocError>
+    ensures { IfOk result (λ v. v.items ≡ ranges.now) }
+{
+    let mut ends = Vec::new(alloc);
+    for range in ranges {
+        ends.push((range.low(), range.high()))?;
+    }
+    Ok(ends)
+}
+
+// What is told of all that was found.
+fn told_of<'a>(
+    alloc: Global,
+    outline: &'a Outline,
+    index: &Index<'a>,
+    conditions: &[Condition],
+    ranges: &[Range],
+    found: &Exploration,
+) -> Result<Told<'a>, AllocError>
+    requires found { AreViolations outline.now found.now }
+    requires within { AreWithin ranges.now found.now }
+    ensures each { IfOk result (λ told. AllByRecursion (IsOneFinding outline.now (map seen conditions.now) ranges.now) told.findings.items) }
+    ensures complete { IfOk result (λ told. told.complete ≡ true → found.now.complete ≡ true) }
+    ensures safe { IfOk result (λ told. safe_of told.complete told.findings.items ≡ yes_or_no.Yes
+        → (found.now.complete ≡ true) × (found.now.assertion ≡ None) × (found.now.overflow ≡ None) × (found.now.post ≡ None)) }
+    ensures unblocked { IfOk result (λ told. unblocked_of told.complete told.findings.items ≡ yes_or_no.Yes
+        → (found.now.complete ≡ true) × (found.now.stuck ≡ None)) }
+{
+    let mut told = Told {
+        findings: Vec::new(alloc),
+        complete: found.complete,
+    };
+    add(
+        &mut told,
+        alloc,
+        outline,
+        index,
+        conditions,
+        ranges,
+        &found.assertion,
+    )?;
+    add(
+        &mut told,
+        alloc,
+        outline,
+        index,
+        conditions,
+        ranges,
+        &found.overflow,
+    )?;
+    add(
+        &mut told,
+        alloc,
+        outline,
+        index,
+        conditions,
+        ranges,
+        &found.post,
+    )?;
+    add(
+        &mut told,
+        alloc,
+        outline,
+        index,
+        conditions,
+        ranges,
+        &found.stuck,
+    )?;
+    Ok(told)
+}
+
+// Whether there is no start: all were looked for, and none found.
+fn has_no_start(found: &Exploration) -> bool
+    ensures { IsTrue result ↔ ((found.now.starts ≡ 0) × (found.now.complete ≡ true)) }
+{
+    found.starts == 0 && found.complete
+}
+
+// Whether the answer is yes.
+fn is_yes(found: Found) -> bool
+    ensures { result ≡ is_yes found }
+{
+    match found {
+        Found::Yes => true,
+        Found::No => false,
+        Found::Open => false,
+    }
+}
+
+// 0 where both answers are yes.
+fn status_of(totals: &Totals, findings: &[Finding]) -> u8
+    ensures { result ≡ status_of totals.now findings.now }
+{
+    if is_yes(totals.safe(findings)) && is_yes(totals.unblocked(findings)) {
+        0
+    } else {
+        1
+    }
+}
+
+// The same as JSON, in one line.
+fn json_line(
+    alloc: Global,
+    outline: &Outline,
+    source: &[u8],
+    totals: &Totals,
+    findings: &[Finding],
+) -> Result<Vec<u8>, AllocError>
+    requires { length source.now ≤ 2 ^ 20 }
+    ensures { IfOk result (λ text. text.items ≡ printed true outline.now source.now totals.now findings.now) }
+{
+    let mut text = json(alloc, outline, source, totals, findings)?;
+    text.push(b'\n')?;
+    Ok(text)
+}
+
+// What is printed, as JSON or as a text.
+fn printed(
+    alloc: Global,
+    outline: &Outline,
+    source: &[u8],
+    totals: &Totals,
+    findings: &[Finding],
+    is_json: bool,
+) -> Result<Vec<u8>, AllocError>
+    requires short { length source.now ≤ 2 ^ 20 }
+    requires given { length totals.now.given.items ≤ 256 }
+    ensures { IfOk result (λ text. text.items ≡ printed is_json outline.now source.now totals.now findings.now) }
+{
+    if is_json {
+        json_line(alloc, outline, source, totals, findings)
+    } else {
+        report(alloc, outline, source, totals, findings)
+    }
+}
+
+/// What is printed of an exploration of the outline from all starts within the ranges, at most
+/// so many moments as asked for, and the status: 0 where all was explored and nothing found, else 1;
+/// none only where no start lies within the ranges. `conditions` are the outline's, or none.
+///
+/// # Errors
+///
+/// An allocation was refused.
+pub fn answer(
+    alloc: Global,
+    outline: &Outline,
+    source: &[u8],
+    conditions: &[Condition],
+    ranges: &[Range],
+    request: Request,
+) -> Result<Option<Answer>, AllocError>
+    requires short { length source.now ≤ 2 ^ 20 }
+    requires ranges { length ranges.now ≡ outline.now.vars }
+    ensures explored { IfOk result (λ found. IfSome found (IsExplored request.json outline.now source.now (map seen conditions.now) ranges.now)) }
+    ensures none { IfOk result (λ found. IfNone found (HasNoStart outline.now ranges.now)) }
+{
+    outline.follows_rule();
+    let found = explore(alloc, outline, ranges, request.limit)?;
+    if has_no_start(&found) {
+        return Ok(None);
+    }
+    let index = Index::new(alloc, outline)?;
+    let told = told_of(alloc, outline, &index, conditions, ranges, &found)?;
+    let totals = Totals {
+        starts: u64::from(found.starts),
+        given: ends(alloc, ranges)?,
+        moments: u64::from(found.moments),
+        complete: told.complete,
+    };
+    Ok(Some(Answer {
+        text: printed(
+            alloc,
+            outline,
+            source,
+            &totals,
+            &told.findings,
+            request.json,
+        )?,
+        status: status_of(&totals, &told.findings),
+    }))
+}

@@ -1,0 +1,141 @@
+//! The answers of `explore`.
+
+ghost use Rattle.std.specs.Prelude.{◌≡◌, ◌≤◌, ◌^◌, length, map, IfOk};
+ghost use Rattle.og_cond.specs.Seen.{seen};
+ghost use Rattle.og_command_explore.specs.Explored.{AreConditions, IsAnswer, IsOfProgram, not_pre_line, IsReply};
+
+use crate::answering::answer;
+use crate::request::Request;
+use crate::starting::ranges;
+use crate::words::{WordsError, given};
+use og_cond::{Condition, ConditionsError, conditions};
+use og_erase::erase;
+use og_explore::Range;
+use og_report_text::{Answer, put_opening};
+use og_step::StartFault;
+use og_typed::{Outline, Source};
+use std::alloc::{AllocError, Global};
+
+/// What comes of exploring a program.
+#[derive(Debug, Drop)]
+pub enum Reply<'a> {
+    /// What is printed, and the status.
+    Answer(Answer),
+    /// The first word that gives no variable a range.
+    BadValue(&'a str),
+}
+
+// The line of a precondition that is false.
+fn not_pre(alloc: Global) -> Result<Vec<u8>, AllocError>
+    ensures { IfOk result (λ text. text.items ≡ not_pre_line) }
+{
+    let fault = StartFault::NotPre;
+    let mut text = Vec::new(alloc);
+    put_opening(&mut text, fault.number(), fault.name())?;
+    text.extend_from_slice(b"\n")?;
+    Ok(text)
+}
+
+// The conditions of the outline, or none where there are too many.
+fn conditions_of(alloc: Global, outline: &Outline) -> Result<Vec<Condition<'_>>, AllocError>
+    ensures { IfOk result (λ v. AreConditions outline.now (map seen v.items)) }
+{
+    match conditions(alloc, outline) {
+        Ok(conditions) => Ok(conditions),
+        Err(ConditionsError::Memory) => Err(AllocError),
+        Err(ConditionsError::Fault(_)) => Ok(Vec::new(alloc)),
+    }
+}
+
+// The answer for an outline: that it has no start, or what is found.
+fn of_outline(
+    alloc: Global,
+    outline: &Outline,
+    source: &[u8],
+    conditions: &[Condition],
+    ranges: &[Range],
+    request: Request,
+) -> Result<Answer, AllocError>
+    requires short { length source.now ≤ 2 ^ 20 }
+    requires ranges { length ranges.now ≡ outline.now.vars }
+    ensures { IfOk result (IsAnswer request.json outline.now source.now (map seen conditions.now) ranges.now) }
+{
+    match answer(alloc, outline, source, conditions, ranges, request)? {
+        Some(answer) => Ok(answer),
+        None => Ok(Answer {
+            text: not_pre(alloc)?,
+            status: 2,
+        }),
+    }
+}
+
+// The answer for an outline, or its program without auxiliaries.
+fn of_program(
+    alloc: Global,
+    outline: &Outline,
+    source: &[u8],
+    ranges: &[Range],
+    request: Request,
+) -> Result<Answer, AllocError>
+    requires short { length source.now ≤ 2 ^ 20 }
+    requires ranges { length ranges.now ≡ outline.now.vars }
+    ensures { IfOk result (IsOfProgram request.json request.erased outline.now source.now) }
+{
+    if request.erased {
+        let program = erase(alloc, outline)?;
+        return of_outline(alloc, program.outline(), source, &[], ranges, request);
+    }
+    let conditions = conditions_of(alloc, outline)?;
+    of_outline(alloc, outline, source, &conditions, ranges, request)
+}
+
+// The reply for a source that was read.
+fn of_source<'a>(
+    alloc: Global,
+    source: &Source,
+    words: &[&'a str],
+    request: Request,
+) -> Result<Reply<'a>, AllocError>
+    ensures { IfOk result (IsReply request.json source.now.bytes request.erased (map (λ w. w.now) words.now)) }
+{
+    let outline = source.outline();
+    match given(alloc, outline, words) {
+        Ok(given) => {
+            let ranges = ranges(alloc, outline, &given)?;
+            let answer = of_program(alloc, outline, source.bytes(), &ranges, request)?;
+            Ok(Reply::Answer(answer))
+        }
+        Err(WordsError::Bad(word)) => Ok(Reply::BadValue(word)),
+        Err(WordsError::Memory) => Err(AllocError),
+    }
+}
+
+/// Explores the program of a source, breadth first, from all starts within the ranges that the words
+/// give, each NAME=INT or NAME=LO..HI. Any other variable has one value in all starts: that of a
+/// state which a search finds for the precondition, and 0 where it finds none.
+///
+/// The answer is what was found, with runs that lead there, and the totals, with status 0 where all
+/// was explored and nothing found, and else 1, as a text or as JSON in one line; or the line of a
+/// refusal, with status 2: 50 NotPre only where no start lies within the ranges. `BadValue` holds the
+/// first word that gives no range.
+///
+/// # Errors
+///
+/// An allocation was refused.
+pub fn explored<'a>(
+    alloc: Global,
+    source: &[u8],
+    words: &[&'a str],
+    request: Request,
+) -> Result<Reply<'a>, AllocError>
+    ensures { IfOk result (IsReply request.json source.now request.erased (map (λ w. w.now) words.now)) }
+{
+    match Source::read(alloc, source) {
+        Ok(source) => {
+            let reply = of_source(alloc, &source, words, request);
+            drop(source);
+            reply
+        }
+        Err(error) => Ok(Reply::Answer(Answer::unread(alloc, &error, source)?)),
+    }
+}

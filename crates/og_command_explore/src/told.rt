@@ -1,0 +1,45 @@
+//! The violations that were found, as they are told.
+
+ghost use Rattle.std.specs.Prelude.{◌≡◌, map, IfSome, OnOk};
+ghost use Rattle.og_cond.specs.Seen.{seen};
+ghost use Rattle.og_violation.specs.Violations.{IsViolation};
+ghost use Rattle.og_explore.specs.Within.{IsWithin};
+ghost use Rattle.og_command_explore.specs.Told.{IsAdded};
+
+use og_cond::Condition;
+use og_explore::Range;
+use og_report_explore::{Finding, tell};
+use og_typed::{Index, Outline};
+use og_violation::Violation;
+use std::alloc::{AllocError, Global};
+
+/// What is told, and whether nothing else was found.
+#[derive(Debug, Drop)]
+pub(crate) struct Told<'a> {
+    pub(crate) findings: Vec<Finding<'a>>,
+    pub(crate) complete: bool,
+}
+
+/// Adds what was found, where something was. What can't be told makes the answer incomplete.
+pub(crate) fn add<'a>(
+    told: &mut Told<'a>,
+    alloc: Global,
+    outline: &'a Outline,
+    index: &Index<'a>,
+    conditions: &[Condition],
+    ranges: &[Range],
+    found: &Option<Violation>,
+) -> Result<(), AllocError>
+    requires violation { IfSome found.now (IsViolation outline.now) }
+    requires within { IfSome found.now (λ v. IsWithin ranges.now v.values) }
+    ensures { OnOk result (IsAdded outline.now (map seen conditions.now) ranges.now found.now told.old told.new) }
+{
+    let Some(violation) = found else {
+        return Ok(());
+    };
+    match tell(alloc, outline, index, conditions, violation)? {
+        Some(finding) => told.findings.push(finding)?,
+        None => told.complete = false,
+    }
+    Ok(())
+}

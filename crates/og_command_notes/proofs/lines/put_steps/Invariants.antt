@@ -1,0 +1,10 @@
+use Rattle.std.proofs.Common.{◌≡◌, ◌++◌, drop}
+use Rattle.std.specs.Prelude.{flat_map}
+use Rattle.og_command_notes.specs.Notes.{step_line, step_lines}
+use Rattle.og_command_notes.specs.Seen.{steps_of}
+use Rattle.og_command_notes.proofs.lines.put_steps.Given as goal
+
+abbrev pub invariant-loop-step : goal.invariant-loop-step
+invariant-loop-step l =
+    l.text.items ++ flat_map (step_line l.places l.names (steps_of l.steps) l.vars) (steps_of (drop l.step-index l.steps))
+    ≡ l.initial.text.items ++ step_lines l.places l.names (steps_of l.steps) l.vars

@@ -1,3 +1,0 @@
-pub mod Answers
-pub mod Drawing
-pub mod Telling

@@ -1,5 +1,0 @@
-use Rattle.og_inequalities.specs.Rows.{Extends}
-use Rattle.og_elimination.proofs.elimination.eliminate_all.Given as goal
-
-abbrev pub invariant-loop : goal.invariant-loop
-invariant-loop l = Extends l.fn.rows.rows l.rows.rows

@@ -1,5 +1,0 @@
-use Rattle.og_inequalities.specs.Rows.{Extends}
-use Rattle.og_elimination.proofs.working.Working.put_several.Given as goal
-
-abbrev pub invariant-loop-row : goal.invariant-loop-row
-invariant-loop-row l = Extends l.fn.rows.rows l.rows.rows

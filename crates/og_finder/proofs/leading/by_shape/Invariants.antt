@@ -1,5 +1,0 @@
-use Rattle.std.proofs.Common.{◌≡◌, ◌+◌, vec_len}
-use Rattle.og_finder.proofs.leading.by_shape.Given as goal
-
-abbrev pub invariant-loop-group : goal.invariant-loop-group
-invariant-loop-group l = vec_len l.shapes.leaders + vec_len l.shapes.heirs + vec_len l.shapes.others ≡ l.group

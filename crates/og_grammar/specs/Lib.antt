@@ -1,4 +1,0 @@
-pub mod Language
-pub mod Fronts
-pub mod Reading
-pub mod Gives

@@ -1,9 +1,0 @@
-use Rattle.std.proofs.Common.{ℤ, ◌+ℤ◌, List, drop}
-use Rattle.std.specs.Prelude.{◌≤ℤ◌}
-use Rattle.og_inequalities.specs.Inequality.{sum_at}
-use Rattle.og_inequalities.specs.Bounds.{Within}
-use Rattle.og_inequalities.proofs.bounds.Bounds.add_least.Given as goal
-
-abbrev pub invariant-loop-term : goal.invariant-loop-term
-invariant-loop-term l =
-    (s : List ℤ) → Within l.self.intervals s → (l.sum +ℤ sum_at (drop l.term-index l.terms) s) ≤ℤ (l.start +ℤ sum_at l.terms s)

@@ -1,7 +1,0 @@
-use Rattle.std.proofs.Common.{ap, ◌∙◌}
-use Rattle.og_inequalities.specs.Inequality.{sum_at}
-use Rattle.og_inequalities.proofs.Sums.{sum_at-push}
-use Rattle.og_inequalities.proofs.inequality.put.Goals as goal
-
-pub returns : goal.returns
-returns c = λ s. ap (λ ts. sum_at ts s) c.in_ok-push.ensures.items ∙ sum_at-push c.args.terms.now.items c.args.term s

@@ -1,5 +1,0 @@
-use Rattle.og_inequalities.proofs.VariableBits.{one_has}
-use Rattle.og_inequalities.proofs.variables.Variables.one.Goals as goal
-
-pub returns : goal.returns
-returns c = one_has c.args.var

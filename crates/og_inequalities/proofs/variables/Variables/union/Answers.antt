@@ -1,5 +1,0 @@
-use Rattle.og_inequalities.proofs.VariableBits.{union_has}
-use Rattle.og_inequalities.proofs.variables.Variables.union.Goals as goal
-
-pub returns : goal.returns
-returns c = union_has c.args.self.bits c.args.other.bits

@@ -1,6 +1,0 @@
-use Rattle.std.proofs.Common.{◌≡◌, ◌++◌}
-use Rattle.og_remark.specs.Starting.{start_values}
-use Rattle.og_remark.proofs.starting.put_start_values.Given as goal
-
-abbrev pub invariant-loop-var : goal.invariant-loop-var
-invariant-loop-var l = l.text.items ≡ l.initial.text.items ++ start_values l.names l.values l.var

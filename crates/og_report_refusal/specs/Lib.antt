@@ -1,0 +1,10 @@
+pub mod Advice
+pub mod Names
+pub mod Quotes
+pub mod Reasons
+pub mod Words
+pub mod Remarks
+pub mod Missing
+pub mod Starting
+pub mod Values
+pub mod Expansion

@@ -1,0 +1,67 @@
+-- What is told of a run that does not begin.
+use Rattle.std.specs.Prelude.{◌≡◌, ℕ, zero, suc, ℤ, List, [], ◌∷◌, if◌then◌else◌, ◌==◌, ◌⊎◌, Option, Some, None, Vec, codes}
+use Rattle.std.specs.Global.{Global}
+use Rattle.og_typed.specs.Syntax.{Program}
+use Rattle.og_typed.specs.declared.assertion.Assert.{Assert}
+use Rattle.og_typed.specs.Source.{IsSource}
+use Rattle.og_report_text.specs.Places.{◌&◌, position_of, position_text}
+use Rattle.og_report_text.specs.Values.{values_text}
+use Rattle.og_report_refusal.specs.Names.{shown_name}
+use Rattle.og_report_explain.specs.Explanations.{IsFalseNote}
+use Rattle.og_report_prove.specs.Blocks.{false_lines}
+use Rattle.og_command_run.specs.Words.{Give}
+use Rattle.og_report_refusal.specs.Remarks.{IsSourceRemark, IsCheckRemark}
+use denote.Ref.{Bor}
+
+-- FILE:LINE:COLUMN: refused: 50 NotPre
+abbrev pub refused_text : List ℕ → List ℕ → ℕ → List ℕ
+refused_text name source at = shown_name name & codes ":" & position_text (position_of source at) & codes ": refused: 50 NotPre\n"
+
+module _ (names : List (List ℕ)) (s : List ℤ) where
+  -- a variable with its value, after a comma where it is not the first
+  abbrev pub start_value : ℕ → List ℕ
+  start_value x = (if x == 0 then [] else codes ", ") & values_text names s (x ∷ [])
+
+  -- the first n variables with their values
+  abbrev pub start_values : ℕ → List ℕ
+  start_values zero = []
+  start_values (suc n) = start_values n & start_value n
+
+  -- the line of them, where there are some
+  abbrev pub start_line : ℕ → List ℕ
+  start_line n = if n == 0 then [] else codes "  start: " & start_values n & codes "\n"
+
+-- advice, where there are some
+abbrev pub help_line : ℕ → List ℕ
+help_line n = if n == 0 then [] else codes "help: words NAME=INT give variables their values at the start, which are else 0\n"
+
+-- the place of the precondition, the values of the variables that are no auxiliaries, and the conjuncts that are false
+abbrev pub start_text : List ℕ → List ℕ → Program → List ℤ → List (Bor Assert) → List ℕ
+start_text name source o s found =
+    refused_text name source o.pre.at & start_line o.names s o.vars & false_lines o.names source None o.pre.at found
+    & help_line o.vars
+
+-- these are all conjuncts of the precondition that are false in the state s
+pub record IsStartOf (name source : List ℕ) (o : Program) (s : List ℤ) (text : List ℕ) : Type 0 where
+  pub found : Vec (Bor Assert) Global
+  pub is_false : IsFalseNote s o.pre found
+  pub told : text ≡ start_text name source o s found.items
+
+-- the same of the state that the words give
+pub record IsStartRemark (name source : List ℕ) (words : List (List ℕ)) (text : List ℕ) : Type 0 where
+  pub outline : Program
+  pub values : List ℤ
+  pub read : IsSource source outline
+  pub given : Give outline words values
+  pub is_told : IsStartOf name source outline values text
+
+-- of a run of a source of this name that does not begin: why the source is refused, or what is told of its start
+abbrev pub IsRunRemark : List ℕ → List ℕ → List (List ℕ) → Option (List ℕ) → Type 0
+IsRunRemark name source words (Some text) = IsSourceRemark name source (Some text) ⊎ IsStartRemark name source words text
+IsRunRemark name source words None = IsSourceRemark name source None
+
+-- the same with certificates
+abbrev pub IsProvedRunRemark : List ℕ → List ℕ → List ℕ → List ℕ → List (List ℕ) → Option (List ℕ) → Type 0
+IsProvedRunRemark name certs_name source certs words (Some text) =
+    IsCheckRemark name certs_name source certs (Some text) ⊎ IsStartRemark name source words text
+IsProvedRunRemark name certs_name source certs words None = IsCheckRemark name certs_name source certs None

@@ -1,0 +1,90 @@
+//! What is told of a refusal on standard error.
+
+ghost use Rattle.std.specs.Prelude.{◌≡◌, ◌++◌, OnOk, IfOk, IfSome, IsTrue, option_map};
+ghost use Rattle.og_report_text.specs.Faults.{place_of_input};
+ghost use Rattle.og_report_refusal.specs.Advice.{IsKnown, is_one_line, front_text, hint_text, IsAdvice};
+
+use crate::head::put_head;
+use crate::hint::Hint;
+use crate::quotes::put_quote;
+use crate::reasons::reason;
+use og_report_text::InputFault;
+use std::alloc::{AllocError, Global};
+
+/// How a source and its certificates are named.
+#[derive(Clone, Copy, Debug, PartialEq, Eq)]
+pub struct Names<'a> {
+    /// The source.
+    pub source: &'a str,
+    /// The certificates.
+    pub certs: &'a str,
+}
+
+// The place in the source, where there is one.
+fn place_of(fault: &InputFault) -> Option<u32>
+    ensures { result ≡ place_of_input fault.now }
+{
+    match fault {
+        InputFault::Source(fault) => fault.place(),
+        InputFault::Conditions(_) | InputFault::Certs(_) | InputFault::Stray(_) => None,
+    }
+}
+
+// Adds the line with a mark, where there is a place.
+fn put_front(text: &mut Vec<u8>, source: &[u8], fault: &InputFault) -> Result<(), AllocError>
+    requires { IsKnown source.now fault.now }
+    ensures { OnOk result (text.new.items ≡ text.old.items ++ front_text source.now (place_of_input fault.now)) }
+{
+    match place_of(fault) {
+        None => text.extend_from_slice(b"  "),
+        Some(at) => put_quote(text, source, at),
+    }
+}
+
+// Adds a line of advice, where there is some.
+fn put_hint(text: &mut Vec<u8>, hint: Option<&str>) -> Result<(), AllocError>
+    ensures { OnOk result (text.new.items ≡ text.old.items ++ hint_text (option_map (λ h. h.now) hint.entry)) }
+{
+    let Some(hint) = hint else {
+        return Ok(());
+    };
+    text.extend_from_slice(b"help: ")?;
+    text.extend_from_slice(hint.as_bytes())?;
+    text.extend_from_slice(b"\n")
+}
+
+// The line of advice, where there is some.
+fn line_of(hint: Option<Hint>) -> Option<&'static str>
+    ensures { IfSome result (λ h. IsTrue (is_one_line h.now)) }
+{
+    match hint {
+        Some(hint) => Some(hint.text()),
+        None => None,
+    }
+}
+
+/// What is told of a refusal: the file with the place, and the refusal's number and name; the line of
+/// the source with a mark below it, and why; and a line of advice, where there is some. Where another
+/// symbol is expected, all that may stand there are told, and no other.
+///
+/// # Errors
+///
+/// An allocation was refused.
+pub fn advise(
+    alloc: Global,
+    names: Names<'_>,
+    fault: &InputFault,
+    source: &[u8],
+) -> Result<Vec<u8>, AllocError>
+    requires { IsKnown source.now fault.now }
+    ensures { IfOk result (λ text. IsAdvice names.entry.source.now names.entry.certs.now source.now fault.now text.items) }
+{
+    let mut text = Vec::new(alloc);
+    put_head(&mut text, names, fault, source)?;
+    put_front(&mut text, source, fault)?;
+    let (reason, hint) = reason(alloc, names, fault, source)?;
+    text.extend_from_slice(&reason)?;
+    text.extend_from_slice(b"\n")?;
+    put_hint(&mut text, line_of(hint))?;
+    Ok(text)
+}

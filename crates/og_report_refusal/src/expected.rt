@@ -1,0 +1,113 @@
+//! What is found at a place, and what may stand there.
+
+ghost use Rattle.std.specs.Prelude.{◌≡◌, ◌≤◌, ◌++◌, OnOk, IfOk, length, drop};
+ghost use Rattle.og_text.specs.Cut.{AreTokensOf};
+ghost use Rattle.og_report_refusal.specs.Reasons.{count_before, cut_at, found_text, expected_text, IsExpectedText, HasTokens};
+
+use crate::bytes::{front_of, rest_of};
+use crate::words::{put_listed, words_of};
+use og_parse::{expected, is_whole};
+use og_text::{LexError, Token, TokenKind, lex};
+use std::alloc::{AllocError, Global};
+
+/// The tokens of a source that has some.
+///
+/// # Errors
+///
+/// An allocation was refused.
+pub(crate) fn tokens_of(alloc: Global, source: &[u8]) -> Result<Vec<Token>, AllocError>
+    requires { HasTokens source.now }
+    ensures { IfOk result (λ tokens. AreTokensOf source.now tokens.items) }
+{
+    match lex(alloc, source) {
+        Ok(tokens) => Ok(tokens),
+        Err(LexError::Memory) => Err(AllocError),
+        Err(LexError::Fault(_)) => unreachable!(),
+    }
+}
+
+/// How many tokens end before a place or at it.
+pub(crate) fn count_before(tokens: &[Token], at: u32) -> usize
+    ensures count { result ≡ count_before tokens.now at }
+    ensures within { result ≤ length tokens.now }
+{
+    tokens.iter().take_while(|t| t.span.end <= at).count()
+}
+
+// At most 64 bytes of the source from one place to another.
+fn cut_at(source: &[u8], start: u32, end: u32) -> &[u8]
+    ensures { result.now ≡ cut_at source.now start end }
+{
+    let front = front_of(source, end as usize);
+    front_of(rest_of(front, start as usize), 64)
+}
+
+// Adds what is found.
+fn put_found(text: &mut Vec<u8>, source: &[u8], rest: &[Token]) -> Result<(), AllocError>
+    ensures { OnOk result (text.new.items ≡ text.old.items ++ found_text source.now rest.now) }
+{
+    match rest {
+        [] => text.extend_from_slice(b"the end of the file"),
+        [token, ..] => {
+            text.extend_from_slice(b"'")?;
+            text.extend_from_slice(cut_at(source, token.span.start, token.span.end))?;
+            text.extend_from_slice(b"'")
+        }
+    }
+}
+
+/// The tokens from one on.
+#[tactic(auto, using(std::proofs::lemmas::List::drop_min))]
+pub(crate) fn tokens_from(tokens: &[Token], index: usize) -> &[Token]
+    ensures { result.now ≡ drop index tokens.now }
+{
+    &tokens[index.min(tokens.len())..]
+}
+
+// What is found.
+fn found(alloc: Global, source: &[u8], rest: &[Token]) -> Result<Vec<u8>, AllocError>
+    ensures { IfOk result (λ found. found.items ≡ found_text source.now rest.now) }
+{
+    let mut text = Vec::new(alloc);
+    put_found(&mut text, source, rest)?;
+    Ok(text)
+}
+
+// What is found, and what may stand there.
+fn line_of(
+    alloc: Global,
+    found: &[u8],
+    symbols: &[TokenKind],
+    may_end: bool,
+) -> Result<Vec<u8>, AllocError>
+    ensures { IfOk result (λ text. text.items ≡ expected_text found.now symbols.now may_end) }
+{
+    let mut text = Vec::from_slice(alloc, b"found ")?;
+    text.extend_from_slice(found)?;
+    text.extend_from_slice(b", expected ")?;
+    put_listed(&mut text, &words_of(alloc, symbols, may_end)?)?;
+    Ok(text)
+}
+
+/// What is found at a place, and what may stand there, as a text; and the symbols that may.
+///
+/// # Errors
+///
+/// An allocation was refused.
+pub(crate) fn expected_reason(
+    alloc: Global,
+    source: &[u8],
+    at: u32,
+) -> Result<(Vec<u8>, Vec<TokenKind>), AllocError>
+    requires { HasTokens source.now }
+    ensures { IfOk result (λ r. IsExpectedText source.now at r.0.items) }
+{
+    let mut tokens = tokens_of(alloc, source)?;
+    let count = count_before(&tokens, at);
+    let found = found(alloc, source, tokens_from(&tokens, count))?;
+    tokens.truncate(count);
+    let may_end = is_whole(alloc, &tokens)?;
+    let symbols = expected(alloc, tokens)?;
+    let text = line_of(alloc, &found, &symbols, may_end)?;
+    Ok((text, symbols))
+}

@@ -1,0 +1,158 @@
+//! How many conditions have no certificate.
+
+ghost use Rattle.std.specs.Prelude.{◌≡◌, ◌++◌, OnOk, IfOk, option_map, codes};
+ghost use Rattle.std.specs.Fmt.{decimal};
+ghost use Rattle.og_report_refusal.specs.Names.{command_text};
+ghost use Rattle.og_report_refusal.specs.Missing.{counts_text, missing_text, length_text, long_text, IsCount, IsCountOf, IsMissingOf, IsMissingRemark};
+
+use crate::put_command;
+use og_cert_read::read_certs;
+use og_cert_text::CertTextError;
+use og_cond::{ConditionsError, conditions};
+use og_find::Missing;
+use og_report_text::put_number;
+use og_typed::{Outline, Source, SourceError};
+use std::alloc::{AllocError, Global};
+
+const LACKING: &str = " conditions have no certificate; ";
+
+// How many conditions an outline has; none where they are too many.
+fn counted(alloc: Global, outline: &Outline) -> Result<Option<u32>, AllocError>
+    ensures { IfOk result (IsCount outline.now) }
+{
+    match conditions(alloc, outline) {
+        Ok(list) => Ok(Some(list.len() as u32)),
+        Err(ConditionsError::Fault(_)) => Ok(None),
+        Err(ConditionsError::Memory) => Err(AllocError),
+    }
+}
+
+// How many conditions a source has; none where it is refused, or they are too many.
+fn count_of(alloc: Global, source: &[u8]) -> Result<Option<u32>, AllocError>
+    ensures { IfOk result (IsCountOf source.now) }
+{
+    let read = match Source::read(alloc, source) {
+        Ok(read) => read,
+        Err(SourceError::Fault(_)) => return Ok(None),
+        Err(SourceError::Memory) => return Err(AllocError),
+    };
+    let count = counted(alloc, read.outline());
+    drop(read);
+    match count? {
+        Some(count) => Ok(Some(count)),
+        None => Ok(None),
+    }
+}
+
+// How many of so many conditions have no certificate in a text; none where it is refused.
+fn missing_of(alloc: Global, certs: &[u8], count: u32) -> Result<Option<Missing>, AllocError>
+    ensures { IfOk result (IsMissingOf certs.now count) }
+{
+    match read_certs(alloc, certs) {
+        Ok(file) => {
+            let missing = Missing::of(&file, count);
+            drop(file);
+            Ok(Some(missing))
+        }
+        Err(CertTextError::Fault(_)) => Ok(None),
+        Err(CertTextError::Memory) => Err(AllocError),
+    }
+}
+
+// Adds two numbers with `of` between them.
+fn put_counts(text: &mut Vec<u8>, missing: Missing) -> Result<(), AllocError>
+    ensures { OnOk result (text.new.items ≡ text.old.items ++ counts_text missing.count missing.conditions) }
+{
+    put_number(text, missing.count as u128)?;
+    text.extend_from_slice(b" of ")?;
+    put_number(text, missing.conditions as u128)
+}
+
+// Adds the command that proves a source of this name, between two texts.
+fn put_prove(text: &mut Vec<u8>, before: &str, name: &str, after: &str) -> Result<(), AllocError>
+    ensures { OnOk result (text.new.items ≡ text.old.items ++ (before.now ++ (command_text (codes "og prove ") name.now ++ after.now))) }
+{
+    text.extend_from_slice(before.as_bytes())?;
+    put_command(text, "og prove ", name)?;
+    text.extend_from_slice(after.as_bytes())
+}
+
+/// The line that so many conditions of a source of this name have no certificate, and what says why.
+///
+/// # Errors
+///
+/// An allocation was refused.
+pub fn missing_line(alloc: Global, name: &str, missing: Missing) -> Result<Vec<u8>, AllocError>
+    ensures { IfOk result (λ text. text.items ≡ missing_text name.now missing.count missing.conditions) }
+{
+    let mut text = Vec::from_slice(alloc, b"og: ")?;
+    put_counts(&mut text, missing)?;
+    put_prove(&mut text, LACKING, name, " says why\n")?;
+    Ok(text)
+}
+
+// Adds a number between two texts.
+fn put_count(text: &mut Vec<u8>, before: &str, count: u128, after: &str) -> Result<(), AllocError>
+    ensures { OnOk result (text.new.items ≡ text.old.items ++ (before.now ++ (decimal count ++ after.now))) }
+{
+    text.extend_from_slice(before.as_bytes())?;
+    put_number(text, count)?;
+    text.extend_from_slice(after.as_bytes())
+}
+
+// Adds in which version the text may be written, where there is one, or else what does without.
+fn put_length(text: &mut Vec<u8>, name: &str, second: Option<usize>) -> Result<(), AllocError>
+    ensures { OnOk result (text.new.items ≡ text.old.items ++ length_text name.now second) }
+{
+    match second {
+        Some(bytes) => put_count(text, ": --version 2 takes ", bytes as u128, "\n"),
+        None => put_prove(text, ": ", name, " judges without them\n"),
+    }
+}
+
+/// The line that the certificates of a source of this name take more bytes than the limit, and how many
+/// they take in version 2, where these are no more; or else what does without certificates.
+///
+/// # Errors
+///
+/// An allocation was refused.
+pub fn long_line(
+    alloc: Global,
+    name: &str,
+    limit: usize,
+    second: Option<usize>,
+) -> Result<Vec<u8>, AllocError>
+    ensures { IfOk result (λ text. text.items ≡ long_text name.now limit second) }
+{
+    let mut text = Vec::from_slice(alloc, b"og: certificates of more than ")?;
+    put_number(&mut text, limit as u128)?;
+    text.extend_from_slice(b" bytes")?;
+    put_length(&mut text, name, second)?;
+    Ok(text)
+}
+
+/// How many conditions of a source of this name have no certificate, and what says why; nothing
+/// where each has one, or the source or the certificates are refused.
+///
+/// # Errors
+///
+/// An allocation was refused.
+pub fn missing_remark(
+    alloc: Global,
+    name: &str,
+    source: &[u8],
+    certs: &[u8],
+) -> Result<Option<Vec<u8>>, AllocError>
+    ensures { IfOk result (λ note. IsMissingRemark name.now source.now certs.now (option_map (λ n. n.items) note)) }
+{
+    let Some(count) = count_of(alloc, source)? else {
+        return Ok(None);
+    };
+    let Some(missing) = missing_of(alloc, certs, count)? else {
+        return Ok(None);
+    };
+    if missing.count == 0 {
+        return Ok(None);
+    }
+    Ok(Some(missing_line(alloc, name, missing)?))
+}

@@ -1,0 +1,217 @@
+//! What is told of a run that does not begin: its start makes the precondition false.
+
+ghost use Rattle.std.specs.Prelude.{◌≡◌, ◌++◌, map, option_map, IfOk, IfSome, OnOk};
+ghost use Rattle.og_command_run.specs.Words.{Give};
+ghost use Rattle.og_report_refusal.specs.Starting.{refused_text, start_value, start_values, start_line, help_line, start_text, IsStartOf, IsStartRemark, IsRunRemark, IsProvedRunRemark};
+
+use crate::remarks::{check_remark, source_remark};
+use crate::{Names, put_name};
+use og_command_run::{WordsError, values};
+use og_linear::State;
+use og_report_explain::{Unexplained, false_in};
+use og_report_prove::put_false;
+use og_report_text::{Origins, Places, put_position, put_values};
+use og_subst::Values;
+use og_text::Name;
+use og_typed::{Assert, Outline, Source, SourceError};
+use std::alloc::{AllocError, Global};
+use std::sync::Wait;
+use std::thread::Threads;
+
+const HELP: &str =
+    "help: words NAME=INT give variables their values at the start, which are else 0\n";
+
+// Adds the place and the refusal.
+fn put_refused(text: &mut Vec<u8>, name: &str, places: &Places, at: u32) -> Result<(), AllocError>
+    ensures { OnOk result (text.new.items ≡ text.old.items ++ refused_text name.now places.now at) }
+{
+    put_name(text, name)?;
+    text.extend_from_slice(b":")?;
+    put_position(text, places.position(at))?;
+    text.extend_from_slice(b": refused: 50 NotPre\n")
+}
+
+// Adds a variable with its value, after a comma where it is not the first.
+fn put_start_value(
+    text: &mut Vec<u8>,
+    names: &[Name],
+    values: &Values,
+    var: u32,
+) -> Result<(), AllocError>
+    ensures { OnOk result (text.new.items ≡ text.old.items ++ start_value names.now values.now var) }
+{
+    if var > 0 {
+        text.extend_from_slice(b", ")?;
+    }
+    put_values(text, names, values.as_slice(), &[var])
+}
+
+// Adds the values of the first variables.
+fn put_start_values(
+    text: &mut Vec<u8>,
+    names: &[Name],
+    values: &Values,
+    count: u32,
+) -> Result<(), AllocError>
+    ensures { OnOk result (text.new.items ≡ text.old.items ++ start_values names.now values.now count) }
+{
+    for var in 0..count {
+        put_start_value(text, names, values, var)?;
+    }
+    Ok(())
+}
+
+// Adds the line of the values, where there are variables.
+fn put_start_line(
+    text: &mut Vec<u8>,
+    names: &[Name],
+    values: &Values,
+    count: u32,
+) -> Result<(), AllocError>
+    ensures { OnOk result (text.new.items ≡ text.old.items ++ start_line names.now values.now count) }
+{
+    if count == 0 {
+        return Ok(());
+    }
+    text.extend_from_slice(b"  start: ")?;
+    put_start_values(text, names, values, count)?;
+    text.extend_from_slice(b"\n")
+}
+
+// Adds advice, where there are variables.
+fn put_help(text: &mut Vec<u8>, count: u32) -> Result<(), AllocError>
+    ensures { OnOk result (text.new.items ≡ text.old.items ++ help_line count) }
+{
+    if count == 0 {
+        return Ok(());
+    }
+    text.extend_from_slice(HELP.as_bytes())
+}
+
+// What is told of a start that makes these conjuncts of the precondition false.
+fn start_text(
+    alloc: Global,
+    name: &str,
+    source: &Source,
+    values: &Values,
+    found: &[&Assert],
+) -> Result<Vec<u8>, AllocError>
+    ensures { IfOk result (λ text. text.items ≡ start_text name.now source.now.bytes source.now.outline values.now found.now) }
+{
+    let outline = source.outline();
+    let places = Places::new(alloc, source.bytes())?;
+    let (names, at) = (outline.names(), outline.pre().at);
+    let mut text = Vec::new(alloc);
+    put_refused(&mut text, name, &places, at)?;
+    put_start_line(&mut text, names, values, outline.vars())?;
+    let origins = Origins::own(source.bytes(), &places);
+    put_false(&mut text, names, &origins, at, found)?;
+    put_help(&mut text, outline.vars())?;
+    Ok(text)
+}
+
+// What is told of a start of a source, where it makes the precondition false.
+fn told(
+    alloc: Global,
+    name: &str,
+    source: &Source,
+    state: &State,
+) -> Result<Option<Vec<u8>>, AllocError>
+    ensures { IfOk result (λ note. IfSome note (λ text. IsStartOf name.now source.now.bytes source.now.outline state.now text.items)) }
+{
+    let values = Values::of(alloc, state)?;
+    match false_in(alloc, source.outline().pre(), &values) {
+        Ok(found) => Ok(Some(start_text(alloc, name, source, &values, &found)?)),
+        Err(Unexplained::Open) => Ok(None),
+        Err(Unexplained::Memory) => Err(AllocError),
+    }
+}
+
+// The values that the words give, where they do.
+fn start_of(alloc: Global, outline: &Outline, words: &[&str]) -> Result<Option<State>, AllocError>
+    ensures { IfOk result (λ state. IfSome state (Give outline.now (map (λ w. w.now) words.now))) }
+{
+    match values(alloc, outline, words) {
+        Ok(state) => Ok(Some(state)),
+        Err(WordsError::Bad(_)) => Ok(None),
+        Err(WordsError::Memory) => Err(AllocError),
+    }
+}
+
+// What is told of the start that the words give.
+fn told_of(
+    alloc: Global,
+    name: &str,
+    source: &Source,
+    words: &[&str],
+) -> Result<Option<Vec<u8>>, AllocError>
+    ensures { IfOk result (λ note. IfSome note (λ text. IsStartRemark name.now source.now.bytes (map (λ w. w.now) words.now) text.items)) }
+{
+    match start_of(alloc, source.outline(), words)? {
+        Some(state) => told(alloc, name, source, &state),
+        None => Ok(None),
+    }
+}
+
+// The same, from the bytes of the source.
+fn start_remark(
+    alloc: Global,
+    name: &str,
+    source: &[u8],
+    words: &[&str],
+) -> Result<Option<Vec<u8>>, AllocError>
+    ensures { IfOk result (λ note. IfSome note (λ text. IsStartRemark name.now source.now (map (λ w. w.now) words.now) text.items)) }
+{
+    match Source::read(alloc, source) {
+        Ok(read) => {
+            let note = told_of(alloc, name, &read, words);
+            drop(read);
+            note
+        }
+        Err(SourceError::Fault(_)) => Ok(None),
+        Err(SourceError::Memory) => Err(AllocError),
+    }
+}
+
+/// What is told of a run of a source of this name that does not begin: why the source is refused, or
+/// where its precondition stands, the values that the words give to its variables, and which
+/// conjuncts of the precondition are false then. Nothing of a source with an outline where a word
+/// gives no value, no conjunct is false, or a number on the way leaves 128 bits.
+///
+/// # Errors
+///
+/// An allocation was refused.
+pub fn run_remark(
+    alloc: Global,
+    name: &str,
+    source: &[u8],
+    words: &[&str],
+) -> Result<Option<Vec<u8>>, AllocError>
+    ensures { IfOk result (λ note. IsRunRemark name.now source.now (map (λ w. w.now) words.now) (option_map (λ n. n.items) note)) }
+{
+    match source_remark(alloc, name, source)? {
+        Some(text) => Ok(Some(text)),
+        None => start_remark(alloc, name, source, words),
+    }
+}
+
+/// The same of a run that certificates are to prove safe, which may be refused too.
+///
+/// # Errors
+///
+/// An allocation was refused.
+pub fn proved_run_remark<H: Threads + Wait + Sync>(
+    rt: &H,
+    alloc: Global,
+    names: Names<'_>,
+    source: &[u8],
+    certs: &[u8],
+    words: &[&str],
+) -> Result<Option<Vec<u8>>, AllocError>
+    ensures { IfOk result (λ note. IsProvedRunRemark names.entry.source.now names.entry.certs.now source.now certs.now (map (λ w. w.now) words.now) (option_map (λ n. n.items) note)) }
+{
+    match check_remark(rt, alloc, names, source, certs)? {
+        Some(text) => Ok(Some(text)),
+        None => start_remark(alloc, names.source, source, words),
+    }
+}

@@ -1,6 +1,0 @@
-use Rattle.std.proofs.Common.{◌≡◌, None, take}
-use Rattle.og_running.specs.Schedules.{history_of}
-use Rattle.og_running.proofs.schedule.follow.Given as goal
-
-abbrev pub invariant-loop-k : goal.invariant-loop-k
-invariant-loop-k l = (l.board.given ≡ l.initial.board.given) × (l.board.history ≡ history_of l.outline (take l.k l.steps)) × (l.board.halted ≡ None)

@@ -1,0 +1,228 @@
+//! The looks for a queue among the choices on the path.
+
+use crate::candidates::{Candidate, Hidden, candidates, hidden_pairs, range_of};
+use crate::entries::Maker;
+use crate::missed::Missed;
+use crate::narrowing::Ground;
+use crate::queue::{Queue, Var};
+use og_search_choices::View;
+use og_search_rows::{Inequality, Levels, Origin, Place, Side, Term};
+use std::alloc::{AllocError, Global};
+
+/// The fewest entries: fewer are left to the search.
+const FEWEST: usize = 6;
+
+/// The most entries: a refutation of more is too large.
+const MOST: usize = 10;
+
+/// The lowest level at which a queue is refuted, so that levels are left for it.
+const LEVEL: u32 = 120;
+
+/// What is seen at a level, and how many facts on the path were looked at for it.
+#[derive(Drop)]
+pub struct Seen {
+    pub sight: Sight,
+    pub looks: usize,
+}
+
+/// What is seen at a level.
+#[derive(Drop)]
+pub enum Sight {
+    /// No queue.
+    Nothing,
+    /// A queue, once it is known that this form is above 0: that the counter has no more values.
+    Bound(Inequality),
+    /// A queue.
+    Queue(Queue),
+}
+
+/// What counts the entries that are through: a sum of flags that is at most the counter.
+#[derive(Clone, Copy)]
+struct Count<'v> {
+    place: Place,
+    form: &'v Inequality,
+}
+
+/// The values of the counter.
+#[derive(Clone, Copy)]
+struct Values {
+    least: i128,
+    most: i128,
+}
+
+// Whether the inequality is that the counter is at least a sum of so many variables or more.
+fn is_count(form: &Inequality, counter: Var, fewest: usize) -> bool {
+    form.terms.len() > fewest
+        && form.terms.iter().all(|term| {
+            let coefficient = if term.var == counter { -1 } else { 1 };
+            term.coefficient == coefficient
+        })
+        && form.coefficient(counter) == -1
+}
+
+// The first fact on the path that says so.
+fn count_of<'v>(view: View<'v, '_>, counter: Var, fewest: usize) -> Option<Count<'v>> {
+    for row in view.base {
+        if let Some(Origin::Given(place)) = view.rows.origin(*row) {
+            let form = view.rows.form(*row);
+            if is_count(form, counter, fewest) {
+                let place = *place;
+                return Some(Count { place, form });
+            }
+        }
+    }
+    None
+}
+
+// The variables of a count.
+fn counted(alloc: Global, count: Count, counter: Var) -> Result<Vec<Var>, AllocError> {
+    let mut flags = Vec::with_capacity(alloc, count.form.terms.len())?;
+    for term in &count.form.terms {
+        if term.var != counter {
+            flags.push(term.var)?;
+        }
+    }
+    Ok(flags)
+}
+
+// The facts that the flags of others than the entries are at least what they are, and the least
+// value of the counter where no entry is through.
+fn others(
+    ground: &mut Ground,
+    count: Count,
+    counter: Var,
+    flags: &[Var],
+) -> Result<(Vec<Place>, i128), Missed> {
+    let mut places = Vec::new(ground.alloc);
+    let mut sum = count.form.constant;
+    for term in &count.form.terms {
+        if term.var != counter && !flags.contains(&term.var) {
+            let low = ground.view.bounds.get(term.var, Side::Lower).value;
+            places.push(ground.path_fact(&[(term.var, -1)], low)?)?;
+            sum = sum.saturating_add(low);
+        }
+    }
+    Ok((places, sum))
+}
+
+// Whether the entries are as many as the values.
+fn is_full(entries: usize, values: Values) -> bool {
+    let wanted = values.most.checked_sub(values.least);
+    let wanted = wanted.and_then(|gap| gap.checked_add(1));
+    values.least >= 0 && wanted == Some(entries as i128)
+}
+
+// The maker with the entries of all candidates.
+fn with_all<'a, 'h>(
+    ground: &mut Ground<'_, 'a>,
+    candidates: &[Candidate<'a>],
+    mut maker: Maker<'a, 'h>,
+) -> Result<Maker<'a, 'h>, Missed> {
+    for candidate in candidates {
+        maker.add(ground, *candidate)?;
+    }
+    Ok(maker)
+}
+
+// The greatest value of a number that is less than the end.
+fn most_of(view: View, end: Var) -> i128 {
+    let end = view.bounds.get(end, Side::Upper).value;
+    end.saturating_sub(1)
+}
+
+// The queue of these candidates, the first of which is this one, with the choices that hide that
+// two numbers differ.
+fn gathered<'a>(
+    ground: &mut Ground<'_, 'a>,
+    candidates: &[Candidate<'a>],
+    hidden: &[Hidden],
+    first: Candidate,
+    level: u32,
+) -> Result<Queue, Missed> {
+    let counter = first.counter;
+    let end = range_of(ground.view, first).ok_or(Missed::Fact)?.end;
+    let count = count_of(ground.view, counter, candidates.len()).ok_or(Missed::Fact)?;
+    ground.note(count.place);
+    let counted = counted(ground.alloc, count, counter)?;
+    let maker = Maker::new(ground.alloc, counted, end, hidden);
+    let maker = with_all(ground, candidates, maker)?;
+    let (others, least) = others(ground, count, counter, &maker.flags)?;
+    let most = most_of(ground.view, end);
+    if !is_full(maker.entries.len(), Values { least, most }) {
+        return Err(Missed::Fact);
+    }
+    Ok(Queue {
+        level,
+        counter,
+        count: count.place,
+        others,
+        least,
+        most,
+        end,
+        entries: maker.entries,
+        flags: maker.flags,
+        pairs: maker.pairs,
+        used: ground.used,
+    })
+}
+
+// The queue, or the form that has to be above 0 before.
+fn sight_of(alloc: Global, view: View, queue: Queue) -> Result<Sight, AllocError> {
+    let most = queue.most;
+    if view.bounds.get(queue.counter, Side::Upper).value <= most {
+        return Ok(Sight::Queue(queue));
+    }
+    match most.checked_add(1) {
+        Some(constant) if view.bounds.get(queue.counter, Side::Lower).value <= most => {
+            let term = Term {
+                var: queue.counter,
+                coefficient: -1,
+            };
+            Ok(Sight::Bound(Inequality::single(alloc, term, constant)?))
+        }
+        _ => Ok(Sight::Nothing),
+    }
+}
+
+// What these candidates are.
+fn look_at<'a>(
+    ground: &mut Ground<'_, 'a>,
+    candidates: &[Candidate<'a>],
+    hidden: &[Hidden],
+    level: u32,
+) -> Result<Sight, AllocError> {
+    let Some(first) = candidates.first().copied() else {
+        return Ok(Sight::Nothing);
+    };
+    if candidates.len() < FEWEST || candidates.len() > MOST {
+        return Ok(Sight::Nothing);
+    }
+    match gathered(ground, candidates, hidden, first, level) {
+        Ok(queue) => sight_of(ground.alloc, ground.view, queue),
+        Err(Missed::Fact) => Ok(Sight::Nothing),
+        Err(Missed::Memory) => Err(AllocError),
+    }
+}
+
+/// A queue of 6 to 10 entries, to be refuted below this level, if one is seen.
+///
+/// # Errors
+///
+/// `AllocError` where an allocation was refused.
+pub fn look(alloc: Global, view: View, level: u32) -> Result<Seen, AllocError> {
+    let mut ground = Ground {
+        alloc,
+        view,
+        used: Levels::NONE,
+        looks: 0,
+    };
+    let hidden = hidden_pairs(alloc, view.open)?;
+    if level < LEVEL || hidden.len() < FEWEST {
+        let sight = Sight::Nothing;
+        return Ok(Seen { sight, looks: 0 });
+    }
+    let candidates = candidates(alloc, view, &hidden)?;
+    let sight = look_at(&mut ground, &candidates, &hidden, level)?;
+    let looks = ground.looks;
+    Ok(Seen { sight, looks })
+}

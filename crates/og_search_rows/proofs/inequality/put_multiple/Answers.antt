@@ -1,0 +1,15 @@
+use Rattle.std.proofs.Common.{◌+ℤ◌, FitsSigned, rules, ap, ◌∙◌}
+use mir.Syntax.{w128}
+use Rattle.std.proofs.lemmas.Int.{to_z-of_z}
+use Rattle.og_search_rows.specs.Inequality.{sum_at}
+use Rattle.og_search_rows.proofs.Sums.{multiple_of}
+use Rattle.og_search_rows.proofs.inequality.put_multiple.Goals as goal
+
+pub returns : goal.returns
+returns c = λ _ s.
+    let m_fits : FitsSigned w128 c.args.times = c.ranges.times in
+    let t_fits : FitsSigned w128 c.args.term.coefficient = search rules in
+    let k_fits : FitsSigned w128 c.in-Some.coefficient = search rules in
+    let e = simp to_z-of_z at c.in-Some.ensures in
+    let f = simp to_z-of_z at (c.in_ok-put.ensures s) in
+    f ∙ ap (λ z. sum_at c.args.terms.now.items s +ℤ z) (multiple_of c.args.term s c.args.times c.in-Some.coefficient e.1)

@@ -1,2 +1,0 @@
-pub mod OneOutline
-pub mod Resolving

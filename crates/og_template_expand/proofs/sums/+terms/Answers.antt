@@ -1,0 +1,61 @@
+use mir.Syntax.{w64}
+use mir.Val.{SFits, to_z, of_z}
+use Rattle.std.proofs.lemmas.Int.{to_z-of_z}
+use Rattle.std.proofs.Common.{◌≡◌, pos, get_or, map, sym, subst, ap, ◌∙◌, Vec, Global, rules}
+use Rattle.std.specs.Prelude.{Ok}
+use Rattle.std.proofs.lemmas.Result.{err_from_is_err_and}
+use Rattle.og_parse.specs.declared.raw.RawTerm.{RawTerm}
+use Rattle.og_template_expand.specs.Answer.{Checked, ◌>>=◌, behind, gathered}
+use Rattle.og_template_expand.specs.Scope.{Range, Scope}
+use Rattle.og_template_expand.specs.Ranges.{instances, instance_of, numbers_of}
+use Rattle.og_template_expand.specs.Sums as sums
+use Rattle.og_template_expand.specs.Scoped.{FailsAs, scope_of}
+use Rattle.og_template_expand.specs.TreeOf.{binder_of, signed_of, kind_of, terms_then}
+use Rattle.og_template_expand.proofs.Lists.{gathered_turn, gathered_stops, failed, fails_then}
+use Rattle.og_template_expand.proofs.Trees.{tree_total}
+use Rattle.og_template_expand.proofs.sums.+terms.Goals as goal
+
+pub instances_of-loop-value-preserved : goal.instances_of-loop-value-preserved
+instances_of-loop-value-preserved t c =
+    let each = instance_of (scope_of c.args.scope.now) (binder_of c.args.binder.now) (λ s. sums.terms_of s c.args.sign (terms_then (map signed_of c.args.terms.now))) in
+    let values = c.deref-value-items.result.now in
+    let i = c.loop-value.value-index in
+    let fit : SFits w64 (get_or values i (pos 0)) = search rules in
+    let made : behind c.loop-value.all.items (each (to_z w64 (of_z w64 (get_or values i (pos 0))))) ≡ Ok c.put_instance.new.all.items = c.in_ok-put_instance.ensures in
+    gathered_turn each c.loop-value.all.items c.put_instance.new.all.items values i (pos 0) (to_z w64 (of_z w64 (get_or values i (pos 0)))) _ c.loop-value-test.true (to_z-of_z w64 _ fit) made c.loop-value.invariant
+
+pub instances_of-returns-in_err-put_instance : goal.instances_of-returns-in_err-put_instance
+instances_of-returns-in_err-put_instance t c =
+    let scope = scope_of c.args.scope.now in
+    let binder = binder_of c.args.binder.now in
+    let body = λ (s : Scope). sums.terms_of s c.args.sign (terms_then (map signed_of c.args.terms.now)) in
+    let each = instance_of scope binder body in
+    let values = c.deref-value-items.result.now in
+    let i = c.loop-value.value-index in
+    let e = c.in_err-put_instance.field-0.0 in
+    let fit : SFits w64 (get_or values i (pos 0)) = search rules in
+    let fails : FailsAs e (behind c.loop-value.all.items (each (to_z w64 (of_z w64 (get_or values i (pos 0)))))) = c.in_err-put_instance.ensures in
+    let p = err_from_is_err_and c.from_residual-in_err-put_instance.result c.from_residual-in_err-put_instance.ensures.1 in
+    let all : gathered each values ≡ instances scope binder body =
+    ap (gathered each) (c.deref-value-items.ensures.value ∙ c.in_ok-values.ensures) ∙ ap (λ (r : Checked Range). r >>= λ range. gathered each (numbers_of range)) (sym c.in_ok-range.ensures) in
+    rw p.1 (failed (λ (v : Vec RawTerm Global). v.items) e p.0 (instances scope binder body) p.2
+    (gathered_stops each e c.loop-value.all.items values i (pos 0) (to_z w64 (of_z w64 (get_or values i (pos 0)))) (instances scope binder body) c.loop-value-test.true (to_z-of_z w64 _ fit) fails (c.loop-value.invariant ∙ all)))
+
+pub terms_of_kind-returns-in_err-all-in-Total : goal.terms_of_kind-returns-in_err-all-in-Total
+terms_of_kind-returns-in_err-all-in-Total t c =
+    let scope = scope_of c.args.scope.now in
+    let sign = c.args.sign in
+    let p = err_from_is_err_and c.from_residual-in_err-all-in-Total.result c.from_residual-in_err-all-in-Total.ensures.1 in
+    rw p.1 (failed (λ (v : Vec RawTerm Global). v.items) c.in_err-all-in-Total.field-0.0 p.0 (sums.kind_of scope sign c.args.span (kind_of c.args.kind.now)) p.2
+    (subst (λ k. FailsAs c.in_err-all-in-Total.field-0.0 (sums.kind_of scope sign c.args.span k)) (sym (ap kind_of c.in-Total.is ∙ tree_total c.in-Total.binder c.in-Total.terms))
+    (subst (λ items. FailsAs c.in_err-all-in-Total.field-0.0 (instances scope (binder_of c.in-Total.binder) (λ s. sums.terms_of s sign (terms_then (map signed_of items))) >>= λ all. Ok (sums.or_zero sign all))) c.deref.ensures.value
+    (fails_then c.in_err-all-in-Total.field-0.0 _ (λ all. Ok (sums.or_zero sign all)) c.in_err-all-in-Total.ensures))))
+
+pub terms_of_kind-returns-in_ok-or_zero-in-Total : goal.terms_of_kind-returns-in_ok-or_zero-in-Total
+terms_of_kind-returns-in_ok-or_zero-in-Total t c =
+    let scope = scope_of c.args.scope.now in
+    let sign = c.args.sign in
+    ap (sums.kind_of scope sign c.args.span) (ap kind_of c.in-Total.is ∙ tree_total c.in-Total.binder c.in-Total.terms)
+    ∙ ap (λ items. instances scope (binder_of c.in-Total.binder) (λ s. sums.terms_of s sign (terms_then (map signed_of items))) >>= λ all. Ok (sums.or_zero sign all)) (sym c.deref.ensures.value)
+    ∙ ap (λ a. a >>= λ all. Ok (sums.or_zero sign all)) c.in_ok-all-in-Total.ensures
+    ∙ ap Ok (sym c.in_ok-or_zero-in-Total.ensures)

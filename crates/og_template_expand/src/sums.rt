@@ -1,0 +1,314 @@
+//! The terms of sums.
+
+ghost use Rattle.std.specs.Prelude.{◌≡◌, ◌++◌, unsigned_abs, map, IfOk, OnOk};
+ghost use Rattle.og_parse.specs.TreeOf as outlines;
+ghost use Rattle.og_template_expand.specs.Answer.{behind};
+ghost use Rattle.og_template_expand.specs.Ranges.{is_in, instances, instance_of};
+ghost use Rattle.og_template_expand.specs.Trees.{Named};
+ghost use Rattle.og_template_expand.specs.Sums as sums;
+ghost use Rattle.og_template_expand.specs.Scoped.{IsExpanded, range_of, operand_view, scope_of};
+ghost use Rattle.og_template_expand.specs.TreeOf.{expression_of, factor_of, binder_of, signed_of, kind_of, terms_then, sum_of};
+
+use crate::binders::{enter, numbers, range};
+use crate::expander::{Expander, element_name, same_name};
+use crate::exprs::value;
+use crate::fault::{Stop, fault, fault_at};
+use crate::range::Range;
+use crate::scope::{Meaning, Scope};
+use og_parse::{RawFactor, RawName, RawSum, RawTerm, Sign};
+use og_template::{Binder, Expr, Factor, FaultKind, Sum, Term, TermKind};
+use og_text::{NUMBER_LIMIT, Span};
+use std::alloc::{AllocError, Global};
+
+/// A factor: a number, or a variable.
+#[derive(Drop)]
+pub(crate) enum Operand {
+    Number(Sign, u64),
+    Variable(RawName),
+}
+
+// The sign of a product.
+fn product_sign(left: Sign, right: Sign) -> Sign
+    ensures { result ≡ sums.times left right }
+{
+    match (left, right) {
+        (Sign::Plus, sign) => sign,
+        (Sign::Minus, Sign::Plus) => Sign::Minus,
+        (Sign::Minus, Sign::Minus) => Sign::Plus,
+    }
+}
+
+/// The sign and the magnitude of a value.
+pub(crate) fn parts(value: i64) -> (Sign, u64)
+    ensures { result ≡ (sums.sign_of value, unsigned_abs value) }
+{
+    let sign = if value < 0 { Sign::Minus } else { Sign::Plus };
+    (sign, value.unsigned_abs())
+}
+
+fn number(value: i64) -> Operand
+    ensures { operand_view result ≡ sums.whole value }
+{
+    let (sign, magnitude) = parts(value);
+    Operand::Number(sign, magnitude)
+}
+
+// Whether an index is in a range.
+fn within(index: i64, range: Range) -> bool
+    ensures { result ≡ is_in index (range_of range) }
+{
+    0 <= index && range.low <= index as u64 && (index as u64) < range.low + u64::from(range.count)
+}
+
+// The name of the element of a family with these indices.
+fn element_in(alloc: Global, range: Range, name: &RawName, index: i64) -> Result<RawName, Stop>
+    ensures { IsExpanded (λ n. n) result (sums.element_in (range_of range) name.now index) }
+{
+    if within(index, range) {
+        element_name(alloc, name, index)
+    } else {
+        Err(fault_at(FaultKind::OutOfRange, name))
+    }
+}
+
+/// The name of the element of a family that an index picks.
+pub(crate) fn element(
+    scope: &Scope<'_, '_>,
+    work: &mut Expander<'_>,
+    name: &RawName,
+    index: &Expr,
+) -> Result<RawName, Stop>
+    ensures { IsExpanded (λ n. n) result (sums.element_of (scope_of scope.now) name.now (expression_of index.now)) }
+{
+    let index = value(scope, work, index)?;
+    let range = scope.family(name)?;
+    element_in(work.alloc, range, name, index)
+}
+
+// What a name without an index is.
+fn named_operand(scope: &Scope<'_, '_>, alloc: Global, name: &RawName) -> Result<Operand, Stop>
+    ensures { IsExpanded operand_view result (sums.operand_of (scope_of scope.now) (Named name.now)) }
+{
+    match scope.meaning(name)? {
+        Meaning::Value(value) => Ok(number(value)),
+        Meaning::Variable => Ok(Operand::Variable(same_name(alloc, name)?)),
+        Meaning::Family(_) | Meaning::Named(_) => Err(fault_at(FaultKind::WrongKind, name)),
+    }
+}
+
+fn operand_of(
+    scope: &Scope<'_, '_>,
+    work: &mut Expander<'_>,
+    factor: &Factor,
+) -> Result<Operand, Stop>
+    ensures { IsExpanded operand_view result (sums.operand_of (scope_of scope.now) (factor_of factor.now)) }
+{
+    match factor {
+        Factor::Number(magnitude) => Ok(Operand::Number(Sign::Plus, *magnitude)),
+        Factor::Value(expr) => Ok(number(value(scope, work, expr)?)),
+        Factor::Name(name) => named_operand(scope, work.alloc, name),
+        Factor::Element(name, index) => Ok(Operand::Variable(element(scope, work, name, index)?)),
+        Factor::Use(name, _) => Err(fault_at(FaultKind::WrongKind, name)),
+    }
+}
+
+// The term that a factor is.
+fn single(sign: Sign, operand: Operand) -> RawTerm
+    ensures { result ≡ sums.single sign (operand_view operand) }
+{
+    match operand {
+        Operand::Number(own, magnitude) => RawTerm {
+            sign: product_sign(sign, own),
+            factor: RawFactor::Number(magnitude),
+        },
+        Operand::Variable(name) => RawTerm {
+            sign,
+            factor: RawFactor::Variable(name),
+        },
+    }
+}
+
+// The number that the product of two is, where its magnitude is at most 2 to the power of 63.
+fn number_product(sign: Sign, left: u64, right: u64, span: Span) -> Result<RawTerm, Stop>
+    ensures { IsExpanded (λ t. t) result (sums.number_product sign left right span) }
+{
+    let product = u128::from(left) * u128::from(right);
+    if product <= u128::from(NUMBER_LIMIT) {
+        Ok(RawTerm {
+            sign,
+            factor: RawFactor::Number(product as u64),
+        })
+    } else {
+        Err(fault(FaultKind::ValueTooLarge, span))
+    }
+}
+
+// The term that the product of a number and a factor is.
+fn product(sign: Sign, multiplier: Operand, operand: Operand, span: Span) -> Result<RawTerm, Stop>
+    ensures { IsExpanded (λ t. t) result (sums.product_of sign (operand_view multiplier) (operand_view operand) span) }
+{
+    match (multiplier, operand) {
+        (Operand::Number(left, c), Operand::Number(right, d)) => {
+            number_product(product_sign(sign, product_sign(left, right)), c, d, span)
+        }
+        (Operand::Number(left, c), Operand::Variable(name)) => Ok(RawTerm {
+            sign: product_sign(sign, left),
+            factor: RawFactor::Product(c, name),
+        }),
+        (Operand::Variable(name), _) => Err(fault_at(FaultKind::WrongKind, &name)),
+    }
+}
+
+fn product_in(
+    scope: &Scope<'_, '_>,
+    work: &mut Expander<'_>,
+    sign: Sign,
+    left: &Factor,
+    right: &Factor,
+    span: Span,
+) -> Result<RawTerm, Stop>
+    ensures { IsExpanded (λ t. t) result (sums.product_in (scope_of scope.now) sign (factor_of left.now) (factor_of right.now) span) }
+{
+    let multiplier = operand_of(scope, work, left)?;
+    let operand = operand_of(scope, work, right)?;
+    product(sign, multiplier, operand, span)
+}
+
+// The term 0, where there is none.
+fn or_zero(mut terms: Vec<RawTerm>, sign: Sign) -> Result<Vec<RawTerm>, AllocError>
+    ensures { IfOk result (λ v. v.items ≡ sums.or_zero sign terms.items) }
+{
+    if terms.is_empty() {
+        terms.push(single(sign, Operand::Number(Sign::Plus, 0)))?;
+    }
+    Ok(terms)
+}
+
+// Moves terms to the end of others.
+fn put_all(mut terms: Vec<RawTerm>, all: &mut Vec<RawTerm>) -> Result<(), AllocError>
+    ensures { OnOk result (all.new.items ≡ all.old.items ++ terms.items) }
+{
+    all.append(&mut terms)
+}
+
+// Adds the terms of an instance.
+#[cycle(terms)]
+fn put_instance<'a>(
+    scope: &Scope<'_, 'a>,
+    work: &mut Expander<'_>,
+    sign: Sign,
+    binder: &'a Binder,
+    value: i64,
+    terms: &'a [Term],
+    all: &mut Vec<RawTerm>,
+) -> Result<(), Stop>
+    ensures { IsExpanded (λ _. all.new.items) result (behind all.old.items
+        (instance_of (scope_of scope.now) (binder_of binder.now) (λ s. sums.terms_of s sign (terms_then (map signed_of terms.now))) value)) }
+{
+    match enter(scope, work, binder, value)? {
+        Some(inner) => put_terms(&inner, work, sign, terms, all),
+        None => Ok(()),
+    }
+}
+
+// The terms of each instance.
+#[cycle(terms)]
+fn instances_of<'a>(
+    scope: &Scope<'_, 'a>,
+    work: &mut Expander<'_>,
+    sign: Sign,
+    binder: &'a Binder,
+    terms: &'a [Term],
+) -> Result<Vec<RawTerm>, Stop>
+    ensures { IsExpanded (λ v. v.items) result (instances (scope_of scope.now) (binder_of binder.now) (λ s. sums.terms_of s sign (terms_then (map signed_of terms.now)))) }
+{
+    let range = range(scope, work, &binder.range)?;
+    let values = numbers(work.alloc, range)?;
+    let mut all = Vec::new(work.alloc);
+    for value in &values {
+        put_instance(scope, work, sign, binder, *value, terms, &mut all)?;
+    }
+    Ok(all)
+}
+
+// The terms of what stands behind a sign.
+#[cycle(terms)]
+fn terms_of_kind<'a>(
+    scope: &Scope<'_, 'a>,
+    work: &mut Expander<'_>,
+    sign: Sign,
+    kind: &'a TermKind,
+    span: Span,
+) -> Result<Vec<RawTerm>, Stop>
+    ensures { IsExpanded (λ v. v.items) result (sums.kind_of (scope_of scope.now) sign span (kind_of kind.now)) }
+{
+    match kind {
+        TermKind::Factor(factor) => {
+            let term = single(sign, operand_of(scope, work, factor)?);
+            Ok(vec![in work.alloc; term]?)
+        }
+        TermKind::Product(left, right) => {
+            let term = product_in(scope, work, sign, left, right, span)?;
+            Ok(vec![in work.alloc; term]?)
+        }
+        TermKind::Total(binder, terms) => {
+            let all = instances_of(scope, work, sign, binder, terms)?;
+            Ok(or_zero(all, sign)?)
+        }
+    }
+}
+
+// Adds a term, its sign turned where `sign` is a minus.
+#[cycle(terms)]
+fn put_term<'a>(
+    scope: &Scope<'_, 'a>,
+    work: &mut Expander<'_>,
+    sign: Sign,
+    term: &'a Term,
+    all: &mut Vec<RawTerm>,
+) -> Result<(), Stop>
+    ensures { IsExpanded (λ _. all.new.items) result (behind all.old.items
+        (sums.kind_of (scope_of scope.now) (sums.times sign (signed_of term.now).sign) (signed_of term.now).place (signed_of term.now).kind)) }
+{
+    work.step(term.span)?;
+    let terms = terms_of_kind(
+        scope,
+        work,
+        product_sign(sign, term.sign),
+        &term.kind,
+        term.span,
+    )?;
+    Ok(put_all(terms, all)?)
+}
+
+#[cycle(terms)]
+fn put_terms<'a>(
+    scope: &Scope<'_, 'a>,
+    work: &mut Expander<'_>,
+    sign: Sign,
+    terms: &'a [Term],
+    all: &mut Vec<RawTerm>,
+) -> Result<(), Stop>
+    ensures { IsExpanded (λ _. all.new.items) result (behind all.old.items (sums.terms_of (scope_of scope.now) sign (terms_then (map signed_of terms.now)))) }
+{
+    for term in terms {
+        put_term(scope, work, sign, term, all)?;
+    }
+    Ok(())
+}
+
+/// The sum with its terms.
+pub(crate) fn sum<'a>(
+    scope: &Scope<'_, 'a>,
+    work: &mut Expander<'_>,
+    sum: &'a Sum,
+) -> Result<RawSum, Stop>
+    ensures { IsExpanded outlines.sum_of result (sums.sum_of (scope_of scope.now) (sum_of sum.now)) }
+{
+    let mut terms = Vec::new(work.alloc);
+    put_terms(scope, work, Sign::Plus, &sum.terms, &mut terms)?;
+    Ok(RawSum {
+        terms,
+        span: sum.span,
+    })
+}

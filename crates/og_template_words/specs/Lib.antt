@@ -1,3 +1,0 @@
-pub mod Front
-pub mod Mask
-pub mod Words

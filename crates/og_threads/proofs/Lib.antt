@@ -1,2 +1,0 @@
-pub mod Zips
-pub mod Faults
