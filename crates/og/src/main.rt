@@ -10,12 +10,12 @@ use std::fs::File;
 use std::io::{IsTerminal, Write};
 use std::process::ExitCode;
 
-// What is told at a terminal where there are no words.
+// The text for a terminal where there are no words.
 const WAITING: &str =
     "og: reading a source and its certificates from this terminal; og --help lists the commands\n";
 
-// A folder, which can be neither read nor written. Opened before all inputs, it is in the place of a
-// standard stream that is closed, where an input would be opened and taken for that stream.
+// A folder, which can be neither read nor written. Opened before all inputs, it is in the place of
+// a standard stream that is closed, where an input would be opened and taken for that stream.
 fn folder(rt: &HostRuntime) -> Option<File> {
     File::open(rt, "/").ok()
 }

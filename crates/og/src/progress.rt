@@ -1,4 +1,4 @@
-//! How far a check, a search or a run is, told at a terminal.
+//! How far a check, a search or a run is, reported at a terminal.
 
 use og_pool::Gate;
 use std::io::{self, IsTerminal, Write};
@@ -6,8 +6,8 @@ use std::sync::atomic::{AtomicBool, AtomicU64, Ordering};
 use std::time::Instant;
 
 /// Tells on standard error, where that is a terminal, how many of how many conditions are done, or
-/// how many steps a run has made: after the first second of work, and then once a second. The line is
-/// taken away when all are done, or the run has ended.
+/// how many steps a run has made: after the first second of work, and then once a second. The line
+/// is taken away when all are done, or the run has ended.
 #[derive(Drop)]
 pub(crate) struct Progress<'r> {
     rt: &'r HostRuntime,
@@ -15,7 +15,7 @@ pub(crate) struct Progress<'r> {
     runs: AtomicBool,
     count: AtomicU64,
     done: AtomicU64,
-    // The last second in which it was told; 0 where it was not yet.
+    // The last second in which it was reported; 0 before the first report.
     told: AtomicU64,
 }
 
@@ -37,7 +37,7 @@ impl<'r> Progress<'r> {
         }
     }
 
-    // How many whole seconds have gone by; 0 where that is not to be told.
+    // How many whole seconds have gone by; 0 where that is not to be reported.
     fn seconds(&self) -> u64 {
         match &self.start {
             Some(start) => match start.elapsed(self.rt) {
@@ -48,7 +48,7 @@ impl<'r> Progress<'r> {
         }
     }
 
-    // Whether this second is told by nobody else.
+    // Whether nobody else reports this second.
     fn takes(&self, second: u64) -> bool {
         let told = self.told.load(Ordering::SeqCst);
         told < second

@@ -56,7 +56,7 @@ fn tell<H: Threads + Wait + Sync>(
     print(rt, text.as_str())
 }
 
-// Prints how many microseconds so many workers take.
+// Prints how many microseconds this many workers take.
 fn time<H: Threads + Wait + Sync>(
     rt: &HostRuntime,
     threads: &H,

@@ -1,4 +1,4 @@
-//! Cases: what is given, and what has to come of it.
+//! Cases: the words and bytes given, and the expected outcome.
 
 use crate::ends::{Ends, Expected};
 use crate::failure::Failure;
@@ -12,7 +12,7 @@ use std::alloc::{AllocError, Global};
 use std::sync::Wait;
 use std::thread::Threads;
 
-/// A case: what is given, and what has to come of it.
+/// A case: the words and bytes given, and the expected outcome.
 #[derive(Drop)]
 pub(crate) struct Case {
     // Each word has its line end.
@@ -66,7 +66,8 @@ fn read_status(folder: &Folder<'_>, name: &str) -> Result<u8, Failure<'static>> 
     }
 }
 
-// What is expected on standard error. Where it is not told, a command that did its work writes nothing.
+// The expected standard error. Where a case does not say, a command that did its work writes
+// nothing.
 fn read_err(
     folder: &Folder<'_>,
     name: &str,

@@ -26,7 +26,7 @@ impl<'a> Folder<'a> {
         self.path
     }
 
-    /// The allocator of what is read.
+    /// The allocator of the texts read.
     pub(crate) fn alloc(&self) -> Global {
         self.rt.alloc()
     }

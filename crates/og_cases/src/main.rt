@@ -2,8 +2,8 @@
 //!
 //! A case is a few files of a folder that have one name and several endings. It is run in this
 //! process as `og` would be run in that folder, and what it writes and its status are compared with
-//! the files. There is a line for each failure, and a last one with how many cases passed and failed.
-//! The status is 0 where none failed, else 1; and 2 where this could not be told.
+//! the files. There is a line for each failure, and a last one with how many cases passed and
+//! failed. The status is 0 where none failed, else 1; and 2 where this could not be found out.
 #![tactic(auto)]
 
 mod case;

@@ -7,9 +7,9 @@ pub(crate) enum Part {
     Args,
     /// The standard input; empty where there is no such file.
     Stdin,
-    /// What is expected on standard output.
+    /// The expected standard output.
     Stdout,
-    /// What is expected on standard error, where it is told.
+    /// The expected standard error, where the case says.
     Stderr,
     /// The expected status, as a number.
     Status,

@@ -1,10 +1,10 @@
-//! Inputs and outputs that pass so many bytes at each call.
+//! Inputs and outputs that pass this many bytes at each call.
 
 use std::alloc::Global;
 use std::io;
 use std::io::{Read, Write};
 
-/// An input that gives at most so many bytes at each read.
+/// An input that gives at most this many bytes at each read.
 #[derive(Drop)]
 pub(crate) struct Input<'a> {
     rest: &'a [u8],
@@ -24,7 +24,7 @@ impl<'a> Read for Input<'a> {
     }
 }
 
-/// An output that takes at most so many bytes at each write.
+/// An output that takes at most this many bytes at each write.
 #[derive(Drop)]
 pub(crate) struct Output {
     bytes: Vec<u8>,

@@ -32,7 +32,7 @@ fn tell<W: fmt::Display>(
     folder.print(format_args!("{path}/{name}{way}: {failure}"))
 }
 
-// Runs a case in each of its ways, and tells of failures. Whether there were none.
+// Runs a case in each of its ways, and reports failures. Whether there were none.
 fn passes<H: Threads + Wait + Sync>(
     threads: &H,
     folder: &Folder<'_>,
@@ -82,8 +82,8 @@ impl Total {
         Ok(())
     }
 
-    /// Runs the cases of a folder, and prints a line for each failure. A folder that cannot be listed
-    /// is a failure too.
+    /// Runs the cases of a folder, and prints a line for each failure. A folder that cannot be
+    /// listed is a failure too.
     ///
     /// # Errors
     ///

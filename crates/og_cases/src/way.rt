@@ -12,7 +12,7 @@ pub(crate) enum Way {
     Plain,
     /// With devices that pass one byte at each call.
     ByteByByte,
-    /// By so many workers: with `--workers` and this number behind the words.
+    /// By this many workers: with `--workers` and this number behind the words.
     Workers(&'static str),
 }
 

@@ -73,7 +73,7 @@ form_said n s fs (High v) g proper h e =
 
 -- ---- combinations
 
--- a multiple of what is at most 0
+-- a multiple of a value at most 0
 multiple : (m : ℕ) (v : ℤ) → v ≤ℤ pos 0 → (pos m *ℤ v) ≤ℤ pos 0
 multiple m v h =
     let k : up v ≤ down v = omega (arith, ints) in

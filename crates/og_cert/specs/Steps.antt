@@ -23,7 +23,7 @@ stepped n fs s = ok_then (made n fs s) (λ f. ok_then (room fs 1) (λ _. Ok (fs 
 abbrev pub opened : ℕ → List Fact → FormValue → Result FormValue FaultKind
 opened n fs f = ok_then (otherwise n f) (λ g. ok_then (room fs 1) (λ _. Ok g))
 
--- the parts of a split, if there are so many
+-- the parts of a split, if there are this many
 abbrev pub split_for : List Fact → ℕ → ℕ → Result (List (List Fact)) FaultKind
 split_for fs i certs = ok_then (parts_at fs i) (λ ps. ok_then (one_each (length ps) certs) (λ _. Ok ps))
 

@@ -9,7 +9,7 @@ ghost use Rattle.og_cert.specs.Names.{number_of_kind, name_of_kind};
 use std::alloc::{AllocError, AllocFailed};
 use thiserror::Error;
 
-/// What is wrong with a line of a certificate.
+/// The fault of a line of a certificate.
 #[derive(Clone, Copy, Debug, PartialEq, Eq, Error)]
 pub enum FaultKind {
     /// There is no fact of this number, or no such variable.
@@ -76,7 +76,7 @@ impl FaultKind {
 #[derive(Clone, Copy, Debug, PartialEq, Eq, Error)]
 #[error("{kind} at step {step}")]
 pub struct ReplayFault {
-    /// What is wrong.
+    /// The fault.
     pub kind: FaultKind,
     /// The line of the certificate, counted from 1.
     pub step: u64,

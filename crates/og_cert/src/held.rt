@@ -44,7 +44,7 @@ pub(crate) fn hold_made(held: &mut Vec<Held>, form: Form) -> Result<(), AllocErr
     Ok(())
 }
 
-// Whether there is room for so many more facts.
+// Whether there is room for this many more facts.
 pub(crate) fn check_room(held: &[Held], more: usize) -> Result<(), FaultKind>
     ensures { result ≡ check.room (facts_held held.now) more }
 {

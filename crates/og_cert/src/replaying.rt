@@ -57,7 +57,7 @@ fn take_step(held: &mut Vec<Held>, variables: u32, step: &CertStep) -> Result<()
     Ok(())
 }
 
-// Adds the facts of the steps from this line on, and tells the line after them.
+// Adds the facts of the steps from this line on, and returns the line after them.
 fn take_steps(
     held: &mut Vec<Held>,
     variables: u32,
@@ -106,7 +106,7 @@ fn open_split<'a, 'c>(
     Ok(parts)
 }
 
-// Replays the lines of a certificate from this one on, and tells the line after them.
+// Replays the lines of a certificate from this one on, and returns the line after them.
 #[cycle(replay)]
 fn replay_cert<'a, 'c>(
     held: &mut Vec<Held<'a, 'c>>,

@@ -214,7 +214,7 @@ impl Sum {
         }
     }
 
-    /// Adds so many times the inequality.
+    /// Adds this many times the inequality.
     ///
     /// `TooLarge` where a product of a number of it, or a sum of such a product and a number of the
     /// sum, leaves `i128`. After an error the sum is of no use.
@@ -227,7 +227,7 @@ impl Sum {
         Ok(())
     }
 
-    /// Adds so many times the inequality of one variable. The same errors as of `add`.
+    /// Adds this many times the inequality of one variable. The same errors as of `add`.
     pub(crate) fn add_single(&mut self, times: u64, single: Single) -> Result<(), FormError>
         ensures { IsAnswer (λ _. self.new) faults.TooLarge result (add_scaled self.old (pos times) (single_form single)) }
     {

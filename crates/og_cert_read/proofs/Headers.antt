@@ -80,7 +80,7 @@ pub no_version : (text : List ℕ) (r s : Option (Bor (List ℕ))) → option_ma
 no_version text r s a b c d One rest e = none_front (version_text One) text rest r a b e
 no_version text r s a b c d Two rest e = none_front (version_text Two) text rest s c d e
 
--- ---- what a text gives is what is read
+-- ---- a text that stands for a file is read as that file
 
 ok_same : (a b : Entries) → ◌≡◌ {A = Result Entries (LineFault × ℕ)} (Ok a) (Ok b) → a ≡ b
 ok_same a b e = cc

@@ -239,7 +239,7 @@ line_complete (SplitLine i k) h =
     ap (λ o. and_then o (λ q. option_map (λ k. SplitLine q.0 k) (number_of 10000 q.1))) (pair_complete i (decimal k) p.0) ∙ ap (option_map (λ k. SplitLine i k)) (count_complete k p.1)
 line_complete (BranchLine f) h = ap (option_map BranchLine) (form_complete f h)
 
--- bytes say what is read from them
+-- bytes stand for the file that is read from them
 pub says : (text : List ℕ) (o : Option Line) → o ≡ line_of text → BytesSay text o
 says text (Some line) e = line_sound text line (sym e)
 says text None e = λ line is good. none line (e ∙ ap line_of is ∙ line_complete line good)

@@ -114,7 +114,7 @@ good_more (x ∷ es) e h g = let p = good_parts x es h in both_true _ _ (both_tr
 abbrev pub shared_lines : Entries → Entries → List Line
 shared_lines done es = listing_lines (listing_after done es)
 
--- what is listed for a certificate is read as it
+-- the lines listed for a certificate are read as that certificate
 listed_again : (l : Bool) (k n at : ℕ) (c : Cert) (done all : Entries) (ms : List (Option Line)) → is_shallow 0 c ≡ true → certificate_of k done ≡ Some c
     → ((later : ℕ) → read_lines Two later (between (with_entry n c done)) ms ≡ Ok all) → read_lines Two at (within done n []) (before (listed_lines (cond l (SameAs k) (Whole c))) ms) ≡ Ok all
 listed_again true k n at c done all ms s is h =

@@ -40,7 +40,7 @@ longer a b le small =
     let p = below_power b (omega (arith, small)) in
     length-decimal-le_wide (length (decimal b)) a (decimal_nonempty b (omega (arith, small))) (omega (arith, le, p)) (omega (arith, le, small))
 
--- ---- what is listed
+-- ---- the listed lines
 
 abbrev pub head_size : ℕ → ℕ
 head_size n = length (lines_text (ForCondition n ∷ []))
@@ -236,7 +236,7 @@ FirstsBelow ps low = (t : List ℕ) (j : ℕ) → first_with t ps ≡ Some j →
 abbrev pub Has : ℕ → Cert → Entries → Entries → Type 0
 Has k c ps es = ((j : ℕ) × (first_with (cert_text c) ps ≡ Some j) × (j ≤ k)) ⊎ ((m : ℕ) × (first_with (cert_text c) es ≡ Some m) × (m ≤ k))
 
--- so many bytes pay for the certificate: its lines, or the line `same` with a number that has it
+-- this many bytes pay for the certificate: its lines, or the line `same` with a number that has it
 abbrev pub Affords : ℕ → Cert → Entries → Entries → Type 0
 Affords w c ps es = (whole_size c ≤ w) ⊎ ((k : ℕ) × (same_size k ≤ w) × (k ≤ 999999999) × Has k c ps es)
 

@@ -40,9 +40,9 @@ abbrev pub levels_frames : List Level → List Frame → List Frame
 levels_frames [] fs = fs
 levels_frames (l ∷ ls) fs = levels_frames ls (level_frames l fs)
 
--- ---- what is open is within the limits
+-- ---- the open branches are within the limits
 
--- with so many branches and splits round it
+-- with this many branches and splits round it
 abbrev pub IsGood : ℕ → tree.Cert → Type 0
 IsGood d c = (is_shallow d c ≡ true) × (list_all is_line (cert_lines c) ≡ true)
 

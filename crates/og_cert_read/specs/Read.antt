@@ -18,7 +18,7 @@ Gives text answer =
 abbrev pub HasLines : List ℕ → Type 0
 HasLines text = (length text ≤ most_text) × (v : Version) × (rest : List ℕ) × (text ≡ version_text v ++ rest) × (0 < length rest)
 
--- this is what is wrong with the text
+-- this is the fault of the text
 abbrev pub IsWrong : List ℕ → CertTextFault → Type 0
 IsWrong text faults.CertsTooLong = most_text < length text
 IsWrong text faults.BadVersion = (length text ≤ most_text) × ((v : Version) (rest : List ℕ) → text ≡ version_text v ++ rest → ⊥)

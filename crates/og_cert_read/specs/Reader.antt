@@ -1,4 +1,4 @@
--- What is read so far, as the program has it: the words of the contracts of private functions.
+-- The part read so far, as the program has it: the words of the contracts of private functions.
 use Rattle.std.specs.Prelude.{◌≡◌, ℕ, ◌+◌, ◌<◌, List, [], map, length, true, ⊤, Option, Some, None, Result, Ok, Err, IsOk}
 use Rattle.og_cert_text.specs.declared.file.CertFile.{CertFile}
 use Rattle.og_cert_text.specs.declared.fault.CertTextFault.{CertTextFault}
@@ -30,7 +30,7 @@ read_piece (Some bytes) = line_of bytes
 abbrev pub lines_of : List ℕ → List (Option lines.Line)
 lines_of bytes = map read_piece (pieces bytes)
 
--- ---- what is read so far
+-- ---- the part read so far
 
 abbrev pub frames_of : Reader → List Frame
 frames_of r = steps_frames r.steps.items (levels_frames r.levels.items [])
@@ -53,7 +53,7 @@ abbrev pub IsSoundAt : Option ℕ → CertFile → List Frame → Type 0
 IsSoundAt None file fs = ⊤
 IsSoundAt (Some n) file fs = IsOpen n file × AreGoodFrames fs
 
--- what is open is within the limits
+-- the open branches are within the limits
 abbrev pub IsSound : Reader → Type 0
 IsSound r = IsSoundAt r.number r.file (frames_of r)
 

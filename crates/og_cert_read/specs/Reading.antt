@@ -6,7 +6,7 @@ use Rattle.og_cert_text.specs.Lines.{Line, ForCondition, SameLine, SumLine, CutL
 use Rattle.og_cert_text.specs.Files.{Entries, certificate_of, with_entry}
 use Rattle.og_cert_text.specs.Text.{Version, One, Two}
 
--- ---- what is open round the line that is read, the innermost first
+-- ---- the branches and splits that are open round the line that is read, the innermost first
 
 pub data Frame : Type 0 where
   AfterSum : Combination → Frame
@@ -14,7 +14,7 @@ pub data Frame : Type 0 where
   -- the first sub-certificate, or the second one after the first
   First : FormValue → Frame
   Second : FormValue → Cert → Frame
-  -- so many are still wanted after the one that is read, and these are read
+  -- this many are still wanted after the one that is read, and these are read
   Part : ℕ → ℕ → List Cert → Frame
 
 -- between two certificates, or within the one of this condition

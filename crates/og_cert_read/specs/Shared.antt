@@ -17,12 +17,12 @@ abbrev pub first_with : List ℕ → Entries → Option ℕ
 first_with text [] = None
 first_with text (e ∷ es) = if bytes_eq text (cert_text e.1) then Some e.0 else first_with text es
 
--- what is listed for the certificate where its first number is this one
+-- the lines listed for the certificate where its first number is this one
 abbrev pub listed_as : Option ℕ → Cert → Listed
 listed_as None c = Whole c
 listed_as (Some k) c = if nat_lt (length (listed_text (SameAs k))) (length (cert_text c)) then SameAs k else Whole c
 
--- what is listed for these entries after those
+-- the lines listed for these entries after those
 abbrev pub listing_after : Entries → Entries → Listing
 listing_after done [] = []
 listing_after done (e ∷ es) = (e.0, listed_as (first_with (cert_text e.1) done) e.1) ∷ listing_after (done ++ e ∷ []) es

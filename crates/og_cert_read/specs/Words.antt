@@ -1,4 +1,4 @@
--- How a line is read word by word: the words of the contracts of private functions. That what is read is what stands there is proved apart.
+-- How a line is read word by word: the words of the contracts of private functions. That the words read are those that stand there is proved apart.
 use Rattle.std.specs.Prelude.{ℕ, zero, suc, ◌+◌, ◌-◌, ◌*◌, ℤ, pos, negsuc, List, [], ◌∷◌, Bool, ◌&&◌, ◌==◌, if◌then◌else◌, nat_le, Option, Some, None, option_map, codes}
 use Rattle.std.specs.Ordering.{int_eq}
 use Rattle.og_linear.specs.Linear.{Terms, FormValue, form_value}

@@ -7,14 +7,14 @@ use og_cert_text::{Cert, CertStep, Finish};
 use og_linear::Form;
 use std::alloc::{AllocError, Global};
 
-/// A branch or a split that is open, with what is read of it.
+/// A branch or a split that is open, with the part of it that is read.
 #[derive(Drop)]
 pub(crate) enum Fork {
     /// The first certificate of the branch is read.
     First(Form),
     /// The second is read, after this first one.
     Second(Form, Cert),
-    /// A certificate of the split of this fact is read, after these, and so many are wanted after
+    /// A certificate of the split of this fact is read, after these, and this many are wanted after
     /// it.
     Part(u32, u32, Vec<Cert>),
 }

@@ -9,7 +9,7 @@ pub(crate) const FACTOR_LIMIT: u64 = 9_223_372_036_854_775_807;
 /// The most certificates of a split.
 pub(crate) const PARTS_LIMIT: u32 = 10_000;
 
-/// No branch or split has so many of them round it.
+/// No branch or split has this many of them round it.
 pub(crate) const DEPTH_LIMIT: usize = 200;
 
 /// The most bytes of a text.

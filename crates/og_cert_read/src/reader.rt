@@ -19,7 +19,7 @@ pub(crate) enum Version {
     Two,
 }
 
-/// What is read so far.
+/// The part read so far.
 #[derive(Drop)]
 pub(crate) struct Reader {
     file: CertFile,
@@ -27,7 +27,7 @@ pub(crate) struct Reader {
     number: Option<u32>,
     // The steps of the innermost open certificate.
     steps: Vec<CertStep>,
-    // What is open round it, the innermost last.
+    // The branches open round it, the innermost last.
     levels: Vec<Level>,
 }
 
@@ -219,8 +219,8 @@ impl Reader {
         }
     }
 
-    /// Takes the first line of the text, and gives what stands after it. Takes memory only where the
-    /// line has its end.
+    /// Takes the first line of the text, and gives what stands after it. Takes memory only where
+    /// the line has its end.
     pub(crate) fn next<'a>(
         &mut self,
         alloc: Global,

@@ -1,4 +1,4 @@
--- What is listed in a text of certificates, and how it is written.
+-- The lines listed in a text of certificates, and how they are written.
 use Rattle.std.specs.Prelude.{ℕ, List, [], ◌∷◌, ◌++◌, flat_map, map}
 use Rattle.og_cert_text.specs.Tree.{Cert}
 use Rattle.og_cert_text.specs.Lines.{Line, ForCondition, SameLine, line_text}
@@ -10,7 +10,7 @@ pub data Listed : Type 0 where
   Whole : Cert → Listed
   SameAs : ℕ → Listed
 
--- conditions with what is listed for them, in the order of the text
+-- conditions with the lines listed for them, in the order of the text
 abbrev pub Listing : Type 0
 Listing = List (ℕ × Listed)
 

@@ -16,7 +16,7 @@ abbrev mutual
   certs_lines no_cert = []
   certs_lines (cert c cs) = cert_lines c ++ certs_lines cs
 
--- with so many branches and splits round the certificate, none has `most_depth` or more round it
+-- with this many branches and splits round the certificate, none has `most_depth` or more round it
 abbrev mutual
   pub is_shallow : ℕ → Cert → Bool
   is_shallow d (Sum ts c) = is_shallow d c

@@ -18,7 +18,7 @@ pub enum Source {
 pub struct Term {
     /// The multiplier.
     pub times: u64,
-    /// What is multiplied.
+    /// The fact that is multiplied.
     pub source: Source,
 }
 

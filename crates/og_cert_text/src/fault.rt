@@ -8,7 +8,7 @@ ghost use Rattle.og_cert_text.specs.Faults.{file_fault_number, file_fault_name, 
 use std::alloc::{AllocError, AllocFailed};
 use thiserror::Error;
 
-/// What is wrong with an entry that is to be added to a file.
+/// The fault of an entry that is to be added to a file.
 #[derive(Clone, Copy, Debug, PartialEq, Eq, Error)]
 pub enum CertFileFault {
     /// A number is outside its limits, of the entry or in its certificate, or a combination has no
@@ -79,7 +79,7 @@ impl<T: Drop> From<AllocFailed<T>> for CertFileError {
     }
 }
 
-/// What is wrong with a text of certificates. Lines are counted from 1.
+/// The fault of a text of certificates. Lines are counted from 1.
 #[derive(Clone, Copy, Debug, PartialEq, Eq, Error)]
 pub enum CertTextFault {
     /// The text is longer than 67108864 bytes.

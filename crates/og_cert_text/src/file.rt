@@ -51,8 +51,8 @@ impl CertFile {
         let _ = self.numbers.len();
     }
 
-    /// The place at which the certificate of the condition is kept, if it has one. Conditions with one
-    /// place have one certificate. Takes no memory.
+    /// The place at which the certificate of the condition is kept, if it has one. Conditions with
+    /// one place have one certificate. Takes no memory.
     pub fn kept_at(&self, n: u32) -> Option<usize>
         ensures place { result ≡ kept_at n self.now }
         ensures certificate { certificate_of n (shown self.now) ≡ option_map (placed self.now.certs.items) result }
@@ -182,7 +182,8 @@ impl CertFile {
         Ok(())
     }
 
-    /// Adds the certificate of condition k as that of condition n too, at its place: it is not copied.
+    /// Adds the certificate of condition k as that of condition n too, at its place: it is not
+    /// copied.
     ///
     /// The first that applies: `Twice` where condition n has a certificate; `NoSuchCertificate`
     /// where condition k has none; `BadNumber` where n is not from 1 to 999999999. An error leaves

@@ -75,13 +75,13 @@ fn of_judged(
 
 /// The report of a source by certificates, or the line of a refusal. Status 0 where the outline is
 /// safe, 1 where it is not, 2 at a refusal. Status 0 says that every run of the outline is as
-/// promised, with its auxiliaries and without them; and a report that says then that it is unblocked,
-/// that none gets stuck.
+/// promised, with its auxiliaries and without them; and a report that says then that it is
+/// unblocked, that none gets stuck.
 ///
 /// # Errors
 ///
-/// `Spawn`, of two workers or more, where a thread could not be started. `Memory` where an allocation
-/// was refused.
+/// `Spawn`, of two workers or more, where a thread could not be started. `Memory` where an
+/// allocation was refused.
 pub fn checked<G: Gate, H: Threads + Wait + Sync>(
     rt: &H,
     alloc: Global,

@@ -34,8 +34,8 @@ pub struct Options {
 
 /// Reads a source and then certificates, each to its end or to one byte past its limit, judges, and
 /// writes the report, or the line of a refusal, and nothing else. The status is 0 where the outline
-/// is safe, 1 where it is not, 2 at a refusal. What status 0 says of the runs is as in `checked`. Each
-/// reader is read at most 100,000,000 times.
+/// is safe, 1 where it is not, 2 at a refusal. What status 0 says of the runs is as in `checked`.
+/// Each reader is read at most 100,000,000 times.
 ///
 /// # Errors
 ///
@@ -72,8 +72,8 @@ pub fn engine<R: Read, S: Read, W: Write, G: Gate, H: Threads + Wait + Sync>(
 }
 
 /// Reads a source and certificates as one input, of at most 68,157,441 bytes, and goes on as
-/// `engine`. The source is all before the first line that is exactly `og-cert 1` or `og-cert 2`; the
-/// certificates are that line and the rest, or nothing where there is no such line.
+/// `engine`. The source is all before the first line that is exactly `og-cert 1` or `og-cert 2`;
+/// the certificates are that line and the rest, or nothing where there is no such line.
 ///
 /// # Errors
 ///

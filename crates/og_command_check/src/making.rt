@@ -134,8 +134,8 @@ fn of_long(alloc: Global, file: &CertFile, limit: usize) -> Result<LongText, All
     Ok(LongText { limit, second })
 }
 
-// The text in version 2 of a file of the certificates of so many conditions, where it has at most so
-// many bytes.
+// The text in version 2 of a file of the certificates of so many conditions, where it has at most
+// so many bytes.
 fn of_file(
     alloc: Global,
     file: &CertFile,
@@ -250,14 +250,14 @@ fn found_of<G: Gate, H: Threads + Wait + Sync>(
 }
 
 /// The certificates that searches find for the conditions of the outline of a source, in the wanted
-/// version of their text, and how many conditions have none; that this text would have more bytes than
-/// it may have; or the line of a refusal and status 2. The text is the same for every number of workers.
-/// The gate is told of the searches as by `og_find_all::examine_all`.
+/// version of their text, and how many conditions have none; that this text would have more bytes
+/// than it may have; or the line of a refusal and status 2. The text is the same for every number
+/// of workers. The gate is told of the searches as by `og_find_all::examine_all`.
 ///
 /// # Errors
 ///
-/// `Spawn`, of two workers or more, where a thread could not be started. `Memory` where an allocation
-/// was refused.
+/// `Spawn`, of two workers or more, where a thread could not be started. `Memory` where an
+/// allocation was refused.
 pub fn found<G: Gate, H: Threads + Wait + Sync>(
     rt: &H,
     alloc: Global,
@@ -281,8 +281,8 @@ pub fn found<G: Gate, H: Threads + Wait + Sync>(
     }
 }
 
-/// A text of certificates in version 2, as `og_judge::migrate` gives it, and status 0; or the line of a
-/// refusal and status 2.
+/// A text of certificates in version 2, as `og_judge::migrate` gives it, and status 0; or the line
+/// of a refusal and status 2.
 ///
 /// # Errors
 ///

@@ -40,8 +40,8 @@ pub struct Search {
     pub json: bool,
 }
 
-/// What is told of a condition by the verdict on it, as by `og_report_prove::tell`; it is open where
-/// there is none.
+/// What is told of a condition by the verdict on it, as by `og_report_prove::tell`; it is open
+/// where there is none.
 ///
 /// # Errors
 ///
@@ -198,10 +198,10 @@ fn searched<G: Gate, H: Threads + Wait + Sync>(
     Ok(answer_of(alloc, outline, texts, conditions, &told, search.json)?)
 }
 
-/// What searches tell of the conditions of an outline, with places of one of its texts, each of which
-/// has at most 1,048,576 bytes; or the line that says that there are too many conditions, with status
-/// 2. The status is else 0 where every condition but the last is proved, and 1 where one is not. What
-/// status 0 says of the runs is as in `proved`.
+/// What searches tell of the conditions of an outline, with places of one of its texts, each of
+/// which has at most 1,048,576 bytes; or the line that says that there are too many conditions,
+/// with status 2. The status is else 0 where every condition but the last is proved, and 1 where
+/// one is not. What status 0 says of the runs is as in `proved`.
 ///
 /// # Errors
 ///
@@ -251,17 +251,17 @@ fn proved_of<G: Gate, H: Threads + Wait + Sync>(
     proved_outline(rt, alloc, source.outline(), texts, search, gate)
 }
 
-/// What searches tell of the conditions of the outline of a source: each one that is not proved with
-/// what is wrong, and the totals; or the line of a refusal. Status 0 where every condition but the
-/// last is proved, 1 where one is not, 2 at a refusal. Status 0 says that every run of the outline is
-/// as promised, with its auxiliaries and without them; and a report that says then that it is
-/// unblocked, that none gets stuck. The answer is the same for every number of workers. The gate is
-/// told of the searches as by `og_find_all::examine_all`.
+/// What searches tell of the conditions of the outline of a source: each one that is not proved
+/// with what is wrong, and the totals; or the line of a refusal. Status 0 where every condition but
+/// the last is proved, 1 where one is not, 2 at a refusal. Status 0 says that every run of the
+/// outline is as promised, with its auxiliaries and without them; and a report that says then that
+/// it is unblocked, that none gets stuck. The answer is the same for every number of workers. The
+/// gate is told of the searches as by `og_find_all::examine_all`.
 ///
 /// # Errors
 ///
-/// `Spawn`, of two workers or more, where a thread could not be started. `Memory` where an allocation
-/// was refused.
+/// `Spawn`, of two workers or more, where a thread could not be started. `Memory` where an
+/// allocation was refused.
 pub fn proved<G: Gate, H: Threads + Wait + Sync>(
     rt: &H,
     alloc: Global,

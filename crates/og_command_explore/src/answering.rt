@@ -30,7 +30,7 @@ fn ends(alloc: Global, ranges: &[Range]) -> Result<Vec<(i64, i64)>, AllocError>
     Ok(ends)
 }
 
-// What is told of all that was found.
+// The report of all that was found.
 fn told_of<'a>(
     alloc: Global,
     outline: &'a Outline,
@@ -120,7 +120,7 @@ fn status_of(totals: &Totals, findings: &[Finding]) -> u8
     }
 }
 
-// The same as JSON, in one line.
+// As JSON, in one line.
 fn json_line(
     alloc: Global,
     outline: &Outline,
@@ -136,7 +136,7 @@ fn json_line(
     Ok(text)
 }
 
-// What is printed, as JSON or as a text.
+// The printed text, as JSON or plain.
 fn printed(
     alloc: Global,
     outline: &Outline,
@@ -156,9 +156,9 @@ fn printed(
     }
 }
 
-/// What is printed of an exploration of the outline from all starts within the ranges, at most
-/// so many moments as asked for, and the status: 0 where all was explored and nothing found, else 1;
-/// none only where no start lies within the ranges. `conditions` are the outline's, or none.
+/// The printed text of an exploration of the outline from all starts within the ranges, at most
+/// this many moments as asked for, and the status: 0 where all was explored and nothing found, else
+/// 1; none only where no start lies within the ranges. `conditions` are the outline's, or none.
 ///
 /// # Errors
 ///

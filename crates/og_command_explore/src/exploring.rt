@@ -19,7 +19,7 @@ use std::alloc::{AllocError, Global};
 /// What comes of exploring a program.
 #[derive(Debug, Drop)]
 pub enum Reply<'a> {
-    /// What is printed, and the status.
+    /// The printed text, and the status.
     Answer(Answer),
     /// The first word that gives no variable a range.
     BadValue(&'a str),
@@ -47,7 +47,7 @@ fn conditions_of(alloc: Global, outline: &Outline) -> Result<Vec<Condition<'_>>,
     }
 }
 
-// The answer for an outline: that it has no start, or what is found.
+// The answer for an outline: that it has no start, or the findings.
 fn of_outline(
     alloc: Global,
     outline: &Outline,
@@ -110,14 +110,14 @@ fn of_source<'a>(
     }
 }
 
-/// Explores the program of a source, breadth first, from all starts within the ranges that the words
-/// give, each NAME=INT or NAME=LO..HI. Any other variable has one value in all starts: that of a
-/// state which a search finds for the precondition, and 0 where it finds none.
+/// Explores the program of a source, breadth first, from all starts within the ranges that the
+/// words give, each NAME=INT or NAME=LO..HI. Any other variable has one value in all starts: that
+/// of a state which a search finds for the precondition, and 0 where it finds none.
 ///
 /// The answer is what was found, with runs that lead there, and the totals, with status 0 where all
 /// was explored and nothing found, and else 1, as a text or as JSON in one line; or the line of a
-/// refusal, with status 2: 50 NotPre only where no start lies within the ranges. `BadValue` holds the
-/// first word that gives no range.
+/// refusal, with status 2: 50 NotPre only where no start lies within the ranges. `BadValue` holds
+/// the first word that gives no range.
 ///
 /// # Errors
 ///

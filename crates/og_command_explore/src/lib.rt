@@ -1,6 +1,6 @@
-//! Exploring the program of a source: what is printed of it, and the status.
+//! Exploring the program of a source: the printed text, and the status.
 //!
-//! specs/Explored.antt says what is promised of an answer.
+//! specs/Explored.antt has the promise of an answer.
 #![tactic(auto)]
 
 mod answering;

@@ -1,12 +1,12 @@
 //! How a program is explored.
 
-/// How a program is explored, and how that is told.
+/// How a program is explored, and how that is reported.
 #[derive(Clone, Copy, Debug)]
 pub struct Request {
     /// How many moments are met at most.
     pub limit: u32,
     /// Whether it is the program without its auxiliary variables.
     pub erased: bool,
-    /// Whether it is told as JSON.
+    /// Whether it is reported as JSON.
     pub json: bool,
 }

@@ -13,7 +13,8 @@ use std::alloc::{AllocError, Global};
 /// How many facts the search for a start may add.
 const BUDGET: u64 = 100_000;
 
-// The assertion that k times the variable and c are at most 0 together; none where that is too large.
+// The assertion that k times the variable and c are at most 0 together; none where that is too
+// large.
 fn bound(alloc: Global, var: u32, k: i128, c: i128) -> Result<Option<Assert>, AllocError> {
     let variable = Form::variable(alloc, var)?;
     let mut form = Form::constant(alloc, c);
@@ -115,9 +116,9 @@ fn value_of(state: &Option<State>, var: u32) -> i64 {
     }
 }
 
-/// For each variable that is no auxiliary the given range; where none is given, the value that it has
-/// in a state that a search finds for the precondition and the given ranges, and 0 where it finds
-/// none.
+/// For each variable that is no auxiliary the given range; where none is given, the value that it
+/// has in a state that a search finds for the precondition and the given ranges, and 0 where it
+/// finds none.
 ///
 /// # Errors
 ///

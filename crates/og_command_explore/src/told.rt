@@ -1,4 +1,4 @@
-//! The violations that were found, as they are told.
+//! The violations that were found, as they are reported.
 
 ghost use Rattle.std.specs.Prelude.{◌≡◌, map, IfSome, OnOk};
 ghost use Rattle.og_cond.specs.Seen.{seen};
@@ -13,14 +13,14 @@ use og_typed::{Index, Outline};
 use og_violation::Violation;
 use std::alloc::{AllocError, Global};
 
-/// What is told, and whether nothing else was found.
+/// The report, and whether nothing else was found.
 #[derive(Debug, Drop)]
 pub(crate) struct Told<'a> {
     pub(crate) findings: Vec<Finding<'a>>,
     pub(crate) complete: bool,
 }
 
-/// Adds what was found, where something was. What can't be told makes the answer incomplete.
+/// Adds a violation, where one was found. One that can't be reported makes the answer incomplete.
 pub(crate) fn add<'a>(
     told: &mut Told<'a>,
     alloc: Global,

@@ -70,7 +70,7 @@ fn said(names: &[Name], word: &str) -> Option<(usize, Range)> {
     Some((var, range(text)?))
 }
 
-// No range for so many variables.
+// No range for this many variables.
 fn nothing(alloc: Global, vars: u32) -> Result<Vec<Option<Range>>, AllocError>
     ensures { IfOk result (λ v. length v.items ≡ vars) }
 {

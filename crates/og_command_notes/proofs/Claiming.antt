@@ -1,4 +1,4 @@
--- What is found of assertions.
+-- The findings on assertions.
 use Rattle.std.proofs.Common.{◌≡◌, ◌∙◌, ◌&&◌, ◌++◌, refl, sym, ap, ℤ, Bool, true, false, List, [], ◌∷◌}
 use Rattle.std.specs.List.{AllByRecursion}
 use Rattle.std.proofs.lemmas.Bool.{true≢false}

@@ -38,7 +38,7 @@ inner note = (roles.Inner, note)
 abbrev pub assertions : Program → List (Role × Noted)
 assertions o = (roles.Precondition, o.pre) ∷ (map inner (inner_notes o) ++ (roles.Postcondition, o.post) ∷ [])
 
--- ---- what is found of them
+-- ---- the findings
 
 -- it is false in every state of i64 values
 abbrev pub IsMetByNone : Formula → Type 0

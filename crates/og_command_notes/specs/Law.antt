@@ -13,7 +13,7 @@ IsIn part text = (before after : List ℕ) × (text ≡ before ++ (part ++ after
 abbrev pub IsAssignedBeside : List Step → Step → ℕ → Type 0
 IsAssignedBeside all step x = (other : Step) × Contains all other × (is_beside step.part other.part ≡ true) × (assigns x other.stmt ≡ true)
 
--- the variables that are told of a step are those below n that it touches and that some step of another process assigns
+-- the variables reported for a step are those below n that it touches and that some step of another process assigns
 abbrev pub SharedAreThese : Type 0
 SharedAreThese = (all : List Step) (n x : ℕ) (step : Step) → Contains (shared all n step) x ↔ ((x < n) × (touches x step.stmt ≡ true) × IsAssignedBeside all step x)
 

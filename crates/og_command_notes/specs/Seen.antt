@@ -30,7 +30,7 @@ step_of step = record { part = step.part; stmt = statement step.item.now.stmt; a
 abbrev pub steps_of : List Step → List steps.Step
 steps_of = map step_of
 
--- ---- what is added at the end
+-- ---- the addition at the end
 
 -- these assertions, and what was found of each is so
 abbrev pub Gains : List claims.Claim → List claims.Claim → List (Role × Noted) → Type 0

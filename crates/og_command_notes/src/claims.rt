@@ -63,7 +63,7 @@ fn is_unmet(alloc: Global, search: Search, assertion: &Assert) -> Result<bool, A
     Ok(found.is_some())
 }
 
-// An assertion, and what is found of it.
+// An assertion, and the finding on it.
 fn examined(alloc: Global, search: Search, role: Role, note: &Note) -> Result<Claim<'_>, AllocError>
     ensures claim { IfOk result (λ c. (c.role ≡ role) × (noted c.note.now ≡ noted note.now)) }
     ensures found { IfOk result (λ c. IsFound (claim_of c)) }
@@ -88,8 +88,8 @@ fn add_inner<'a>(
     Ok(())
 }
 
-/// The assertions of an outline, which has these between the precondition and the postcondition; and
-/// which of them a search within the budget finds to be met by no state.
+/// The assertions of an outline, which has these between the precondition and the postcondition;
+/// and which of them a search within the budget finds to be met by no state.
 ///
 /// # Errors
 ///

@@ -1,8 +1,8 @@
 //! Notes on an outline for whoever reviews a yes: what it claims, of which assertions no state is
-//! met, which steps may be several of a machine, and what is left without its auxiliary variables.
+//! met, which steps may be several of a machine, and the program without its auxiliary variables.
 //!
-//! specs/Claims.antt says what the assertions of an outline are, specs/Steps.antt which variables of
-//! a step other processes assign, specs/Notes.antt what the text is, and specs/Noted.antt what is
+//! specs/Claims.antt says what the assertions of an outline are, specs/Steps.antt which variables
+//! of a step other processes assign, specs/Notes.antt the text, and specs/Noted.antt what is
 //! promised of an answer.
 #![tactic(auto)]
 

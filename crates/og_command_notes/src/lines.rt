@@ -124,8 +124,8 @@ fn put_wide(
     )
 }
 
-/// Adds a line for each step to the text that touches more than one variable below `vars` which some
-/// step of another process assigns.
+/// Adds a line for each step to the text that touches more than one variable below `vars` which
+/// some step of another process assigns.
 pub(crate) fn put_steps(
     text: &mut Vec<u8>,
     places: &Places,

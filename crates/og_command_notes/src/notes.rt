@@ -72,7 +72,7 @@ fn put_auxiliaries(text: &mut Vec<u8>, outline: &Outline, vars: &[u32]) -> Resul
     put_some_auxiliaries(text, outline, vars)
 }
 
-// What is to be known of every yes.
+// What everybody should know of every yes.
 fn put_meaning(text: &mut Vec<u8>) -> Result<(), AllocError>
     ensures { OnOk result (text.new.items ≡ text.old.items ++ (wanted.unblocked_line ++ wanted.definitions_line)) }
 {
@@ -143,8 +143,8 @@ fn of_source(alloc: Global, source: &Source, budget: Budget) -> Result<Answer, A
     Ok(Answer { text, status: 0 })
 }
 
-/// Notes on the outline of a source for whoever reviews a yes, and status 0; or the line of a refusal
-/// and status 2.
+/// Notes on the outline of a source for whoever reviews a yes, and status 0; or the line of a
+/// refusal and status 2.
 ///
 /// They tell the precondition and the postcondition; each assertion for which a search within the
 /// budget finds a certificate that no state meets it; each step of a process that touches more than

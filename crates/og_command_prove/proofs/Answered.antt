@@ -1,4 +1,4 @@
--- What is told of conditions one after another, with the runs.
+-- The report of conditions one after another, with the runs.
 use Rattle.std.proofs.Common.{◌≡◌, ◌≤◌, ℕ, ℤ, Bool, true, List, [], ◌∷◌, ◌++◌, length, refl, sym, ap, subst, append_assoc}
 use Rattle.og_typed.specs.Syntax.{Program}
 use Rattle.og_typed.specs.Erase.{erased}
@@ -29,7 +29,7 @@ are_told o lists (c ∷ cs) [] rs h = absurd h
 are_told o lists (c ∷ cs) (t ∷ ts) [] h = absurd h
 are_told o lists (c ∷ cs) (t ∷ ts) (r ∷ rs) h = (h.0.0, are_told o lists cs ts rs h.1)
 
--- with what is told of these besides, all is told
+-- with the report of these besides, all is reported
 abbrev pub MakesAll : Program → List (List (ℤ × ℤ)) → List Condition → List Condition → List Told → List Run → Type 0
 MakesAll o lists cs rest ts rs = (more : List Told) (runs : List Run) → AreShown o lists rest more runs → AreShown o lists cs (ts ++ more) (rs ++ runs)
 

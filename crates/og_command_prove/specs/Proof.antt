@@ -1,4 +1,4 @@
--- What is promised of an answer.
+-- The promise of an answer.
 use Rattle.std.specs.Prelude.{◌≡◌, ℕ, ◌⊎◌, List, [], Bool, true, false, Some, Contains, ⊤}
 use Rattle.std.specs.BTreeMap.{BTreeMap}
 use Rattle.og_typed.specs.Syntax.{Program}

@@ -1,4 +1,5 @@
-//! What is told of the conditions of an outline, which are searched, and of the runs from some starts.
+//! What is told of the conditions of an outline, which are searched, and of the runs from some
+//! starts.
 
 ghost use Rattle.std.specs.Prelude.{◌≡◌, ◌<◌, ◌≤◌, true, length, map, replicate, IfOk, IfErr};
 ghost use Rattle.og_cond.specs.Limits.{condition_limit};
@@ -131,17 +132,17 @@ fn by_findings<'a>(
     gathered(alloc, outline, conditions, findings, &lists, limit)
 }
 
-/// What searches tell of the conditions of an outline, as `og_command_check::proved`, and of each false one
-/// whether a run gets to a state in which it is false: among at most `limit` moments of the runs from
-/// the starts within the ranges that are given, as in an exploration, and by at most 2,000,000 steps
-/// that are tried (`og_explore::gather`). Where none is given, the starts are one that a search finds
-/// for the precondition, and for each false condition two more, up to 64. Where no condition is found
-/// false, no run is looked for, and nothing is explored.
+/// What searches tell of the conditions of an outline, as `og_command_check::proved`, and of each
+/// false one whether a run gets to a state in which it is false: among at most `limit` moments of
+/// the runs from the starts within the ranges that are given, as in an exploration, and by at most
+/// 2,000,000 steps that are tried (`og_explore::gather`). Where none is given, the starts are one
+/// that a search finds for the precondition, and for each false condition two more, up to 64. Where
+/// no condition is found false, no run is looked for, and nothing is explored.
 ///
 /// # Errors
 ///
-/// `Spawn`, of two workers or more, where a thread could not be started. `Memory` where an allocation
-/// was refused.
+/// `Spawn`, of two workers or more, where a thread could not be started. `Memory` where an
+/// allocation was refused.
 pub fn follow<'a, G: Gate, H: Threads + Wait + Sync>(
     rt: &H,
     alloc: Global,

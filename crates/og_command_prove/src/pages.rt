@@ -159,8 +159,8 @@ fn of_source<G: Gate, H: Threads + Wait + Sync>(
 ///
 /// # Errors
 ///
-/// `Spawn`, of two workers or more, where a thread could not be started. `Memory` where an allocation
-/// was refused.
+/// `Spawn`, of two workers or more, where a thread could not be started. `Memory` where an
+/// allocation was refused.
 pub fn shown<G: Gate, H: Threads + Wait + Sync>(
     rt: &H,
     alloc: Global,

@@ -137,9 +137,10 @@ fn of_source<'a, G: Gate, H: Threads + Wait + Sync>(
     }
 }
 
-/// As `shown`, with what is told of the runs as by `crate::replying::proved_with_runs`: how far they were
-/// followed, and beneath each false condition whether one gets there, and a chart of it. Whether the
-/// search asks for JSON does not count. `BadValue` holds the first word that gives no range.
+/// As `shown`, with what is told of the runs as by `crate::replying::proved_with_runs`: how far
+/// they were followed, and beneath each false condition whether one gets there, and a chart of it.
+/// Whether the search asks for JSON does not count. `BadValue` holds the first word that gives no
+/// range.
 ///
 /// # Errors
 ///

@@ -142,9 +142,9 @@ fn of_outline<G: Gate, H: Threads + Wait + Sync>(
     }
 }
 
-/// What searches tell of the conditions of an outline, as `og_command_check::proved_outline` with these
-/// texts, and of each false one whether a run gets there, from the starts that the words give, as by
-/// `proved_with_runs`.
+/// What searches tell of the conditions of an outline, as `og_command_check::proved_outline` with
+/// these texts, and of each false one whether a run gets there, from the starts that the words
+/// give, as by `proved_with_runs`.
 ///
 /// # Errors
 ///

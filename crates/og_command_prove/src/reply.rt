@@ -6,7 +6,7 @@ use og_template_outline::ExpandFault;
 /// What comes of proving with runs.
 #[derive(Debug, Drop)]
 pub enum Reply<'a> {
-    /// What is printed, and the status.
+    /// The printed text, and the status.
     Answer(Answer),
     /// The line of this fault of a template, and the status.
     Refused(Answer, ExpandFault),

@@ -139,25 +139,25 @@ fn of_template<'a, G: Gate, H: Threads + Wait + Sync>(
     of_split(rt, alloc, text, &split, search, limit, gate)
 }
 
-/// What searches tell of the conditions of the outline of a source, as `og_command_check::proved`, and of
-/// each false one whether a run gets to a state in which it is false: among at most `limit` moments
-/// of the runs from the starts that the words give, each NAME=INT or NAME=LO..HI, as in an
+/// What searches tell of the conditions of the outline of a source, as `og_command_check::proved`,
+/// and of each false one whether a run gets to a state in which it is false: among at most `limit`
+/// moments of the runs from the starts that the words give, each NAME=INT or NAME=LO..HI, as in an
 /// exploration. Without words the starts are one that a search finds for the precondition, and for
 /// each false condition two more, up to 64. Or, of a text whose first word is `template`, of the
-/// outline that it means, told as by `crate::sources::prove`: the words NAME=.. whose NAME is one of its
-/// constants give that its value, each NAME=INT, and the others give starts. What is known of the
-/// runs to conditions that are told together is told of the first one.
+/// outline that it means, told as by `crate::sources::prove`: the words NAME=.. whose NAME is one
+/// of its constants give that its value, each NAME=INT, and the others give starts. What is known
+/// of the runs to conditions that are told together is told of the first one.
 ///
-/// `Refused` holds the line of a fault of a template with status 2, and the fault; `BadConstant` the
-/// first word that gives its constant no value, or a second one; `BadStart` the first word that
+/// `Refused` holds the line of a fault of a template with status 2, and the fault; `BadConstant`
+/// the first word that gives its constant no value, or a second one; `BadStart` the first word that
 /// gives no variable a range, with the text of the outline. Status 0 says that every run of the
 /// outline is as promised, with its auxiliaries and without them, of a template of the outline that
 /// it means.
 ///
 /// # Errors
 ///
-/// `Spawn`, of two workers or more, where a thread could not be started. `Memory` where an allocation
-/// was refused.
+/// `Spawn`, of two workers or more, where a thread could not be started. `Memory` where an
+/// allocation was refused.
 pub fn proved_with_runs<'a, G: Gate, H: Threads + Wait + Sync>(
     rt: &H,
     alloc: Global,

@@ -120,20 +120,20 @@ fn of_outline<'a, G: Gate, H: Threads + Wait + Sync>(
     }
 }
 
-/// What searches tell of the conditions of an outline, as `og_command_check::proved`; or, of a text whose
-/// first word is `template`, of the outline that it means where constants have the values that the
-/// words give, each NAME=INT. Places are those of the template then, with the values of the names
-/// that are bound round them, and false conditions that differ in these values alone are told
-/// together; but as JSON they are places of the outline as `og_template_outline::expanded` prints it.
-/// `Refused` holds the line of a fault of a template with status 2, and the fault; `BadValue` the
-/// first word that gives no constant a value. An outline has no constants, so there it is the first
-/// word, once the outline was read. What status 0 says of the runs is as in `og_command_check::proved`, of
-/// the outline that the template means.
+/// What searches tell of the conditions of an outline, as `og_command_check::proved`; or, of a text
+/// whose first word is `template`, of the outline that it means where constants have the values
+/// that the words give, each NAME=INT. Places are those of the template then, with the values of
+/// the names that are bound round them, and false conditions that differ in these values alone are
+/// told together; but as JSON they are places of the outline as `og_template_outline::expanded`
+/// prints it. `Refused` holds the line of a fault of a template with status 2, and the fault;
+/// `BadValue` the first word that gives no constant a value. An outline has no constants, so there
+/// it is the first word, once the outline was read. What status 0 says of the runs is as in
+/// `og_command_check::proved`, of the outline that the template means.
 ///
 /// # Errors
 ///
-/// `Spawn`, of two workers or more, where a thread could not be started. `Memory` where an allocation
-/// was refused.
+/// `Spawn`, of two workers or more, where a thread could not be started. `Memory` where an
+/// allocation was refused.
 pub fn prove<'a, G: Gate, H: Threads + Wait + Sync>(
     rt: &H,
     alloc: Global,

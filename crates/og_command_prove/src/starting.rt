@@ -115,8 +115,8 @@ fn add_two(
     add_start(alloc, outline, starts, far)
 }
 
-// The starts where no word gives a range: the first one, and two for each condition that is false in
-// a state, while there are few.
+// The starts where no word gives a range: the first one, and two for each condition that is false
+// in a state, while there are few.
 fn starts_of(
     alloc: Global,
     outline: &Outline,

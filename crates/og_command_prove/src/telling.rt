@@ -95,9 +95,9 @@ fn shown_by_run<'a>(
 }
 
 /// What is told of a condition, and of the runs from the starts within these lists of ranges that
-/// get to a state in which it is false, as `og_report_runs::find_run` finds them. Where one does, the
-/// condition is told by it, as by `og_report_runs::told_by_run`; of a condition that is not told as
-/// false no run is sought.
+/// get to a state in which it is false, as `og_report_runs::find_run` finds them. Where one does,
+/// the condition is told by it, as by `og_report_runs::told_by_run`; of a condition that is not
+/// told as false no run is sought.
 ///
 /// # Errors
 ///

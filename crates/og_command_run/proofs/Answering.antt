@@ -50,7 +50,7 @@ true_is_not_false b holds fails = cc
 
 -- ---- what came of a run
 
--- an outcome, or why there is none, with what is asked
+-- an outcome, or why there is none, with the assertions asked
 ended_as : (P : Outcome → Type 0) (source : List ℕ) (g : Given) (ended : Result Outcome RunError) (ran : Ran) → Runs ended g → IfOk ended P
     → IfOk ended (λ o. IsNote source g.outline g.values o.history.items (note_of ran)) → IfErr ended (λ _. note_of ran ≡ None)
     → IfOk ended (λ o. Says (outcome_text g.outline o) (finish_status o.finish) ran.answer) → IfErr ended (λ e. IsFaultTold e ran.answer)
@@ -108,7 +108,7 @@ pub not_safe_told : (source : List ℕ) (entries : List Entry) (g : Given) (ran 
     → TellsJudged source entries g ran
 not_safe_told source entries g ran safe told = inl (safe, told)
 
--- what is told of what was found of the outline
+-- the report of the findings on the outline
 pub judged_told : (source certs : List ℕ) (o : Program) (values : List ℤ) (limit : ℕ) (entries : List Entry) (r : Result Ran PoolFault)
     → AreEntries certs o entries → IfOk r (TellsJudged source entries (given o values limit)) → IfOk r (IsRefusedOrJudged source certs o values limit)
 judged_told source certs o values limit entries (Err e) found told = tt

@@ -24,7 +24,7 @@ pub record IsAssertionPlace (o : Program) (p : ℕ) (at : ℕ) : Type 0 where
   pub there : site.note.at ≡ at
   pub its : is_of (length o.processes) p site.part ≡ true
 
--- the place that is told of a false assertion
+-- the place reported for a false assertion
 abbrev pub IsPlaceOf : Program → Wrong → Option ℕ → Type 0
 IsPlaceOf o (wrong.Assertion p) place = IfSome place (IsAssertionPlace o p)
 IsPlaceOf o (wrong.Overflow p) place = ⊤

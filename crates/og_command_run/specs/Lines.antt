@@ -22,7 +22,7 @@ hindrance_text source p hindrances.Early place = early_text p & codes " has not 
 hindrance_text source p hindrances.Waits place = process_text p & codes " waits" & place_text source place
 hindrance_text source p hindrances.Overflow place = process_text p & codes " overflows" & place_text source place
 
--- the step after so many steps of a schedule cannot be made
+-- the step after this many steps of a schedule cannot be made
 abbrev pub not_made_line : List ℕ → ℕ → ℕ → Hindrance → Option ℕ → List ℕ
 not_made_line source steps p why place =
     codes "run: step " & decimal (suc steps) & codes " of the schedule cannot be made: " & hindrance_text source p why place & codes "\n"

@@ -63,7 +63,7 @@ note_of r = option_map (λ line. line.items) r.note
 abbrev pub IsQuiet : (Answer → Type 0) → Ran → Type 0
 IsQuiet P r = P r.answer × (note_of r ≡ None)
 
--- an outcome such as P, with what is asked along its history
+-- an outcome such as P, with the assertions asked along its history
 abbrev pub EndsAsked : (Outcome → Type 0) → List ℕ → Given → Ran → Type 0
 EndsAsked P source g r = EndsAs (λ outcome. P outcome × IsNote source g.outline g.values outcome.history.items (note_of r)) g r.answer
 
@@ -79,7 +79,7 @@ TellsProved source g unblocked r = IsQuiet (StartsNot g) r ⊎ EndsAsked (IsProv
 abbrev pub IsProven : Program → Type 0
 IsProven o = IsSound o × IsSoundErased o
 
--- where the texts are read, but not safe, that is said; else every run is as promised, and the values are no start, or the outcome of a run is told
+-- where the texts are read, but not safe, that is said; else every run is as promised, and the values are no start, or the outcome of a run is reported
 abbrev pub TellsJudged : List ℕ → List Entry → Given → Ran → Type 0
 TellsJudged source entries g r =
     ((is_safe entries ≡ false) × IsQuiet (Says (codes "not safe\n") 1) r)
@@ -87,7 +87,7 @@ TellsJudged source entries g r =
 
 -- ---- the order of the faults
 
--- P of what is told of a run
+-- P of the report of a run
 abbrev pub OnTold : (Ran → Type 0) → Reply → Type 0
 OnTold P (replies.Told ran) = P ran
 OnTold P (replies.BadValue word) = ⊥
@@ -117,7 +117,7 @@ IsRan without_auxiliaries limit source words r =
     IsEarly source words r
     ⊎ Goes (λ o values reply. OnTold (Tells source (given (program_of without_auxiliaries o) values limit)) reply) source words r
 
--- a refusal of the outline with the certificates; or what is told of its judgement
+-- a refusal of the outline with the certificates; or the report of its judgement
 abbrev pub IsRefusedOrJudged : List ℕ → List ℕ → Program → List ℤ → ℕ → Ran → Type 0
 IsRefusedOrJudged source certs o values limit r =
     ((why : InputFault) × AreRefused certs o why × IsQuiet (IsTold source why) r)

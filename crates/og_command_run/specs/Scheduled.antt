@@ -46,7 +46,7 @@ IsStepped source g steps (replies.Told ran) = TellsSteps source g steps ran
 IsStepped source g steps (replies.BadValue bad) = ⊥
 IsStepped source g steps (replies.NotMade line) = TellsNotMade source g steps line.items
 
--- of a word that gives steps: that run, or that line; else the word is told
+-- of a word that is a list of steps: that run, or that line; else the word is reported
 abbrev pub Follows : List ℕ → List ℕ → Program → List ℤ → Reply → Type 0
 Follows source word o values (replies.Told ran) = (steps : List ℕ) × IsSchedule word steps × TellsSteps source (given o values (length steps)) steps ran
 Follows source word o values (replies.BadValue bad) = (bad.now ≡ word) × ((steps : List ℕ) → IsSchedule word steps → ⊥)

@@ -1,4 +1,4 @@
--- What is printed of a run.
+-- The printed text of a run.
 use Rattle.std.specs.Prelude.{ℕ, suc, Option, Some, None, ◌==◌, ℤ, Bool, true, false, if◌then◌else◌, List, [], ◌∷◌, length, codes}
 use Rattle.std.specs.Fmt.{decimal, signed_decimal}
 use Rattle.og_report_text.specs.Places.{◌&◌, position_of, position_text}
@@ -65,7 +65,7 @@ finish_status (Overflow p) = 1
 abbrev pub process_text : ℕ → List ℕ
 process_text p = if p == 0 then codes "the main process" else codes "process " & decimal p
 
--- the place in the source, where it is told
+-- the place in the source, where it is reported
 abbrev pub place_text : List ℕ → Option ℕ → List ℕ
 place_text source None = []
 place_text source (Some at) = codes " at " & position_text (position_of source at)
@@ -80,7 +80,7 @@ wrong_text main (wrong.Overflow p) = []
 wrong_text main wrong.Post = codes "postcondition"
 wrong_text main wrong.Stuck = []
 
--- an assertion is false after so many steps
+-- an assertion is false after this many steps
 abbrev pub note_line : List ℕ → ℕ → Wrong → Option ℕ → ℕ → List ℕ
 note_line source main w place steps =
     codes "run: the " & wrong_text main w & place_text source place & codes " is false " & when_text steps & codes "\n"

@@ -50,7 +50,7 @@ Give o words values =
 abbrev pub IsBadIn : Program → List (List ℕ) → List ℕ → Type 0
 IsBadIn o words word = Reads o.names (nothing_given o) words (Err word)
 
--- the word that is told is such a word; or memory ran out
+-- the word that is reported is such a word; or memory ran out
 abbrev pub IsBadOr : (List ℕ → Type 0) → WordsError → Type 0
 IsBadOr P (errors.Bad word) = P word.now
 IsBadOr P errors.Memory = ⊤

@@ -108,7 +108,7 @@ fn current_after(
     Ok(current_at(outline, &moment, p))
 }
 
-// The place that is told of a false assertion.
+// The place reported for a false assertion.
 fn place_of(alloc: Global, outline: &Outline, found: &Violation) -> Result<Option<u32>, AllocError>
     ensures { IfOk result (IsPlaceOf outline.now found.now.wrong) }
 {
@@ -142,7 +142,7 @@ pub(crate) fn first_false(
     Ok(Some(line))
 }
 
-/// The same of what came of a run.
+/// The report of a run.
 pub(crate) fn note_on(
     alloc: Global,
     source: &Source,

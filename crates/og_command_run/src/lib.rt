@@ -1,4 +1,4 @@
-//! Running the program of a source: what is printed of it, and the status.
+//! Running the program of a source: the printed text, and the status.
 #![tactic(auto)]
 
 mod asking;

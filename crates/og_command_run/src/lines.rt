@@ -30,7 +30,7 @@ fn put_process(text: &mut Vec<u8>, process: u128) -> Result<(), AllocError>
     }
 }
 
-// A place in the source, where it is told.
+// A place in the source, where it is reported.
 fn put_place(text: &mut Vec<u8>, places: &Places, place: Option<u32>) -> Result<(), AllocError>
     ensures { OnOk result (text.new.items ≡ text.old.items ++ place_text places.now place) }
 {
@@ -71,7 +71,7 @@ fn put_wrong(text: &mut Vec<u8>, main: usize, wrong: Wrong) -> Result<(), AllocE
     }
 }
 
-/// The line that says which assertion is false after so many steps.
+/// The line that says which assertion is false after this many steps.
 pub(crate) fn note_line(
     alloc: Global,
     source: &[u8],
@@ -156,7 +156,7 @@ fn put_hindrance(
     }
 }
 
-/// The line that says that the step after so many steps of a schedule cannot be made.
+/// The line that says that the step after this many steps of a schedule cannot be made.
 pub(crate) fn not_made_line(
     alloc: Global,
     source: &[u8],

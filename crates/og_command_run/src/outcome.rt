@@ -1,4 +1,4 @@
-//! What is printed of a run.
+//! The printed text of a run.
 
 ghost use Rattle.std.specs.Prelude.{◌≡◌, ◌++◌, ◌<◌, ◌^◌, length, true, OnOk, IfOk};
 ghost use Rattle.og_command_run.specs.Texts.{printed_number, moves_text, history_line, finish_text, finish_line, value_text, values_text, state_line, outcome_text, finish_status};

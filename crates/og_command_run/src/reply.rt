@@ -2,19 +2,20 @@
 
 use og_report_text::Answer;
 
-/// What is told of a run.
+/// The report of a run.
 #[derive(Debug, Drop)]
 pub struct Ran {
-    /// What is printed, and the status.
+    /// The printed text, and the status.
     pub answer: Answer,
-    /// The line for standard error: the first false assertion along the history, where there is one.
+    /// The line for standard error: the first false assertion along the history, where there is
+    /// one.
     pub note: Option<Vec<u8>>,
 }
 
 /// What comes of running a program.
 #[derive(Debug, Drop)]
 pub enum Reply<'a> {
-    /// What is told of a run, or why there is none.
+    /// The report of a run, or why there is none.
     Told(Ran),
     /// The first word that gives no variable a value, or a schedule that is no list of numbers.
     BadValue(&'a str),

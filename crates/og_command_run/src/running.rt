@@ -64,7 +64,7 @@ pub(crate) fn of_run(
     }
 }
 
-// What is told of an outline that is not safe.
+// The report of an outline that is not safe.
 fn not_safe(alloc: Global) -> Result<Ran, AllocError>
     ensures { IfOk result (IsQuiet (Says (codes "not safe\n") 1)) }
 {
@@ -75,7 +75,7 @@ fn not_safe(alloc: Global) -> Result<Ran, AllocError>
     Ok(Ran { answer, note: None })
 }
 
-/// What is told of a source that has no outline.
+/// The report of a source that has no outline.
 pub(crate) fn unread(alloc: Global, error: &SourceError, bytes: &[u8]) -> Result<Ran, AllocError>
     requires { IsNotRead bytes.now error.now }
     ensures { IfOk result (IsQuiet (IsUnread bytes.now)) }
@@ -84,7 +84,8 @@ pub(crate) fn unread(alloc: Global, error: &SourceError, bytes: &[u8]) -> Result
     Ok(Ran { answer, note: None })
 }
 
-/// What each run has, whatever runs: threads, memory, a limit, and who is told of its moves.
+/// What each run needs, whatever runs: threads, memory, a limit, and the gate that hears of its
+/// moves.
 #[derive(Clone, Copy)]
 struct Runner<'r, G, H> {
     rt: &'r H,
@@ -220,17 +221,17 @@ impl<'r, G: Gate, H: Threads + Wait + Sync> Runner<'r, G, H> {
 }
 
 /// Runs the program of a source, each process in a thread of its own, until nothing more can happen
-/// or the history is as long as the limit. The words, each `NAME=INT`, give values to variables that
-/// are no auxiliaries; the others are 0. With `erased` it is the program without auxiliary
+/// or the history is as long as the limit. The words, each `NAME=INT`, give values to variables
+/// that are no auxiliaries; the others are 0. With `erased` it is the program without auxiliary
 /// variables.
 ///
 /// The answer is the history, how the run ended and the state, with status 0 where all processes
 /// have ended and else 1; or the line of a refusal, with status 2. The note says which assertion of
 /// what was run is false first along the history, where one is. `BadValue` holds the first word
-/// that gives no value: one without `=`, or whose name is no variable's, an auxiliary's, or one that
-/// a word before it has, or whose number is no `i64` in digits with or without a `-`.
+/// that gives no value: one without `=`, or whose name is no variable's, an auxiliary's, or one
+/// that a word before it has, or whose number is no `i64` in digits with or without a `-`.
 ///
-/// The gate is told as by `og_run::run`.
+/// The gate hears of the run as by `og_run::run`.
 ///
 /// # Errors
 ///
@@ -266,8 +267,8 @@ pub fn ran<'a, G: Gate, H: Threads + Wait + Sync>(
 
 /// Runs the program of a source as `ran`, where the certificates prove it safe: then all that is
 /// promised of a proved outline holds of the run, and every run of the source's outline is as
-/// promised. Where they do not, the answer is `not safe` and status 1. A refusal of the certificates comes after a bad value, and `not safe` before a
-/// precondition that is false.
+/// promised. Where they do not, the answer is `not safe` and status 1. A refusal of the
+/// certificates comes after a bad value, and `not safe` before a precondition that is false.
 ///
 /// # Errors
 ///

@@ -51,7 +51,7 @@ pub(crate) fn process_of(outline: &Outline, step: u32) -> Option<u32>
     }
 }
 
-// Makes a step of the process that is printed so, or tells why it has none.
+// Makes a step of the process with this printed number, or returns why it has none.
 fn make(board: &mut Board<'_>, outline: &Outline, step: u32) -> Option<Hindrance>
     requires outline { board.old.given.outline ≡ outline.now }
     requires free { board.old.halted ≡ None }
@@ -75,7 +75,8 @@ fn make(board: &mut Board<'_>, outline: &Outline, step: u32) -> Option<Hindrance
     }
 }
 
-/// Makes the steps in their order. After how many of them there is one that cannot be made, and why.
+/// Makes the steps in their order. After how many of them there is one that cannot be made, and
+/// why.
 pub(crate) fn follow(
     board: &mut Board<'_>,
     outline: &Outline,

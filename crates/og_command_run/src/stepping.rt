@@ -25,7 +25,7 @@ use og_step::{Moment, StartError};
 use og_typed::{Outline, Source};
 use std::alloc::{AllocError, Global};
 
-// What is told of values that are no start.
+// The report of values that are no start.
 fn not_started(
     alloc: Global,
     outline: &Outline,
@@ -42,7 +42,7 @@ fn not_started(
     }
 }
 
-// What is told of a run whose steps were all made.
+// The report of a run whose steps were all made.
 fn all_made(
     alloc: Global,
     source: &Source,
@@ -79,7 +79,7 @@ fn next_place(
     }
 }
 
-// The same of the process that is printed so.
+// A step of the process with this printed number.
 fn step_place(
     alloc: Global,
     outline: &Outline,
@@ -142,7 +142,7 @@ fn stepped<'a>(
     }
 }
 
-// The same of an outline, or of its program without auxiliaries.
+// Of an outline, or of its program without auxiliaries.
 fn stepped_program<'a>(
     alloc: Global,
     source: &Source,

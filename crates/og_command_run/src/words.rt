@@ -80,7 +80,7 @@ fn added(names: &[Name], given: &[Option<i64>], word: &str) -> Option<(usize, i6
     }
 }
 
-// What the words give to so many variables.
+// The values that the words give to this many variables.
 fn given<'a>(
     alloc: Global,
     names: &[Name],
@@ -116,8 +116,9 @@ fn state_of(alloc: Global, given: &[Option<i64>]) -> Result<State, AllocError>
 ///
 /// # Errors
 ///
-/// `Bad`, the first word that gives none: it has no `=`, its name is not declared, an auxiliary's or
-/// one that a word before it has, or its number is none. `Memory` where an allocation was refused.
+/// `Bad`, the first word that gives none: it has no `=`, its name is not declared, an auxiliary's
+/// or one that a word before it has, or its number is none. `Memory` where an allocation was
+/// refused.
 pub fn values<'a>(
     alloc: Global,
     outline: &Outline,

@@ -1,4 +1,4 @@
--- When an action may break an assertion, told by sets of variables.
+-- When an action may break an assertion, by sets of variables.
 use Rattle.std.proofs.Common.{◌≡◌, ℕ, List, [], ◌∷◌, Bool, true, false, ◌&&◌, ◌||◌, nat_lt, nat_eq, refl, sym, ◌∙◌, ◌⊎◌, inl, inr, ◌↔◌, subst}
 use Rattle.std.specs.Prelude.{IsTrue}
 use Rattle.std.proofs.lemmas.Bool.{eqb-true, eq-eqb}
@@ -38,7 +38,7 @@ found (Set y e ∷ rest) a x h = go (either (nat_eq x y && nat_lt y 256) (change
         or_left (watches a y) (crosses rest a) (subst (λ z. watches a z ≡ true) (eqb-true x y (both (nat_eq x y) (nat_lt y 256) p).0) h.1)
     go (inr p) later = or_right (watches a y) (crosses rest a) (later p)
 
--- what is found is such a variable
+-- the variable found is such a variable
 shared : (body : List Simple) (a : Formula) → crosses body a ≡ true → (x : ℕ) × IsShared body a x
 shared [] a e = absurd (cc)
 shared (Pass ∷ rest) a e = shared rest a e
@@ -48,7 +48,7 @@ shared (Set y f ∷ rest) a e = go (either (watches a y) (crosses rest a) e) (sh
     go (inl p) later = (y, (or_left (nat_eq y y && nat_lt y 256) (changes rest y) (rw (eq-eqb y y refl) (both (nat_lt y 256) (occurs y a) p).0), p))
     go (inr p) later = let s = later p in (s.0, (or_right (nat_eq s.0 y && nat_lt y 256) (changes rest s.0) s.1.0, s.1.1))
 
--- told by two sets that have a variable in common
+-- by two sets that have a variable in common
 pub met : (mine theirs : ℕ → Bool) (body : List Simple) (a : Formula) (r : Bool) → ((x : ℕ) → mine x ≡ changes body x) → ((x : ℕ) → theirs x ≡ watches a x) → (IsTrue r ↔ ((x : ℕ) × (mine x ≡ true) × (theirs x ≡ true))) → r ≡ crosses body a
 met mine theirs body a true m t told =
     let x = told.0 refl in

@@ -9,7 +9,7 @@ use Rattle.std.proofs.lemmas.Bool.{eq-eqb, eqb-true, lt-ltb}
 use Rattle.std.proofs.lemmas.Bool.Decides.{eqb_tells, leb_tells}
 use mir.Syntax.{w64}
 
--- what is told of the variable that goes in, and of another one
+-- the answers for the variable that goes in, and for another one
 told_same : (x v : ℕ) (b : Bool) → x ≡ v → v < 256 → true ≡ (nat_eq x v && nat_lt v 256 || b)
 told_same x v b e small = rw (eq-eqb x v e, lt-ltb v 256 small) refl
 

@@ -3,7 +3,7 @@ use Rattle.std.specs.Prelude.{◌≡◌, ℕ, ◌+◌, ◌<◌, Bool, List, [], 
 use Rattle.og_typed.specs.Syntax.{Noted, Statement, Skip, Assign, If, While, Await, Otherwise, Nothing, Else, Sequence, Last, Then, Program, last_of}
 use Rattle.og_cond.specs.Sets.{watches, assigns_some}
 
--- what is left of the room after n conditions, if it holds them
+-- the rest of the room after n conditions, if it holds them
 abbrev pub Leaves : ℕ → ℕ → Option ℕ → Type 0
 Leaves room n None = room < n
 Leaves room n (Some left) = left + n ≡ room

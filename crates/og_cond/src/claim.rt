@@ -9,7 +9,7 @@ use crate::kind::Kind;
 use og_subst::Action;
 
 impl<'a> Condition<'a> {
-    /// What is claimed where nothing acts.
+    /// The claim where nothing acts.
     pub(crate) fn of_states(
         kind: Kind,
         at: u32,
@@ -30,7 +30,7 @@ impl<'a> Condition<'a> {
         }
     }
 
-    /// What is claimed of an action that stands here.
+    /// The claim of an action that stands here.
     pub(crate) fn of_action(
         kind: Kind,
         at: u32,

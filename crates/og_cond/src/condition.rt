@@ -37,7 +37,7 @@ pub enum Goal<'a> {
 #[derive(Debug, Drop)]
 pub struct Condition<'a> {
     pub kind: Kind,
-    /// The byte offset of what is asked about.
+    /// The byte offset of the part asked about.
     pub at: u32,
     /// The byte offset of the action, of `Interfere` alone.
     pub action_at: Option<u32>,

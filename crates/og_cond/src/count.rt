@@ -1,6 +1,6 @@
-//! How many conditions an outline has, told without memory.
+//! How many conditions an outline has, counted without memory.
 //!
-//! Each count takes the room that is left and answers what is left after it, or nothing where the
+//! Each count takes the room that is left and returns the rest after it, or nothing where the
 //! room is too small.
 
 ghost use Rattle.std.specs.Prelude.{◌≡◌, ◌++◌, [], map, option_map};
@@ -92,7 +92,7 @@ fn left_after_hits(room: usize, seq: &Seq, set: &VarSet) -> Option<usize>
     Some(left)
 }
 
-// The same of one statement.
+// Of one statement.
 #[cycle(hits)]
 fn left_after_stmt_hits(room: usize, stmt: &Stmt, set: &VarSet) -> Option<usize>
     ensures { Leaves room (stmt_hits (has set.now) (statement stmt.now)) result }
@@ -114,7 +114,7 @@ fn left_after_stmt_hits(room: usize, stmt: &Stmt, set: &VarSet) -> Option<usize>
     }
 }
 
-// The same of several processes.
+// Of several processes.
 fn left_after_all_hits(room: usize, processes: &[Seq], set: &VarSet) -> Option<usize>
     ensures { Leaves room (all_hits (has set.now) (map sequence processes.now)) result }
 {
@@ -148,7 +148,7 @@ fn left_after_seq_breaks(room: usize, seq: &Seq, earlier: &[Seq], later: &[Seq])
     Some(left)
 }
 
-// The same of the statements in a statement.
+// Of the statements in a statement.
 #[cycle(breaks)]
 fn left_after_stmt_breaks(room: usize, stmt: &Stmt, earlier: &[Seq], later: &[Seq]) -> Option<usize>
     ensures { Leaves room (stmt_breaks (map sequence earlier.now ++ map sequence later.now) (statement stmt.now)) result }
@@ -166,7 +166,7 @@ fn left_after_stmt_breaks(room: usize, stmt: &Stmt, earlier: &[Seq], later: &[Se
     }
 }
 
-// The same of each assertion of a process that others may break.
+// Of each assertion of a process that others may break.
 fn left_after_process(room: usize, process: &Seq, earlier: &[Seq], later: &[Seq]) -> Option<usize>
     ensures { Leaves room (process_breaks (map sequence earlier.now ++ map sequence later.now) (sequence process.now)) result }
 {
@@ -187,7 +187,7 @@ fn left_after_interference(room: usize, processes: &[Seq]) -> Option<usize>
     Some(left)
 }
 
-/// What is left of the room after all conditions of the outline.
+/// The rest of the room after all conditions of the outline.
 pub(crate) fn left_after_conditions(room: usize, outline: &Outline) -> Option<usize>
     ensures { Leaves room (condition_count outline.now) result }
 {

@@ -61,7 +61,7 @@ impl<'a> Groups<'a> {
     ///
     /// # Errors
     ///
-    /// `TooMany` exactly where there are more than 4,000,000 conditions, told before any memory is
+    /// `TooMany` exactly where there are more than 4,000,000 conditions, found before any memory is
     /// asked for. `Memory` where an allocation was refused.
     pub fn new(alloc: Global, outline: &'a Outline) -> Result<Groups<'a>, ConditionsError>
         ensures { IsStarted condition_limit outline.now result }
@@ -114,8 +114,8 @@ impl<'a> Groups<'a> {
         Ok(group)
     }
 
-    /// The next conditions, of which there may be none where others follow; or nothing where all were
-    /// told.
+    /// The next conditions, of which there may be none where others follow; or nothing where all
+    /// were reported.
     ///
     /// # Errors
     ///

@@ -14,8 +14,8 @@ pub(crate) enum Next {
     Nothing,
 }
 
-/// The conditions of an outline in the order of their numbers, in groups that are made one after the
-/// other: so no more than one group is in memory.
+/// The conditions of an outline in the order of their numbers, in groups that are made one after
+/// the other: so no more than one group is in memory.
 #[derive(Debug, Drop)]
 pub struct Groups<'a> {
     pub(crate) outline: &'a Outline,

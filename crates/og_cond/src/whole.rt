@@ -242,7 +242,7 @@ fn add_all<'a>(conditions: &mut Vec<Condition<'a>>, outline: &'a Outline) -> Res
 ///
 /// # Errors
 ///
-/// `TooMany` exactly where there are more than `CONDITION_LIMIT` conditions, told before any
+/// `TooMany` exactly where there are more than `CONDITION_LIMIT` conditions, found before any
 /// memory is asked for. `Memory` where an allocation was refused.
 pub fn conditions<'a>(
     alloc: Global,

@@ -1,4 +1,4 @@
--- What is left of an outline meets the rule for auxiliary variables and the limits.
+-- An outline without some parts meets the rule for auxiliary variables and the limits.
 use Rattle.std.proofs.Common.{◌≡◌, ℕ, ◌≤◌, List, [], ◌∷◌, map, filter, take, length, Bool, true, false, cond, if◌then◌else◌, Option, Some, None, option_map, IfSome, refl, sym, subst, ⊎_elim, FitsSigned, eq-eqb, arith}
 use Rattle.std.specs.Prelude.{nat_lt, ◌||◌}
 use Rattle.std.specs.List.{AllByRecursion}
@@ -16,7 +16,7 @@ use Rattle.og_typed.specs.Erase.{is_aux_assign, is_kept, blank, erase_seq, erase
 use Rattle.og_typed.proofs.Each.{each_append, each_left, each_right}
 use Rattle.og_typed.proofs.Below.{and_both, are_below}
 
--- ---- what is used and plain uses variables below n alone
+-- ---- plain parts use variables below n alone
 
 or_parts : (a b : Bool) → (a || b) ≡ false → (a ≡ false) × (b ≡ false)
 or_parts true b h = absurd (both_ways true h refl)

@@ -104,7 +104,7 @@ items_then-push : (items : List raw.Item) (i : raw.Item) (rest : tree.Seq) → r
 items_then-push [] i rest = refl
 items_then-push (j ∷ items) i rest = ap (tree.item j.before j.place j.stmt) (items_then-push items i rest)
 
--- what is made of a sequence, after the items that are made
+-- the items made of a sequence, after those already made
 abbrev pub made_of : List (List ℕ) → List RawItem → List Item → Noted → tree.Seq
 made_of names out all last = raw.items_then (map raw.item_of out) (collected.sequence names (sequence_list (map item_of all) last))
 

@@ -9,7 +9,7 @@ pub drop_at : {X : Type 0} (all : List X) (i : ℕ) (x : X) → i < length all �
 drop_at all i x h is =
     drop-cons all i x h ∙ ap (λ y. y ∷ drop (suc i) all) (sym is) ∙ ap (λ k. x ∷ drop k all) (sym (add-one i))
 
--- ---- what is made of a list, where `rest` is made of what is still to be read
+-- ---- the items made of a list, where `rest` is made of the part still to be read
 
 module _ {X Y Z : Type 0} (view : Z → Y) (rest : List X → List Y) where
   -- an element that stays

@@ -121,8 +121,8 @@ impl Program {
     }
 
     /// The program as a tree, to be printed. An expression is in collected form: its terms in the
-    /// order of the variables, and then the constant, unless it is 0 and there are terms. A relation
-    /// is its form, the sign and 0. Every span is `0..0`.
+    /// order of the variables, and then the constant, unless it is 0 and there are terms. A
+    /// relation is its form, the sign and 0. Every span is `0..0`.
     ///
     /// # Errors
     ///

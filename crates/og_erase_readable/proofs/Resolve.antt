@@ -105,7 +105,7 @@ module _ (scope : Scope) (use_of : Use) where
       go relations.Equal there back = ap Eq there
       go relations.NotEqual there back = ap Ne there
 
-  -- ---- relations told by `<`
+  -- ---- relations written with `<`
 
   strict_same : (left right : List RawTerm) → is_zero right ≡ true → is_one (slice_get left (length left - 1)) ≡ true
       → plus_one (minus (form (left_side (take (length left - 1) left))) (form (right_side (take (length left - 1) left)))) ≡ minus (form left) (form right)

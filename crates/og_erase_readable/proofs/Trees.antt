@@ -60,7 +60,7 @@ items_then-push : (items : List raw.Item) (i : raw.Item) (rest : tree.Seq) → r
 items_then-push [] i rest = refl
 items_then-push (j ∷ items) i rest = ap (tree.item j.before j.place j.stmt) (items_then-push items i rest)
 
--- what is made of items, after those that are made
+-- the relations made of items, after those already made
 abbrev pub made_of : List RawItem → List RawItem → tree.Note → tree.Seq
 made_of out all last = raw.items_then (map raw.item_of out) (wanted.readable_seq (raw.items_then (map raw.item_of all) (tree.finish last)))
 

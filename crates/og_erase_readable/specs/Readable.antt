@@ -1,4 +1,4 @@
--- Relations as people write them: what is added on the left, and what is taken away, turned round, on the right.
+-- Relations as people write them: the added terms on the left, and the subtracted ones, with their signs turned, on the right.
 use Rattle.std.specs.Prelude.{ℕ, ◌-◌, List, [], ◌∷◌, length, take, map, filter, Bool, true, false, not, ◌&&◌, ◌==◌, if◌then◌else◌, slice_get, Option, Some, None, option_map}
 use Rattle.std.specs.List.{list_any}
 use Rattle.og_parse.specs.declared.raw.Sign.{Sign}

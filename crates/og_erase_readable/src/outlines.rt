@@ -43,8 +43,8 @@ fn processes(alloc: Global, all: &RawProcesses) -> Result<RawProcesses, AllocErr
     Ok(RawProcesses { first, others })
 }
 
-/// The tree with readable relations. A relation whose right side is 0 gets terms on both sides:
-/// the variables that are added stay on the left, the others and the constant go to the right; where
+/// The tree with readable relations. A relation whose right side is 0 gets terms on both sides: the
+/// variables that are added stay on the left, the others and the constant go to the right; where
 /// none is added, the constant stays. With variables on both sides, `<` stands for `<=` and a last
 /// `+ 1`. Every other relation, each order of terms and each place stay. It stands for the outline
 /// that the tree stands for.

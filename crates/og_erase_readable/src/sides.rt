@@ -169,7 +169,7 @@ fn is_at_most(relation: Relation) -> bool
     }
 }
 
-// Whether `<` tells it, without a last `+ 1`.
+// Whether `<` expresses it, without a last `+ 1`.
 fn is_strict(relation: Relation, terms: &[RawTerm]) -> bool
     ensures { result ≡ wanted.is_strict relation terms.now }
 {

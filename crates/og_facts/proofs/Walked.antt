@@ -82,7 +82,7 @@ split_checked (p ∷ q ∷ ps) =
     go true = refl
     go false = refl
 
--- what is made of two things, one after the other
+-- the list made of two things, one after the other
 both : {A B C : Type 0} (c : A → B → C) (f : A → List Fact) (g : B → List Fact) (h : C → List Fact) → ((x : A) (y : B) → h (c x y) ≡ f x ++ g y) → (o : Option A) (p : Option B)
     → joined (option_and_then (λ x. checked_facts (f x)) o) (option_and_then (λ y. checked_facts (g y)) p) ≡ option_and_then (λ z. checked_facts (h z)) (option_and_then (λ x. option_map (c x) p) o)
 both c f g h e None p = refl

@@ -29,6 +29,6 @@ IsPrepared (Some action) p = (forward (action_body action) ≡ Some p.map) × (v
 abbrev pub shown : Vec its.Fact Global → List Fact
 shown facts = map plain_fact facts.items
 
--- these facts, and what is added after them
+-- these facts, and the added ones after them
 abbrev pub added_to : List Fact → Option (List Fact) → Option (List Fact)
 added_to front added = option_map (λ fs. front ++ fs) added

@@ -2,7 +2,7 @@
 use Rattle.std.specs.Prelude.{ℕ, zero, suc, List, Option, None, slice_get}
 use Rattle.og_facts.specs.Facts.{Fact}
 
--- facts in order, over so many variables
+-- facts in order, over this many variables
 pub record Listed : Type 0 where
   pub facts : List Fact
   pub variables : ℕ

@@ -1,4 +1,4 @@
--- Counts by what is said of an assertion.
+-- Counts by the claims about an assertion.
 use Rattle.std.specs.Prelude.{◌≡◌, ℕ, ◌<◌, ◌≤◌, List, Bool, true, false, Option, Some, None}
 use Rattle.og_typed.specs.Syntax.{Formula, Formulas}
 use Rattle.og_facts.specs.Facts.{most_facts}

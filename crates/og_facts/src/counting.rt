@@ -1,6 +1,6 @@
-//! How many facts a condition has, told without memory.
+//! How many facts a condition has, counted without memory.
 //!
-//! Each count takes the room that is left and answers what is left after it, or nothing where the
+//! Each count takes the room that is left and returns the rest after it, or nothing where the
 //! room is too small.
 
 ghost use Rattle.std.specs.Prelude.{map};
@@ -115,7 +115,7 @@ fn left_after_hypotheses(room: usize, hypotheses: &[Hypothesis]) -> Option<usize
     Some(left)
 }
 
-/// What is left of the room after all facts of the condition.
+/// The rest of the room after all facts of the condition.
 pub(crate) fn left_after_facts(room: usize, condition: &Condition) -> Option<usize>
     ensures { Leaves room (count (seen condition.now)) result }
 {

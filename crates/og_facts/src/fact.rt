@@ -2,7 +2,7 @@
 
 use crate::atom::Atom;
 
-/// What is known of a state.
+/// The known facts of a state.
 #[derive(Debug, Drop)]
 pub enum Fact<'a> {
     /// The form is at most 0.

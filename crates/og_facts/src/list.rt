@@ -8,7 +8,7 @@ use crate::equality::same_facts;
 use crate::fact::Fact;
 use std::marker::Model;
 
-/// Facts in order, numbered from 1, over so many variables.
+/// Facts in order, numbered from 1, over this many variables.
 ///
 /// Contracts see the list of the facts as plain trees, and the number of variables.
 #[derive(Debug, Drop)]
@@ -31,7 +31,7 @@ impl<'a> Model for FactList<'a> {
 }
 
 impl<'a> FactList<'a> {
-    // These facts, over so many variables.
+    // These facts, over this many variables.
     pub(crate) fn new(facts: Vec<Fact<'a>>, variables: u32) -> FactList<'a>
         ensures facts { result.facts ≡ map plain_fact facts.entry.items }
         ensures variables { result.variables ≡ variables }

@@ -103,8 +103,8 @@ pub fn has_few_facts(condition: &Condition) -> bool
 /// # Errors
 ///
 /// `TooManyFacts` exactly where there are more than `FACT_LIMIT` facts, whatever their numbers,
-/// told before any memory is asked for. Else `TooLarge` exactly where the map of the action, a form
-/// under it, or a form of these facts has a product, a partial sum or a negation that leaves
+/// found before any memory is asked for. Else `TooLarge` exactly where the map of the action, a
+/// form under it, or a form of these facts has a product, a partial sum or a negation that leaves
 /// `i128`. `Memory` where an allocation was refused.
 pub fn facts<'a>(alloc: Global, condition: &Condition<'a>) -> Result<FactList<'a>, FactsError>
     ensures { IsFacts (seen condition.now) result }

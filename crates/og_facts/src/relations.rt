@@ -16,7 +16,7 @@ use crate::fact::Fact;
 use og_linear::{Form, FormError};
 use std::alloc::{AllocError, Global};
 
-/// What is said of a form.
+/// The claim about a form.
 #[derive(Clone, Copy, Debug)]
 pub(crate) enum Relation {
     /// It is at most 0.

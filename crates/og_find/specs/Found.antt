@@ -1,4 +1,4 @@
--- What is found for conditions.
+-- The findings on conditions.
 use Rattle.std.specs.Prelude.{◌≡◌, ℕ, ◌-◌, ◌<◌, ℤ, List, length, true, false, ⊤, IsSomeAnd, IsOkAnd, slice_get}
 use Rattle.std.specs.List.{AllByRecursion}
 use Rattle.og_linear.specs.Linear.{IsProper}
@@ -25,13 +25,13 @@ Certifies c proof = (is_well_formed proof ≡ true) × IsOkAnd (facts_of c) (λ 
 abbrev pub IsFalseAt : Condition → List ℤ → Type 0
 IsFalseAt c s = IsProper s × (length s ≡ c.variables) × (hypotheses_true s c.hypotheses ≡ true) × (goal_true s (assignments c.action) c.goal ≡ false)
 
--- what is told of the condition is so
+-- the verdict on the condition is right
 abbrev pub IsVerdict : Condition → Verdict → Type 0
 IsVerdict c (verdicts.True cert) = Certifies c (plain_cert cert)
 IsVerdict c (verdicts.False s) = IsFalseAt c s
 IsVerdict c verdicts.Open = ⊤
 
--- what is told of the condition after the certificate of its leader is so
+-- the verdict on the condition after the certificate of its leader is right
 abbrev pub IsFollowed : Condition → Cert → Followed → Type 0
 IsFollowed c proof followed.Shares = Certifies c proof
 IsFollowed c proof (followed.Own v) = IsVerdict c v

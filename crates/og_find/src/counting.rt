@@ -37,7 +37,7 @@ fn missing_up_to(file: &CertFile, conditions: u32) -> u32
 }
 
 impl Missing {
-    /// How many of so many conditions, numbered from 1, have no certificate in the file. Takes no
+    /// How many of this many conditions, numbered from 1, have no certificate in the file. Takes no
     /// memory.
     pub fn of(file: &CertFile, conditions: u32) -> Missing
         ensures count { result.count ≡ missing_up_to (shown file.now) conditions }

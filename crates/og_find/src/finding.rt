@@ -111,7 +111,7 @@ fn examine_facts(alloc: Global, list: &FactList, budget: u64) -> Result<Verdict,
     Ok(Verdict::Open)
 }
 
-/// What a search within the budget tells of the condition.
+/// The verdict of a search within the budget on the condition.
 ///
 /// One step of the budget is one fact added, or one branch or part begun. The verdict is the same
 /// each time.
@@ -157,7 +157,7 @@ fn carried_over<'c>(
     }
 }
 
-// What is told of a condition with these facts after the certificate of its leader.
+// The verdict on a condition with these facts after the certificate of its leader.
 fn follow_facts<'c>(
     alloc: Global,
     list: &FactList,
@@ -178,7 +178,7 @@ fn follow_facts<'c>(
     Ok(Followed::Own(examine_facts(alloc, list, budget)?))
 }
 
-/// What is told of a condition after the certificate of its leader, another condition, from which
+/// The verdict on a condition after the certificate of its leader, another condition, from which
 /// it may differ in the names of variables alone: whether the same certificate is one of its own,
 /// and else its verdict, by that certificate with variables exchanged, or by a search within the
 /// budget. The facts of the leader are made where they are not among those of `leaders`, which has

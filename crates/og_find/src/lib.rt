@@ -1,7 +1,7 @@
 //! The finder: certificates of conditions, and states in which conditions are false.
 //!
-//! A search claims something of the facts of a condition (`og_search`); what is handed out was
-//! checked, by replay or by evaluation.
+//! A search claims something of the facts of a condition (`og_search`); a certificate handed out
+//! was checked, by replay or by evaluation.
 #![tactic(auto)]
 
 mod counting;

@@ -7,7 +7,7 @@ use og_subst::{Action, ActionMap};
 use og_typed::Assert;
 use std::alloc::{AllocError, Global};
 
-/// Two marks of a condition, made of what is read of it without its facts. Conditions in which that
+/// Two marks of a condition, made of its parts without its facts. Conditions in which that
 /// differs have the same mark only by a chance of the hash.
 #[derive(Debug, Clone, Copy, PartialEq, Eq)]
 pub struct Marks {

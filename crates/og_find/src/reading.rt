@@ -72,7 +72,7 @@ fn mark_with_atom(mark: u64, atom: &Atom) -> u64 {
     next
 }
 
-// The mark of a list with a fact more, that has so many levels of choices.
+// The mark of a list with a fact more, that has this many levels of choices.
 #[cycle(marks)]
 fn mark_with_fact(mark: u64, fact: &Fact, depth: u32) -> u64 {
     match fact {

@@ -11,7 +11,7 @@ ghost use Rattle.og_facts.specs.Plain.{plain_fact};
 use og_facts::{Atom, Fact};
 use og_subst::Values;
 
-/// A choice that has so many choices round it counts as false.
+/// A choice that has this many choices round it counts as false.
 pub(crate) const NESTING_LIMIT: u32 = 200;
 
 // The sum with a term more, where it fits.
@@ -70,7 +70,7 @@ fn some_true(parts: &[Vec<Fact>], values: &Values, depth: u32) -> bool
 }
 
 /// Whether all facts are true of the values. One whose value leaves `i128` counts as false, and so
-/// does a choice that has so many choices round it.
+/// does a choice that has this many choices round it.
 #[cycle(truth)]
 pub(crate) fn all_true(facts: &[Fact], values: &Values, depth: u32) -> bool
     ensures { IsTrue result → all_true_at values.now (map plain_fact facts.now) ≡ true }

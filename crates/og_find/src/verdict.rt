@@ -1,9 +1,9 @@
-//! What is told of a condition.
+//! The verdict on a condition.
 
 use og_cert::Cert;
 use og_linear::State;
 
-/// What a search tells of a condition.
+/// The verdict of a search on the condition.
 #[derive(Debug, Drop)]
 pub enum Verdict {
     /// The condition is true: the certificate closes its facts.
@@ -14,7 +14,7 @@ pub enum Verdict {
     Open,
 }
 
-/// What is told of a condition after the certificate of another one, its leader.
+/// The verdict on a condition after the certificate of another one, its leader.
 #[derive(Debug, Drop)]
 pub enum Followed {
     /// It is true: the leader's certificate closes its facts too.

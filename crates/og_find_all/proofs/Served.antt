@@ -10,7 +10,7 @@ use Rattle.og_find.specs.declared.verdict.Verdict.{Verdict}
 use Rattle.og_find_all.specs.Findings.{verdict_at, own_or, verdict_of, AreVerdicts, IsVerdictAt, AreKnown, IsServed, IsChecked}
 use Rattle.og_find_all.specs.declared.findings.Findings.{Findings}
 
--- what is served has a verdict that is true of it
+-- a task that is served has a verdict that is true of it
 served : (cs : List Condition) (known : List (Option ℕ)) (verdicts : List Verdict) (place i : ℕ) (v : Verdict) → AreKnown cs verdicts known
     → slice_get verdicts place ≡ Some v → (slice_get known i ≡ Some (Some place)) ⊎ IsVerdictAt cs i v → IsVerdictAt cs i v
 served cs known verdicts place i v all at which = ⊎_elim

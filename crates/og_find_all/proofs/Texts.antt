@@ -172,7 +172,7 @@ pub is_too_long : (cs : List Condition) (f : Findings) (file : CertFile) (limit 
 is_too_long cs f file limit h filing longer =
     (all_of cs f (shown file) h filing, (entries_of f, all_of cs f (entries_of f) h (filed f 0 (length f.own.items)), longer))
 
--- ---- what is left of the room
+-- ---- the rest of the room
 
 -- a text and the lines of all entries
 pub whole_length : (f : Findings) → length (codes "og-cert 1\n") + length (lines_from f 0 (vec_len f.own)) ≡ length (file_text (entries_of f))

@@ -1,4 +1,4 @@
--- What is found of the conditions of a list.
+-- The findings on the conditions of a list.
 use Rattle.std.specs.Prelude.{◌≡◌, ◌⊎◌, ℕ, ◌+◌, ◌-◌, List, length, Option, Some, None, IsSomeAnd, slice_get}
 use Rattle.std.specs.Global.{Box}
 use Rattle.og_cond.specs.Condition.{Condition}

@@ -29,7 +29,7 @@ abbrev pub entry_lines : ℕ → Option Cert → List ℕ
 entry_lines n None = []
 entry_lines n (Some c) = lines_text (ForCondition n ∷ cert_lines c)
 
--- the lines of the entries of so many conditions from this index on
+-- the lines of the entries of this many conditions from this index on
 abbrev pub lines_from : Findings → ℕ → ℕ → List ℕ
 lines_from f i zero = []
 lines_from f i (suc k) = entry_lines (i + 1) (certificate_in (verdict_of f i)) ++ lines_from f (i + 1) k
@@ -43,7 +43,7 @@ abbrev pub with_first : ℕ → Option Cert → Entries → Entries
 with_first n None es = es
 with_first n (Some c) es = (n, c) ∷ es
 
--- the entries of so many conditions from this index on
+-- the entries of this many conditions from this index on
 abbrev pub entries_from : Findings → ℕ → ℕ → Entries
 entries_from f i zero = []
 entries_from f i (suc k) = with_first (i + 1) (certificate_in (verdict_of f i)) (entries_from f (i + 1) k)

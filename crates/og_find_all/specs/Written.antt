@@ -1,4 +1,4 @@
--- What is promised of the certificates that are found.
+-- The promise of the certificates that are found.
 use Rattle.std.specs.Prelude.{◌≡◌, ◌<◌, ◌≤◌, ℕ, List, length, true}
 use Rattle.og_cert_text.specs.Files.{Entries}
 use Rattle.og_cert_text.specs.Listing.{file_text}
@@ -11,7 +11,7 @@ use Rattle.og_find_all.specs.declared.writing.FoundText.{FoundText}
 use Rattle.og_find_all.specs.declared.writing.FoundText.TheVariants as texts
 use Rattle.og_find_all.specs.declared.writing.Written.{Written}
 
--- the text is that of a file of certificates of the conditions, and so many of the conditions have none in it
+-- the text is that of a file of certificates of the conditions, and this many of the conditions have none in it
 abbrev pub IsWritten : List Condition → Written → Type 0
 IsWritten cs w =
     (es : Entries) × AreOf cs es × (is_file es ≡ true) × (w.certificates ≡ file_text es)

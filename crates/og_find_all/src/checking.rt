@@ -10,8 +10,8 @@ use og_find::{Verdict, examine, has_equal_facts, is_verdict};
 use og_pool::Numbered;
 use std::alloc::{AllocError, Global};
 
-/// Each condition is held against the verdict at its place, if that was not done before, and searched
-/// where that is not shown to be true of it.
+/// Each condition is held against the verdict at its place, if that was not done before, and
+/// searched where that is not shown to be true of it.
 #[derive(Clone, Copy)]
 pub(crate) struct Checking<'a, 'c> {
     pub(crate) conditions: &'a [Condition<'c>],
@@ -23,7 +23,7 @@ pub(crate) struct Checking<'a, 'c> {
     pub(crate) budget: u64,
 }
 
-// Whether the verdict on one condition is shown to be that of another one too. A verdict that tells
+// Whether the verdict on one condition is shown to be that of another one too. A verdict that says
 // nothing is, where the facts are equal.
 fn is_shared(
     alloc: Global,

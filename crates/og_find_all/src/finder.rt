@@ -33,7 +33,7 @@ struct Search<'a, 'c, G> {
 }
 
 impl<'a, 'c, G: Gate> Search<'a, 'c, G> {
-    // What is found of the leaders.
+    // The findings on the leaders.
     fn led<R: Threads + Wait + Sync>(
         &self,
         rt: &R,
@@ -59,7 +59,7 @@ impl<'a, 'c, G: Gate> Search<'a, 'c, G> {
         Ok(gathered)
     }
 
-    // What is found of followers after what was found of their leaders. So many were looked at before.
+    // The findings on followers after those on their leaders. This many were looked at before.
     fn follow<R: Threads + Wait + Sync>(
         &self,
         rt: &R,
@@ -94,7 +94,8 @@ impl<'a, 'c, G: Gate> Search<'a, 'c, G> {
         Ok(gathered)
     }
 
-    // What is found of the leaders of kinds, then of those of the other shapes, and then of all others.
+    // The findings on the leaders of kinds, then on those of the other shapes, and then on all
+    // others.
     fn gathered<R: Threads + Wait + Sync>(
         &self,
         rt: &R,
@@ -122,16 +123,16 @@ impl<'a, 'c, G: Gate> Search<'a, 'c, G> {
     }
 }
 
-/// What searches tell of each condition, found by so many workers. The budget holds for each search,
-/// as in `og_find::examine`. The verdicts are the same for every number of workers.
+/// The verdict of searches on each condition, found by this many workers. The budget holds for each
+/// search, as in `og_find::examine`. The verdicts are the same for every number of workers.
 ///
-/// Conditions with equal facts are searched once, and share what was found. Of conditions that differ
-/// in the names of variables alone, but for those that their action assigns, one leads: where
-/// it has a certificate, that is tried for the others, and those whose facts it closes share it; for
-/// those where it does not, the same with variables exchanged is tried. Leaders in which the same stands
-/// but for names and order follow one of them in the same way. A condition from which no other differs so
-/// is searched together with those others, so that no worker waits for it. The gate is told how many
-/// different conditions there are, and before and after each.
+/// Conditions with equal facts are searched once, and share what was found. Of conditions that
+/// differ in the names of variables alone, but for those that their action assigns, one leads:
+/// where it has a certificate, that is tried for the others, and those whose facts it closes share
+/// it; for those where it does not, the same with variables exchanged is tried. Leaders in which
+/// the same stands but for names and order follow one of them in the same way. A condition from
+/// which no other differs so is searched together with those others, so that no worker waits for
+/// it. The gate hears how many different conditions there are, and before and after each.
 ///
 /// # Errors
 ///
@@ -188,7 +189,7 @@ pub fn examine_all<G: Gate, R: Threads + Wait + Sync>(
 }
 
 /// The certificates that searches find for the conditions, each under the number of its condition,
-/// counted from 1, found by so many workers. The budget holds for each search, as in
+/// counted from 1, found by this many workers. The budget holds for each search, as in
 /// `og_find::find`. The file is the same for every number of workers.
 ///
 /// Conditions with equal facts are searched once and share a certificate. There may be at most

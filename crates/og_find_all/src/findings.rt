@@ -1,4 +1,4 @@
-//! What is found of all conditions.
+//! The findings on all conditions.
 
 ghost use Rattle.std.specs.Prelude.{◌≡◌, length, option_map, IfOk};
 ghost use Rattle.og_cert_text.specs.Shown.{shown};

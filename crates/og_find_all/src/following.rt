@@ -1,4 +1,4 @@
-//! What is found of the followers.
+//! The findings on the followers.
 
 ghost use Rattle.std.specs.Prelude.{◌≡◌, Some, map, slice_get, IfOk, IfSome, IsSomeAnd};
 ghost use Rattle.og_cond.specs.Seen.{seen};
@@ -11,8 +11,8 @@ use og_find::{Followed, Leader, Leaders, Verdict, examine, follow};
 use og_pool::{Gate, Numbered};
 use std::alloc::{AllocError, Global};
 
-/// The certificate of its leader is tried for a follower, as it is and with variables exchanged. The
-/// follower is searched for itself where neither closes its facts, or where it has no leader.
+/// The certificate of its leader is tried for a follower, as it is and with variables exchanged.
+/// The follower is searched for itself where neither closes its facts, or where it has no leader.
 #[derive(Clone, Copy)]
 pub(crate) struct Trial<'a, 'c> {
     pub(crate) conditions: &'a [Condition<'c>],
@@ -76,8 +76,8 @@ impl<'c> Trial<'_, 'c> {
     }
 }
 
-/// A trial for each follower. A gate is told of each, by its number after those of others. A worker keeps
-/// the facts of leaders.
+/// A trial for each follower. A gate hears of each, by its number after those of others. A worker
+/// keeps the facts of leaders.
 #[derive(Clone, Copy)]
 pub(crate) struct Following<'a, 'f, 'c, G> {
     pub(crate) alloc: Global,

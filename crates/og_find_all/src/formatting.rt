@@ -5,7 +5,8 @@ use og_find::Verdict;
 use og_pool::Numbered;
 use std::alloc::{AllocError, Global};
 
-/// The lines of the certificate of each of the first verdicts, so many. A verdict without one has none.
+/// The lines of the certificate of each of the first verdicts, this many. A verdict without one has
+/// none.
 #[derive(Clone, Copy)]
 pub(crate) struct Formatting<'a> {
     pub(crate) verdicts: &'a [Verdict],

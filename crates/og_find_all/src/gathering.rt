@@ -10,9 +10,9 @@ use crate::leading::{Follower, Waiting};
 use og_find::Verdict;
 use std::alloc::{AllocError, Global};
 
-/// Verdicts, each with the index of the first condition that has it; for each group of conditions the
-/// place of its verdict; and for each condition the place of a verdict that was seen to be true of it,
-/// if one was.
+/// Verdicts, each with the index of the first condition that has it; for each group of conditions
+/// the place of its verdict; and for each condition the place of a verdict that was seen to be true
+/// of it, if one was.
 #[derive(Drop)]
 pub(crate) struct Gathered {
     pub(crate) firsts: Vec<usize>,
@@ -56,7 +56,7 @@ fn note(known: &mut Vec<Option<usize>>, index: usize, place: usize)
     }
 }
 
-// Nothing is noted of so many conditions.
+// Nothing is noted of this many conditions.
 fn unknown(alloc: Global, count: usize) -> Result<Vec<Option<usize>>, AllocError>
     ensures { IfOk result (λ known. (cs : List Condition) (verdicts : List Verdict) → AreKnown cs verdicts known.items) }
 {
@@ -78,7 +78,7 @@ fn note_leader(known: &mut Vec<Option<usize>>, leaders: &[usize], place: usize)
     note(known, *index, place);
 }
 
-// Of so many conditions the leaders are noted, each with its own place.
+// Of this many conditions the leaders are noted, each with its own place.
 fn known_leaders(
     alloc: Global,
     count: usize,
@@ -159,8 +159,8 @@ impl Gathered {
         Ok(())
     }
 
-    /// What was found of the leaders, of so many conditions; for each group its place among them, if it is
-    /// one.
+    /// The findings on the leaders, of this many conditions; for each group its place among them,
+    /// if it is one.
     pub(crate) fn new(
         alloc: Global,
         count: usize,
@@ -179,8 +179,8 @@ impl Gathered {
         })
     }
 
-    /// Adds what was found of followers after these verdicts: the group of each has the place of its
-    /// leader, or that of its own verdict where it has one.
+    /// Adds what was found of followers after these verdicts: the group of each has the place of
+    /// its leader, or that of its own verdict where it has one.
     pub(crate) fn follow(
         &mut self,
         followers: &[Follower],

@@ -6,8 +6,8 @@ use og_find::Marks;
 use std::alloc::{AllocError, AllocFailed, Global};
 use std::collections::BTreeMap;
 
-/// A place for each condition, the same for equal marks of their facts, and for each place the index
-/// of the first condition that has it. The place of the last group is 0.
+/// A place for each condition, the same for equal marks of their facts, and for each place the
+/// index of the first condition that has it. The place of the last group is 0.
 #[derive(Drop)]
 pub(crate) struct Groups {
     pub(crate) places: Vec<usize>,

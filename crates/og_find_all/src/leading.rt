@@ -8,8 +8,8 @@ use og_find::{Marks, kind};
 use std::alloc::{AllocError, Global};
 use std::collections::BTreeMap;
 
-/// A condition for which the certificate of the leader of its shape is tried, or one that is alone in
-/// its shape and has no leader.
+/// A condition for which the certificate of the leader of its shape is tried, or one that is alone
+/// in its shape and has no leader.
 #[derive(Debug, Clone, Copy)]
 pub(crate) struct Follower {
     /// The index of the condition.
@@ -31,8 +31,8 @@ pub(crate) struct Waiting {
     pub(crate) leader: Option<usize>,
 }
 
-/// The groups in the order in which they are looked at: of each kind of the shapes that several have one
-/// leader, then the leaders of the other shapes of that kind, and then all others.
+/// The groups in the order in which they are looked at: of each kind of the shapes that several
+/// have one leader, then the leaders of the other shapes of that kind, and then all others.
 #[derive(Drop)]
 pub(crate) struct Shapes {
     /// The index of each leader of a kind.
@@ -127,8 +127,8 @@ impl Shapes {
 struct Shape {
     // How many groups have it.
     groups: usize,
-    // The group that leads: the second one, or else the only one. The last condition of a shape, which
-    // is the first one here, is more often unlike the others than any other one.
+    // The group that leads: the second one, or else the only one. The last condition of a shape,
+    // which is the first one here, is more often unlike the others than any other one.
     first: usize,
     // The place of that leader among those of kinds, where this is a kind.
     leader: Option<usize>,
@@ -142,7 +142,7 @@ struct Numbering {
 }
 
 impl Numbering {
-    // Of no groups yet, with room for so many.
+    // Of no groups yet, with room for this many.
     fn new(alloc: Global, groups: usize) -> Result<Numbering, AllocError> {
         Ok(Numbering {
             shapes: Vec::new(alloc),
@@ -304,9 +304,9 @@ fn kinds_of(
     Ok(kinds)
 }
 
-/// The groups whose first conditions have these indices, by their shapes and the kinds of these. A group
-/// without marks has a shape of its own. Groups that are alone in their shape count as of one shape where
-/// they are of one kind.
+/// The groups whose first conditions have these indices, by their shapes and the kinds of these. A
+/// group without marks has a shape of its own. Groups that are alone in their shape count as of one
+/// shape where they are of one kind.
 pub(crate) fn by_shape(
     alloc: Global,
     conditions: &[Condition],

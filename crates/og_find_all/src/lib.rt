@@ -1,9 +1,9 @@
 //! The finder over all conditions of an outline, by workers in threads.
 //!
-//! Conditions with equal facts are searched once, and of those that differ in the names of variables
-//! alone one leads: its certificate is tried for the others before they are searched. What is
-//! handed out was checked, by replay or by evaluation; that equal facts are searched once, and that
-//! several threads work, is only tested.
+//! Conditions with equal facts are searched once, and of those that differ in the names of
+//! variables alone one leads: its certificate is tried for the others before they are searched. The
+//! result is handed out was checked, by replay or by evaluation; that equal facts are searched
+//! once, and that several threads work, is only tested.
 #![tactic(auto)]
 
 mod checking;

@@ -5,7 +5,7 @@ use og_find::{Verdict, examine};
 use og_pool::{Gate, Numbered};
 use std::alloc::{AllocError, Global};
 
-/// The condition at each of these indices is searched, and a gate is told of each search by the
+/// The condition at each of these indices is searched, and a gate hears of each search by the
 /// its number.
 #[derive(Clone, Copy)]
 pub(crate) struct Searching<'a, 'c, G> {

@@ -26,8 +26,8 @@ use std::marker::Model;
 use std::sync::Wait;
 use std::thread::Threads;
 
-/// Certificates that searches found for conditions. Contracts see them as their text in version 1, of
-/// which no more is made than is written at a time; lines that conditions share are kept once.
+/// Certificates that searches found for conditions. Contracts see them as their text in version 1,
+/// of which no more is made than is written at a time; lines that conditions share are kept once.
 #[derive(Debug, Drop)]
 pub struct Certificates {
     findings: Findings,
@@ -114,7 +114,7 @@ impl Writing<'_> {
         }
     }
 
-    // What is left of the room after the entry of the condition at the index, which is made for that.
+    // The rest of the room after the entry of the condition at the index, which is made for that.
     fn left_after_entry(
         &self,
         text: &mut Vec<u8>,
@@ -130,7 +130,7 @@ impl Writing<'_> {
         Ok(room.checked_sub(text.len()))
     }
 
-    // What is left of the room after the entries of all conditions.
+    // The rest of the room after the entries of all conditions.
     fn left_after_entries(&self, alloc: Global, room: usize) -> Result<Option<usize>, AllocError>
         requires lines { AreLines self.now.findings.now.verdicts.items self.now.lines.now }
         requires few { vec_len self.now.findings.now.own ≤ 999999999 }
@@ -147,7 +147,7 @@ impl Writing<'_> {
         Ok(Some(left))
     }
 
-    // Whether the text of all certificates has at most so many bytes.
+    // Whether the text of all certificates has at most this many bytes.
     fn is_within(&self, alloc: Global, limit: usize) -> Result<bool, AllocError>
         requires lines { AreLines self.now.findings.now.verdicts.items self.now.lines.now }
         requires few { vec_len self.now.findings.now.own ≤ 999999999 }
@@ -179,7 +179,8 @@ impl Writing<'_> {
         Ok(())
     }
 
-    // Writes the text and after it the entries of all conditions; but for an end, which is the text then.
+    // Writes the text and after it the entries of all conditions; but for an end, which is the text
+    // then.
     fn write_entries<W: Write>(&self, out: &mut W, text: &mut Vec<u8>) -> Result<(), OutputFault>
         requires lines { AreLines self.now.findings.now.verdicts.items self.now.lines.now }
         requires few { vec_len self.now.findings.now.own ≤ 999999999 }
@@ -235,7 +236,7 @@ impl Findings {
         !matches!(self.verdict(index), Some(Verdict::True(_)))
     }
 
-    // The lines of the certificate of the verdict at each place, which so many workers make.
+    // The lines of the certificate of the verdict at each place, which this many workers make.
     fn lines<R: Threads + Wait + Sync>(
         &self,
         rt: &R,
@@ -270,8 +271,8 @@ impl Findings {
         Missing { count, conditions }
     }
 
-    // The text with these lines, where it has at most so many bytes, and so many conditions without a
-    // certificate.
+    // The text with these lines, where it has at most this many bytes, and this many conditions
+    // without a certificate.
     fn within(
         self,
         alloc: Global,
@@ -304,10 +305,10 @@ impl Findings {
         }))
     }
 
-    /// The text in version 1 of the certificates, each under the number of its condition, counted from
-    /// 1, and how many conditions have none; the certificates alone where the text would have more bytes
-    /// than the limit. So many workers make the lines of the text. The text is that of the file of
-    /// `certificates`, and the same for every number of workers.
+    /// The text in version 1 of the certificates, each under the number of its condition, counted
+    /// from 1, and how many conditions have none; the certificates alone where the text would have
+    /// more bytes than the limit. So many workers make the lines of the text. The text is that of
+    /// the file of `certificates`, and the same for every number of workers.
     ///
     /// # Errors
     ///

@@ -12,7 +12,7 @@ one_more word n (m ∷ ns) comma first rest = (comma, first, rest)
 same_number : (text : List ℕ) (n m : ℕ) → IsNumber text n → IsNumber text m → n ≡ m
 same_number text n m a b = a.value ∙ sym b.value
 
--- what is before the first comma is the first number
+-- the part before the first comma is the first number
 parted : (word : List ℕ) (all : List ℕ) → position_or_len is_comma word < length word → AreNumbers word all
     → (n : ℕ) × (ns : List ℕ) × (all ≡ n ∷ ns) × IsNumber (before_first is_comma word) n × AreNumbers (after_first is_comma word) ns
 parted word [] comma are = absurd are

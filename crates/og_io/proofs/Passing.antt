@@ -1,4 +1,4 @@
--- What is written of a text that is made piece by piece.
+-- The written part of a text that is made piece by piece.
 use Rattle.std.proofs.Common.{◌≡◌, refl, ℕ, List, [], ◌++◌, Option, Result, Ok, Err, IfErr, ap, sym, subst, ◌∙◌, append_assoc, append-nil}
 use Rattle.std.proofs.KnownBytes.{Appends-nil, Appends-trans}
 use Rattle.std.specs.Io.KnownBytes.{Appends}

@@ -1,4 +1,4 @@
--- What is written of a text: a front of it, or piece by piece.
+-- The written part of a text: a front of it, or piece by piece.
 use Rattle.std.specs.Prelude.{◌≡◌, ℕ, List, ◌++◌, Option}
 use Rattle.std.specs.Io.KnownBytes.{Appends}
 

@@ -26,7 +26,7 @@ impl Model for Budget {
 }
 
 impl Budget {
-    /// A budget of so many facts; `None` where it is none, or more than 1,000,000,000.
+    /// A budget of this many facts; `None` where it is none, or more than 1,000,000,000.
     pub fn new(facts: u64) -> Option<Budget>
         ensures same { IfSome result (λ n. n ≡ facts) }
         ensures within { IfSome result (λ _. (1 ≤ facts) × (facts ≤ 1000000000)) }

@@ -11,7 +11,7 @@ use thiserror::Error;
 /// Why a text was not written whole; some bytes of it may have been written.
 #[derive(Clone, Copy, Debug, PartialEq, Eq, Error)]
 pub enum WriteFault {
-    /// Nobody reads any more what is written: the other end of the pipe is closed.
+    /// Nobody reads the text any more: the other end of the pipe is closed.
     #[error("nobody reads")]
     Closed,
     /// The writer failed.

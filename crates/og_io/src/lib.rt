@@ -1,6 +1,6 @@
-//! What is read and written, and numbers within their limits.
+//! Reading, writing, and numbers within their limits.
 //!
-//! specs/Reading.antt and Joined.antt say what is read, Written.antt what is written, Numbers.antt
+//! specs/Reading.antt and Joined.antt define the reading, Written.antt the writing, Numbers.antt
 //! which numbers a word lists.
 #![tactic(auto)]
 

@@ -26,7 +26,7 @@ impl Model for MomentLimit {
 }
 
 impl MomentLimit {
-    /// A limit of so many moments; `None` where it is none, or more than 1,000,000.
+    /// A limit of this many moments; `None` where it is none, or more than 1,000,000.
     pub fn new(moments: u32) -> Option<MomentLimit>
         ensures same { IfSome result (λ n. n ≡ moments) }
         ensures within { IfSome result (λ _. (1 ≤ moments) × (moments ≤ 1000000)) }

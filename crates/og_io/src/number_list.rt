@@ -27,8 +27,8 @@ fn parted(text: &str) -> Option<(&str, &str)>
     text.split_once(',')
 }
 
-/// The numbers of a word, with a comma between two; each has 32 bits, one digit or more, and no sign.
-/// `None` where the word is anything else: so of the empty one.
+/// The numbers of a word, with a comma between two; each has 32 bits, one digit or more, and no
+/// sign. `None` where the word is anything else: so of the empty one.
 ///
 /// # Errors
 ///

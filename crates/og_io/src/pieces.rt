@@ -10,7 +10,7 @@ use std::io::Write;
 // How many bytes are made before they are written.
 const PIECE: usize = 8_192;
 
-/// Writes what was made, where it is long; what is short is held back.
+/// Writes the text made so far, where it is long; a short one is held back.
 ///
 /// # Errors
 ///

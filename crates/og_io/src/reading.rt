@@ -90,8 +90,8 @@ fn zeros(alloc: Global, count: usize) -> Result<Vec<u8>, AllocError>
 ///
 /// # Errors
 ///
-/// `Failed` where the reader failed, or had not ended after 100,000,000 reads; never where nothing is
-/// to be read. `Memory` where an allocation was refused.
+/// `Failed` where the reader failed, or had not ended after 100,000,000 reads; never where nothing
+/// is to be read. `Memory` where an allocation was refused.
 pub fn read_up_to<R: Read>(alloc: Global, reader: &mut R, most: usize) -> Result<Vec<u8>, ReadFault>
     ensures text { IfOk result (λ text. IfSome (R.remaining reader.old) (λ input. text.items ≡ take most input)) }
     ensures consumed { IfOk result (λ text. Consumes (R.remaining reader.old) (R.remaining reader.new) text.items) }

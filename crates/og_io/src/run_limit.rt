@@ -26,7 +26,7 @@ impl Model for RunLimit {
 }
 
 impl RunLimit {
-    /// A limit of so many steps; `None` above 1,000,000.
+    /// A limit of this many steps; `None` above 1,000,000.
     pub fn new(steps: u32) -> Option<RunLimit>
         ensures same { IfSome result (λ n. n ≡ steps) }
         ensures within { IfSome result (λ _. steps ≤ 1000000) }

@@ -43,7 +43,7 @@ told_is n file (c ∷ cs) (s ∷ ss) len each =
         → slice_get ss i ≡ Some (by_condition (slice_get cs i) (certificate_of (suc n + i) file))
     later i e = e ∙ ap (λ k. Some (by_condition (slice_get cs i) (certificate_of k file))) (omega arith)
 
--- the statuses that were told give the entries
+-- the statuses make the entries
 pub listed_entries : (conds : List its.Condition) (file : CertFile) (ss : List Status) (cs : List Condition) (es : List Entry) → map seen conds ≡ cs
     → length ss ≡ length conds → ((i : ℕ) → i < length conds → slice_get ss i ≡ Some (status_of conds file (i + 1)))
     → es ≡ told_from (map seen conds) ss → es ≡ entries_from 1 (shown file) cs

@@ -1,4 +1,4 @@
--- What is found of the conditions of an outline by a text of certificates.
+-- The findings on the conditions of an outline by a text of certificates.
 use Rattle.std.specs.Prelude.{◌≡◌, ℕ, suc, ◌<◌, ◌≤◌, List, [], ◌∷◌, length, Bool, true, false, Option, Some, None, IsSome, Ok, take, slice_get, ◌-◌}
 use Rattle.std.specs.List.{list_all}
 use Rattle.og_typed.specs.Syntax.{Program}
@@ -47,7 +47,7 @@ pub record IsStray (certs : List ℕ) (o : Program) (n : ℕ) : Type 0 where
   pub there : IsSome (certificate_of n file)
   pub least : (m : ℕ) → length (conditions o) < m → m < n → certificate_of m file ≡ None
 
--- what is wrong with an outline and the text of its certificates
+-- the fault of an outline and the text of its certificates
 abbrev pub AreRefused : List ℕ → Program → InputFault → Type 0
 AreRefused certs o (faults.Source fault) = ⊥
 AreRefused certs o (faults.Conditions fault) = condition_limit < length (conditions o)

@@ -1,4 +1,4 @@
--- What is reported of a source and a text of certificates: the first fault, or the status of each condition.
+-- The report of a source and a text of certificates: the first fault, or the status of each condition.
 use Rattle.std.specs.Prelude.{ℕ, List}
 use Rattle.og_typed.specs.Syntax.{Program}
 use Rattle.og_typed.specs.Source.{IsSource}

@@ -1,4 +1,4 @@
-//! What is found of a condition.
+//! The finding on a condition.
 
 ghost use Rattle.std.specs.Prelude.{◌≡◌};
 ghost use Rattle.og_judge.specs.Entries.{is_proved};
@@ -11,7 +11,7 @@ use og_pool::Status;
 pub struct Entry {
     /// What it asks.
     pub kind: Kind,
-    /// The byte offset of what is asked about.
+    /// The byte offset of the part asked about.
     pub at: u32,
     /// The byte offset of the action, of interference alone.
     pub action_at: Option<u32>,

@@ -45,8 +45,8 @@ impl Judgement {
         self.findings.entries()
     }
 
-    /// Whether every condition but the last is proved. Then every run of the outline is as promised,
-    /// with its auxiliaries and without them.
+    /// Whether every condition but the last is proved. Then every run of the outline is as
+    /// promised, with its auxiliaries and without them.
     pub fn safe(&self) -> bool
         ensures value { result ≡ is_safe (entries_of self.now) }
         ensures sound { result ≡ true → IsSound (outline_of self.now) }

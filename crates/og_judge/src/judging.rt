@@ -61,7 +61,7 @@ fn count_of(conditions: &[Condition]) -> u32
     conditions.len() as u32
 }
 
-// What is found of the conditions of an outline.
+// The findings on the conditions of an outline.
 fn judge_conditions<G: Gate, R: Threads + Wait + Sync>(
     rt: &R,
     alloc: Global,
@@ -115,15 +115,15 @@ fn concluded(outline: &Outline, entries: Vec<Entry>) -> Findings
     Findings::new(Verdict::new(outline, safe, unblocked), entries)
 }
 
-/// What is found of an outline by the certificates of a text and by so many workers. It is the same
-/// for every number of workers.
+/// The findings on an outline by the certificates of a text and by this many workers. They are the
+/// same for every number of workers.
 ///
 /// # Errors
 ///
-/// `Input` with the first that applies: `Conditions` where there are more than 4,000,000 conditions;
-/// `Certs`, why the text of the certificates is not read; `Stray` with the least number that has a
-/// certificate and no condition. `Spawn`, of two workers or more, where a thread could not be
-/// started, and `Memory` where an allocation was refused, may stand in place of any answer.
+/// `Input` with the first that applies: `Conditions` where there are more than 4,000,000
+/// conditions; `Certs`, why the text of the certificates is not read; `Stray` with the least number
+/// that has a certificate and no condition. `Spawn`, of two workers or more, where a thread could
+/// not be started, and `Memory` where an allocation was refused, may stand in place of any answer.
 pub fn judge_outline<G: Gate, R: Threads + Wait + Sync>(
     rt: &R,
     alloc: Global,
@@ -141,8 +141,8 @@ pub fn judge_outline<G: Gate, R: Threads + Wait + Sync>(
     Ok(concluded(outline, entries))
 }
 
-/// The judgement of a source by the certificates of a text, found by so many workers, from 1 to 64.
-/// It is the same for every number of workers.
+/// The judgement of a source by the certificates of a text, found by this many workers, from 1 to
+/// 64. It is the same for every number of workers.
 ///
 /// # Errors
 ///

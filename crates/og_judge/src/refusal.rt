@@ -52,8 +52,8 @@ impl Refusal {
         }
     }
 
-    /// What a command answers to it: the line of a fault, with status 2. A source in which the fault
-    /// has a place has at most 1,048,576 bytes.
+    /// What a command answers to it: the line of a fault, with status 2. A source in which the
+    /// fault has a place has at most 1,048,576 bytes.
     ///
     /// # Errors
     ///

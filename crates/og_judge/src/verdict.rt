@@ -1,4 +1,4 @@
-//! What is known of an outline.
+//! The facts known of an outline.
 
 ghost use Rattle.std.specs.Prelude.{◌≡◌, true, is_some, IfSome};
 ghost use Rattle.og_judge.specs.Judged.{judged};
@@ -9,7 +9,7 @@ use og_typed::Outline;
 use std::marker::Model;
 use std::snapshot::Snapshot;
 
-/// What is known of an outline, which clauses see: where `safe` says so, every condition but the
+/// The facts known of an outline, which clauses see: where `safe` says so, every condition but the
 /// last is true, and where `unblocked` says so, the last one is.
 #[derive(Drop)]
 pub(crate) struct Verdict {

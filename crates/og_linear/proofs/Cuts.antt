@@ -75,7 +75,7 @@ ceil_above c d h = go (int_lt (pos 0) (int_rem c d)) refl
         let none : pos 0 *ℤ d ≡ pos 0 = omega (arith, ints) in
         omega (arith, ints, q, m, none)
 
--- what is at most 0 before a cut is at most 0 after it
+-- a value that is at most 0 before a cut is at most 0 after it
 round_up : (x c d : ℤ) → pos 1 ≤ℤ d → (d *ℤ x +ℤ c) ≤ℤ pos 0 → (x +ℤ ceil_div c d) ≤ℤ pos 0
 round_up x c d h k = go (int_le (x +ℤ ceil_div c d) (pos 0)) refl
   where

@@ -85,7 +85,7 @@ module _ {X : Type 0} (read : ℕ → Reader X) (is : ℕ → Language X) {longe
   is_whole : (n : ℕ) (x : X) (tokens : List Token) → is n x tokens → IsWhole n x tokens
   is_whole n x tokens h = record { head = x; front = tokens; back = []; parts = sym (append-nil tokens); is_first = h; is_second = (refl, refl) }
 
-  -- what is in the language is read
+  -- a text of the language is read
   read_whole : (n : ℕ) (x : X) (tokens : List Token) → is n x tokens → whole_at (read n) tokens ≡ Ok (x, [])
   read_whole n x tokens h = ap (whole_at (read n)) (sym (append-nil tokens)) ∙ (whole_laws n).again x tokens [] (is_whole n x tokens h) refl
 

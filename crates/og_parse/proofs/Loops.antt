@@ -9,7 +9,7 @@ use Rattle.og_parse.specs.Language.{Language}
 use Rattle.og_parse.specs.Reading.{Outcome, Reader, ◌>>=◌, is_a, starts, symbol_at, some_at, many_at, after_at, taken, token_at}
 use Rattle.og_parse.proofs.Languages.{Laws, Starts, ok_is, chosen_ok}
 
--- what is left is no longer; what is left is shorter
+-- the rest is no longer; the rest is shorter
 abbrev pub Onward : {X : Type 0} → Reader X → Type 0
 Onward {X} read = (tokens : List Token) (x : X) (rest : List Token) → read tokens ≡ Ok (x, rest) → length rest ≤ length tokens
 
@@ -78,7 +78,7 @@ module _ {X : Type 0} (test : ℕ → Bool) {each : Reader X} (on : Shortens eac
       let less = on.shortens tokens x mid at_each in
       ap (λ (n : ℕ). some n tokens) long.1 ∙ rw (goes, at_each) (ap (λ (r : Outcome (List X)). r >>= λ xs. Ok (x ∷ xs.0, xs.1)) (same_fuel long.0 (length mid) mid (omega (arith, long.1)) (omega arith)))
 
--- what was read before, and what is still read
+-- the part read before, and the part still to be read
 abbrev pub with_front : {X : Type 0} → List X → Outcome (List X) → Outcome (List X)
 with_front front read = read >>= λ x. Ok (front ++ x.0, x.1)
 

@@ -18,7 +18,7 @@ module _ (levels statements : ℕ) (tokens : List Token) where
   Blocked before [] = (outline : Outline) → IsOutline levels outline before → ⊥
   Blocked before (token ∷ after) = Begins (IsOutline levels) (before ++ token ∷ []) → statement_count (before ++ token ∷ []) ≤ statements → ⊥
 
-  -- what is wrong at a place
+  -- the fault at a place
   abbrev Wrong : ParseFault → List Token → List Token → Type 0
   Wrong (faults.Expected span) before rest = GoesNowhere before rest × (span ≡ place_of before rest)
   Wrong (faults.TooDeep span) before [] = ⊥

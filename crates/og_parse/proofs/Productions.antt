@@ -1,4 +1,4 @@
--- Parts of the grammar by names, for what is proved of them.
+-- Parts of the grammar by names, for the proofs about them.
 use Rattle.std.proofs.Common.{ℕ, List, [], ◌∷◌}
 use Rattle.og_text.specs.declared.token.TokenKind.TheVariants as kinds
 use Rattle.og_parse.specs.Language.{Language, Placed, After, Word, Map, Before, Between, Separated}

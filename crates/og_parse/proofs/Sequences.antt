@@ -14,7 +14,7 @@ use Rattle.og_parse.specs.Trees.{Note, Step, Stmt, Seq, item, sequence}
 use Rattle.og_parse.specs.Parts.{step_of}
 use Rattle.og_parse.specs.TreeOf.{Item, items_then, item_of, item_of_step, note_of, stmt_of, stmt_step, item_step, seq_step}
 
--- the items so far, the assertion after them, and what is still read
+-- the items so far, the assertion after them, and the part still to be read
 abbrev pub with_items : List Item → Note → Outcome (List Step) → Outcome Seq
 with_items items before read = read >>= λ steps. Ok (items_then items (sequence before steps.0), steps.1)
 

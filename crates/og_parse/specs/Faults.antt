@@ -60,7 +60,7 @@ IsFault levels statements tokens (faults.TooDeep span) =
 IsFault levels statements tokens (faults.TooManyStatements span) =
     (before after : List Token) × (token : Token) × ComesTo levels statements tokens before (token ∷ after) × IsTooMany statements before token × (span ≡ token.span)
 
--- ---- how a fault is told
+-- ---- how a fault is reported
 
 abbrev pub fault_number : ParseFault → ℕ
 fault_number (faults.Expected span) = 7

@@ -79,7 +79,7 @@ module _ (openings : Openings) where
     left ← IsDisjunctionWith
     Either (openings.implied left) (Gives left)
 
--- the openings where at most so many levels may be open
+-- the openings where at most this many levels may be open
 abbrev pub openings : ℕ → Openings
 openings zero = record { prefix = Never; implied = λ left. Never }
 openings (suc n) = record {
@@ -155,7 +155,7 @@ module _ (n : ℕ) (awaits : Bool) where
       others ← Many IsStepWith
       Gives (sequence before (first ∷ others))
 
-  -- the statements that open a level, where at most so many may be open
+  -- the statements that open a level, where at most this many may be open
   abbrev pub compounds : ℕ → Language Stmt
   compounds zero = Never
   compounds (suc k) = Either (IsIf n (IsSeqWith (compounds k))) (IsWhile n (IsSeqWith (compounds k)))

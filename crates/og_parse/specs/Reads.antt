@@ -158,7 +158,7 @@ module _ (opens : Opens) where
 unfoldable pub prefix_by : Opens → Reader Assertion
 prefix_by inner tokens = if starts (is_a kinds.Not) tokens then negation_by (unit_by inner) tokens else in_parens_by (assertion_by inner) tokens
 
--- where at most so many levels may be open
+-- where at most this many levels may be open
 abbrev pub opens : ℕ → Opens
 opens zero = record { prefix = shut_at; implied = λ left. shut_at }
 opens (suc n) = record { prefix = prefix_by (opens n); implied = implied_by (assertion_by (opens n)) }
@@ -312,7 +312,7 @@ main_at n = if_symbol_at kinds.Begin (rest_of_block_by (seq_at n false n))
 unfoldable pub processes_at : ℕ → Reader (List Seq)
 processes_at n = separated_at kinds.Parallel (seq_at n true n)
 
--- what is declared
+-- a declaration
 unfoldable pub declarations_at : Reader (List RawName × List RawAux)
 declarations_at tokens = do
   vars ← if_symbol_at kinds.Var (listed_by names_at) tokens

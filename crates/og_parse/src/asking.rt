@@ -55,9 +55,9 @@ fn admitted(
     Ok(if goes_on { Some(kind) } else { None })
 }
 
-/// What may stand behind the tokens `before`, each of which holds some bytes: the kinds of the symbols
-/// with which an outline within the limits goes on, in the order of [`TokenKind`]. A name and a number
-/// are there for all of them. Parses 38 times as many tokens.
+/// What may stand behind the tokens `before`, each of which holds some bytes: the kinds of the
+/// symbols with which an outline within the limits goes on, in the order of [`TokenKind`]. A name
+/// and a number are there for all of them. Parses 38 times as many tokens.
 ///
 /// # Errors
 ///

@@ -90,7 +90,8 @@ impl<'a> Cursor<'a> {
         found
     }
 
-    /// Reads a keyword or symbol, and returns its place. A fault goes past nothing. Takes no memory.
+    /// Reads a keyword or symbol, and returns its place. A fault goes past nothing. Takes no
+    /// memory.
     #[tactic(auto, using(crate::proofs::Symbols::no_symbol))]
     pub fn expect(&mut self, kind: &TokenKind) -> Result<Span, Refusal>
         ensures read { IsRead (λ span. span) result self.new (symbol_at kind.now self.old) }

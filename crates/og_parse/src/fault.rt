@@ -7,7 +7,7 @@ use og_text::Span;
 use std::alloc::{AllocError, AllocFailed};
 use thiserror::Error;
 
-/// What is wrong with a list of tokens, and the place of the token at which it is found.
+/// The fault of a list of tokens, and the place of the token at which it is found.
 #[derive(Clone, Copy, Debug, Drop, PartialEq, Eq, Error)]
 pub enum ParseFault {
     /// No outline goes on with this token. Where the tokens end too early, the place is the empty

@@ -2,13 +2,14 @@
 //!
 //! [`parse`] returns the tree that the tokens stand for, or the first fault in token order. The
 //! grammar itself is in specs/Grammar.antt, as relations between trees and lists of tokens, and the
-//! faults are in specs/Faults.antt; both are apart from the reading, which goes from left to right with
-//! one token of look-ahead ([`Cursor`]). [`one_tree`], [`one_answer`] and [`one_count`] are laws about
-//! them, with nothing to run.
+//! faults are in specs/Faults.antt; both are apart from the reading, which goes from left to right
+//! with one token of look-ahead ([`Cursor`]). [`one_tree`], [`one_answer`] and [`one_count`] are
+//! laws about them, with nothing to run.
 //!
-//! [`expected`] finds which symbols may stand at a place by asking the parser itself: it puts a token of
-//! each kind behind the tokens before the place, and sees whether some outline within the limits begins
-//! so. [`alike`] is a law: another name, number or place of a token makes no difference.
+//! [`expected`] finds which symbols may stand at a place by asking the parser itself: it puts a
+//! token of each kind behind the tokens before the place, and sees whether some outline within the
+//! limits begins so. [`alike`] is a law: another name, number or place of a token makes no
+//! difference.
 #![tactic(auto)]
 
 mod asking;

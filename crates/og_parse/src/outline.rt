@@ -128,7 +128,7 @@ fn processes(alloc: Global, levels: u32, cursor: &mut Cursor) -> Result<RawProce
     Ok(RawProcesses { first, others })
 }
 
-// What is declared.
+// A declaration.
 #[tactic(auto, unfolding(crate::specs::Reads::declarations_at))]
 fn declarations(alloc: Global, cursor: &mut Cursor) -> Result<(Vec<RawName>, Vec<RawAux>), Refusal>
     ensures { IsRead (λ x. (x.0.items, x.1.items)) result cursor.new (declarations_at cursor.old) }

@@ -5,7 +5,7 @@ ghost use Rattle.og_parse.specs.declared.refusal.Refusal.TheVariants.{Memory};
 
 use std::alloc::{AllocError, AllocFailed};
 
-/// What is wrong at a token.
+/// The fault at a token.
 #[derive(Clone, Copy, Debug, Drop, PartialEq, Eq)]
 pub enum FaultKind {
     /// No list of the grammar goes on with the token.

@@ -17,7 +17,7 @@ all_at P xs i x h at = subst P (get_or_from_slice_get xs i x x at) (h i x (slice
 pub none_right : {A : Type 0} (is : ℕ → A → Type 0) (slots : List (Option A)) → All (λ s. s ≡ None) slots → AreRight is slots
 none_right is slots h i a at = let no : Some a ≡ None = all_at (λ s. s ≡ None) slots i (Some a) h at in absurd (cc)
 
--- a task that is told of before the last one, or last
+-- a task is answered before the last one, or last
 snoc_at : {A : Type 0} (xs : List (Told A)) (t : Told A) (n k : ℕ) (u : Told A) → slice_get (xs ++ t ∷ []) k ≡ Some u → u.number ≡ n → Tells xs n ⊎ (t.number ≡ n)
 snoc_at {A} [] t n zero u at number = inr (let same : t ≡ u = cc in ap (λ (q : Told A). q.number) same ∙ number)
 snoc_at [] t n (suc k) u at number = absurd (cc)

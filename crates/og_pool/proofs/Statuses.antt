@@ -1,4 +1,4 @@
--- The status of a condition, by what is found of it.
+-- The status of a condition, by the finding on it.
 use Rattle.std.proofs.lemmas.Option.{slice_get_cases}
 use Rattle.std.proofs.Common.{◌≡◌, ℕ, zero, suc, ◌+◌, ◌-◌, ◌<◌, ◌≤◌, ⊎_elim, arith, length, get_or, List, [], ◌∷◌, map, slice_get, Option, Some, None, Ok, Err, refl, sym, ap, ◌∙◌}
 use Rattle.og_facts.specs.Answer.{IsFacts}

@@ -64,7 +64,7 @@ both_draws count is xs ys zs told more all drawn same f g = rw (drawn, same) (
       (eq-or-lt_of_le {n = 0} {m = times x xs} (omega arith)),
 )
 
--- what is owed of each part holds of each gain
+-- the gain owed for each part holds of each gain
 pub each_gain : {A B : Type 0} (P : B → Type 0) (xs : List A) (ys : List B) → AllZip (λ _ y. P y) xs ys → (length ys ≡ length xs) × All P ys
 each_gain P [] [] h = (refl, All-nil P)
 each_gain P [] (y ∷ ys) h = absurd h

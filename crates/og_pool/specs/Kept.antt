@@ -21,7 +21,7 @@ IsLast cs last = (c : Condition) × (slice_get cs last.index ≡ Some c) × IsPr
 abbrev pub IsOfEqual : List Condition → ℕ → Action → Type 0
 IsOfEqual cs index action = (c : Condition) × (before : Action) × (slice_get cs index ≡ Some c) × (c.action ≡ Some before) × (action_tree before ≡ action_tree action)
 
--- what is kept, if anything is, is such a map
+-- the value kept, if there is one, is such a map
 abbrev pub KeepsMap : List Condition → Option Last → Type 0
 KeepsMap cs None = ⊤
 KeepsMap cs (Some last) = IsLast cs last

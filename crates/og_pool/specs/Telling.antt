@@ -8,11 +8,11 @@ use Rattle.og_pool.specs.declared.told.Told.{Told}
 abbrev pub IsRight : {A : Type 0} → (ℕ → A → Type 0) → Told A → Type 0
 IsRight is t = (0 < t.number) × is t.number t.answer
 
--- the task n is told of
+-- the task n is answered
 abbrev pub Tells : {A : Type 0} → List (Told A) → ℕ → Type 0
 Tells {A} told n = (k : ℕ) × (t : Told A) × (slice_get told k ≡ Some t) × (t.number ≡ n)
 
--- a number past the tasks was drawn, and each task that was drawn is told of, each with an answer that it may have
+-- a number past the tasks was drawn, and each task that was drawn has an answer that it may have
 abbrev pub DrawsDone : {A : Type 0} → ℕ → (ℕ → A → Type 0) → List ℕ → List (Told A) → Type 0
 DrawsDone count is drawn told = (0 < past count drawn) × All (IsRight is) told × ((x : ℕ) → x < count → 0 < times x drawn → Tells told (x + 1))
 

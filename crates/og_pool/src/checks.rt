@@ -43,7 +43,7 @@ pub(crate) struct Kept {
     replays: Vec<Replayed>,
 }
 
-// What the workers read, and who is told of them.
+// The texts that the workers read, and the gate that hears of them.
 #[derive(Clone, Copy)]
 struct Checks<'a, 'c, G> {
     alloc: Global,
@@ -63,14 +63,14 @@ fn replayed(alloc: Global, list: &FactList, cert: &Cert) -> Result<Status, Alloc
     }
 }
 
-// Whether a replay takes no longer than a look for an earlier one: of one line, with no more terms than
-// there are facts.
+// Whether a replay takes no longer than a look for an earlier one: of one line, with no more terms
+// than there are facts.
 fn is_short(cert: &Cert, facts: usize) -> bool {
     let is_short_line = matches!(&cert.finish, Finish::Close(terms) if terms.len() <= facts);
     cert.steps.is_empty() && is_short_line
 }
 
-// What is answered where the map of the action could not be made. A map that does not fit is told
+// The answer where the map of the action could not be made. A map that does not fit is reported
 // in its turn: where there are too many facts, that is the fault.
 fn unprepared<'c>(
     alloc: Global,
@@ -134,8 +134,8 @@ impl<'a, 'c, G> Checks<'a, 'c, G> {
         mark_with_facts(place as u64, list.as_slice())
     }
 
-    // Whether two conditions, the first of which has these facts, are seen to have one certificate and
-    // equal facts.
+    // Whether two conditions, the first of which has these facts, are seen to have one certificate
+    // and equal facts.
     fn is_like(
         &self,
         alloc: Global,
@@ -283,14 +283,14 @@ impl<'a, 'c, G: Gate> Numbered for Checks<'a, 'c, G> {
     }
 }
 
-/// The status of each condition, in their order, found by so many workers. It is the same for every
-/// number of workers: a function of the condition and of its certificate. Of conditions that have one
-/// certificate and equal facts a worker replays it over those of the first, as long as it remembers what
-/// came of that.
+/// The status of each condition, in their order, found by this many workers. It is the same for
+/// every number of workers: a function of the condition and of its certificate. Of conditions that
+/// have one certificate and equal facts a worker replays it over those of the first, as long as it
+/// remembers what came of that.
 ///
 /// The workers draw the conditions one after another, each in a thread of its own; the calling
-/// thread is one of them. `begin` is told how many conditions there are, `before(n)` before condition
-/// n is looked at, `after(n)` when its status is known.
+/// thread is one of them. `begin` hears how many conditions there are, `before(n)` comes before
+/// condition n is looked at, `after(n)` when its status is known.
 ///
 /// # Errors
 ///

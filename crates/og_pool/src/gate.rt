@@ -1,6 +1,6 @@
-//! Who is told of the workers' progress.
+//! Gates, which hear of the workers' progress.
 
-/// Is told before and after each condition. What it does has no part in the answers.
+/// Hears of each condition before and after it. It has no part in the answers.
 pub trait Gate: Sync {
     /// So many conditions are to be looked at.
     fn begin(&self, _count: u32) {}
@@ -11,7 +11,7 @@ pub trait Gate: Sync {
     /// The status of this condition is known.
     fn after(&self, task: u32);
 
-    /// A run begins, which makes at most so many steps; `after` tells of each.
+    /// A run begins, which makes at most this many steps; `after` tells of each.
     fn begin_run(&self, _limit: u32) {}
 
     /// The run has ended.

@@ -15,7 +15,7 @@ pub trait Job: Sync {
     /// The parts that can be done.
     ghost can: { Self → Self.Part → Type 0 };
 
-    /// What is owed of the gain of a part.
+    /// The gain owed for a part.
     ghost owes: { Self → Self.Part → Self.Gain → Type 0 };
 
     /// The faults with which a part may end.

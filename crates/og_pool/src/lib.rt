@@ -1,7 +1,8 @@
 //! Workers that draw conditions from one word, and a status for each condition.
 //!
-//! [`in_threads`] does the parts of one job in threads. [`Draws`] hands out the numbers of tasks, each
-//! once, and [`answers`] returns the answers of all tasks in order. [`check_all`] replays certificates so.
+//! [`in_threads`] does the parts of one job in threads. [`Draws`] hands out the numbers of tasks,
+//! each once, and [`answers`] returns the answers of all tasks in order. [`check_all`] replays
+//! certificates so.
 #![tactic(auto)]
 
 mod checks;

@@ -1,5 +1,5 @@
-//! Marks of facts: numbers that are the same for equal facts, and tell others apart but for a chance of
-//! the hash.
+//! Marks of facts: numbers that are the same for equal facts, and tell others apart but for a
+//! chance of the hash.
 
 use og_facts::{Atom, Fact};
 use og_search_rows::{last_bits, next_mark};

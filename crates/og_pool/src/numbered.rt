@@ -6,7 +6,7 @@ use std::alloc::{AllocError, Global};
 pub trait Numbered: Sync {
     ghost use Rattle.std.specs.Prelude.{ℕ, ◌<◌, ◌≤◌, IfOk};
 
-    /// What is answered of a task.
+    /// The answer to a task.
     type Answer: Send + Drop;
 
     /// What a worker keeps from one task to the next.
@@ -18,7 +18,7 @@ pub trait Numbered: Sync {
     /// The answers that the task of this number may have.
     ghost may_answer: { Self → ℕ → Self.Answer → Type 0 };
 
-    /// What is true of all that a worker keeps.
+    /// The property of all that a worker keeps.
     ghost keeps: { Self → Self.Kept → Type 0 };
 
     /// What a worker keeps before its first task.

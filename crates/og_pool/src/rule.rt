@@ -9,7 +9,8 @@ pub(crate) struct Plan {
     pub(crate) workers: u32,
 }
 
-/// What a seat knows: how many workers it stands for, and the numbers that they drew. No value of it is made.
+/// What a seat knows: how many workers it stands for, and the numbers that they drew. No value of
+/// it is made.
 pub(crate) struct Hand {
     pub(crate) workers: u64,
     pub(crate) drawn: LinkedList<u64>,

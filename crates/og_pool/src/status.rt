@@ -1,4 +1,4 @@
-//! What is found of a condition.
+//! The finding on a condition.
 
 use og_cert::ReplayFault;
 

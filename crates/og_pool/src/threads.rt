@@ -91,11 +91,12 @@ fn join_all<J: Job, R: Threads>(
 }
 
 /// Does each part in a thread of its own, but the last one in the calling thread, which starts all
-/// others one after another. All have ended when it returns. The gains are in the order of the parts.
+/// others one after another. All have ended when it returns. The gains are in the order of the
+/// parts.
 ///
 /// # Errors
 ///
-/// `Spawn` where a thread could not be started: the job was told to give up, and the last part was
+/// `Spawn` where a thread could not be started: the job was asked to give up, and the last part was
 /// not begun. So it comes of two parts or more. Else the first fault of a part, in their order; or
 /// `Memory` where an allocation was refused: then no part was begun.
 pub fn in_threads<J: Job, R: Threads + Wait + Sync>(

@@ -40,7 +40,7 @@ fn place<A: Drop>(slots: &mut Vec<Option<A>>, told: Told<A>)
     }
 }
 
-// What was told, each in its slot.
+// The answers, each in its slot.
 fn placed<N: Numbered>(
     alloc: Global,
     tasks: &N,

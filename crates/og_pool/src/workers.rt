@@ -57,7 +57,7 @@ impl<'a, N: Numbered> Job for Workers<'a, N> {
 }
 
 impl<'a, N: Numbered> Workers<'a, N> {
-    // What all workers drew and told, together.
+    // The numbers that all workers drew and their answers, together.
     fn together(
         &self,
         mut gains: Vec<(Drawer, Vec<Told<N::Answer>>)>,
@@ -93,12 +93,12 @@ impl<'a, N: Numbered> Workers<'a, N> {
     }
 }
 
-/// The answer of each task, in their order, found by so many workers. `count` is how many tasks
+/// The answer of each task, in their order, found by this many workers. `count` is how many tasks
 /// there are.
 ///
 /// The workers draw the tasks one after another, each in a thread of its own; the calling thread is
-/// one of them. So where a task may have one answer alone, the answers are the same for every number
-/// of workers.
+/// one of them. So where a task may have one answer alone, the answers are the same for every
+/// number of workers.
 ///
 /// # Errors
 ///

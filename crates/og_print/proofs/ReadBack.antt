@@ -1,4 +1,4 @@
--- What is printed of a tree that was read is read as that tree.
+-- The text printed of a tree that was read is read as that tree.
 use Rattle.std.proofs.Common.{◌≡◌, ℕ, ◌≤◌, ◌^◌, List, length, Result, Ok, Err, sym, ap, subst, ◌∙◌, arith}
 use Rattle.og_text.specs.declared.token.Token.{Token}
 use Rattle.og_text.proofs.OneCut.{one_tokens}
@@ -23,7 +23,7 @@ use Rattle.og_print.proofs.CutText.{source_good, tokens_cut}
 use Rattle.og_print.proofs.CutTree.{cuts_outline}
 use Rattle.og_print.proofs.PlainCounts.{outline_count-plain}
 
--- what is parsed from tokens that stand for the tree again
+-- the tree parsed from tokens that stand for the tree again
 again_by : (levels statements : ℕ) (tree : Outline) (others : List Token) → Again (IsOutline levels) plain tree others → statement_count others ≤ statements
     → (answer : Result Raw ParseError) → IsParsed levels statements others answer → IsAgain tree answer
 again_by levels statements tree others a few (Ok raw) parsed = ap plain (one_outline (tree_of raw) a.value others (levels, parsed.0) (levels, a.is_read)) ∙ a.same

@@ -1,4 +1,4 @@
--- What is printed of a parsed tree is parsed to that tree again.
+-- The text printed of a parsed tree is parsed to that tree again.
 use Rattle.std.specs.Prelude.{◌≡◌, ℕ, ◌≤◌, List, Result, Ok, Err}
 use Rattle.og_text.specs.Cut.{AreTokensOf}
 use Rattle.og_text.specs.declared.token.Token.{Token}

@@ -22,7 +22,7 @@ infixr 30 ◌&◌
 abbrev pub ◌&◌ : {A : Type 0} → List A → List A → List A
 xs & ys = xs ++ ys
 
--- What is put down for a lexeme, for the blank between two lexemes, for a line after its indentation, and for
+-- The text of a lexeme, of the blank between two lexemes, of a line after its indentation, and of
 -- an indentation that is one level deeper.
 pub record Medium (A : Type 0) : Type 0 where
   pub word : TokenKind → List A

@@ -1,8 +1,8 @@
 //! The text of a tree, and two trees compared.
 //!
-//! [`print_outline`] and [`print_program`] return the text of a tree, as specs/Print.antt has it. What
-//! is printed of a parsed tree has the same tree again, apart from its places; [`same_tree`] compares
-//! two trees so.
+//! [`print_outline`] and [`print_program`] return the text of a tree, as specs/Print.antt has it.
+//! What is printed of a parsed tree has the same tree again, apart from its places; [`same_tree`]
+//! compares two trees so.
 #![tactic(auto)]
 
 mod assertions;

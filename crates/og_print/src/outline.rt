@@ -12,8 +12,8 @@ use std::alloc::{AllocError, Global};
 
 /// The text of an outline, with all its assertions.
 ///
-/// Each line ends with LF. Of a tree that was parsed, this text is lexed and parsed to that tree again, apart
-/// from the places, unless it is longer than a source may be.
+/// Each line ends with LF. Of a tree that was parsed, this text is lexed and parsed to that tree
+/// again, apart from the places, unless it is longer than a source may be.
 pub fn print_outline(alloc: Global, raw: &Raw) -> Result<Vec<u8>, AllocError>
     ensures text { IfOk result (λ text. text.items ≡ outline_text (tree_of raw.now)) }
     ensures again { IfOk result (λ text. (levels statements : ℕ) → IsRead levels statements (tree_of raw.now) →

@@ -8,7 +8,7 @@ use std::alloc::AllocError;
 /// An answer, and what goes to standard error beside it.
 #[derive(Debug, Drop)]
 pub struct Told {
-    /// What is printed, and the status.
+    /// The printed text, and the status.
     pub answer: Answer,
     /// What goes to standard error, if anything does; or that memory for it was refused.
     pub note: Result<Option<Vec<u8>>, AllocError>,
@@ -23,8 +23,8 @@ pub struct ToldFound {
     pub note: Result<Option<Vec<u8>>, AllocError>,
 }
 
-/// A word that gives no variable a value or a range, or a schedule or numbers of conditions that are
-/// no list of numbers, or a list with a number that no condition has.
+/// A word that gives no variable a value or a range, or a schedule or numbers of conditions that
+/// are no list of numbers, or a list with a number that no condition has.
 #[derive(Debug, Drop)]
 pub struct BadValue<'a> {
     /// The word.

@@ -39,8 +39,8 @@ impl<'r, F: Files, G: Gate, H: Threads + Wait + Sync> Program<'r, F, G, H> {
         Ok(beside_proof(self.alloc, source, &bytes, reply))
     }
 
-    /// What searches tell of the conditions of a source, or of a template, and of the runs that get to
-    /// states in which they are false, under the values and from the starts that the words give.
+    /// What searches tell of the conditions of a source, or of a template, and of the runs that get
+    /// to states in which they are false, under the values and from the starts that the words give.
     pub(crate) fn prove_runs<'a, I: Read>(
         &self,
         source: &'a str,
@@ -79,8 +79,8 @@ impl<'r, F: Files, G: Gate, H: Threads + Wait + Sync> Program<'r, F, G, H> {
         Ok(Outcome::Told(told))
     }
 
-    /// The same page with the runs that get to states in which conditions are false, from the starts that
-    /// the words give.
+    /// The same page with the runs that get to states in which conditions are false, from the
+    /// starts that the words give.
     pub(crate) fn show_runs<'a, I: Read>(
         &self,
         source: &'a str,

@@ -195,19 +195,20 @@ fn explain<O: Write, E: Write>(alloc: Global, usage: Usage, out: &mut O, err: &m
     }
 }
 
-/// Does a job, or tells why there is none. What a command prints goes to `out`, with its status, from
-/// 0 to 2. Beside it goes to `err` why something is refused, how many certificates are missing for a
-/// check or were not found, or the line of a run along which an assertion is false; and else nothing.
-/// Status 0 of `prove`, of `show`, of a check and of a run with certificates says that the source is proven; and
-/// where what was printed says that it is unblocked, that it never gets stuck. `input` is read where a
-/// source or certificates are named `-`, and for a job that has no files.
+/// Does a job, or tells why there is none. What a command prints goes to `out`, with its status,
+/// from 0 to 2. Beside it goes to `err` why something is refused, how many certificates are missing
+/// for a check or were not found, or the line of a run along which an assertion is false; and else
+/// nothing. Status 0 of `prove`, of `show`, of a check and of a run with certificates says that the
+/// source is proven; and where what was printed says that it is unblocked, that it never gets
+/// stuck. `input` is read where a source or certificates are named `-`, and for a job that has no
+/// files.
 ///
-/// The status is 3, with a text to `err`, where the words are wrong, one gives no variable a value, or
-/// a step of a schedule cannot be made; and 4, with a text to `err`, where a file is not read or `out`
-/// not written, memory runs out or a thread cannot be started. Nothing goes to `out` then, but a front
-/// of the answer where it could not be written whole; and nothing to `err` where nobody reads `out`
-/// any more. The gate is told of the conditions that are checked or searched, and has no part in what
-/// is written.
+/// The status is 3, with a text to `err`, where the words are wrong, one gives no variable a value,
+/// or a step of a schedule cannot be made; and 4, with a text to `err`, where a file is not read or
+/// `out` not written, memory runs out or a thread cannot be started. Nothing goes to `out` then,
+/// but a front of the answer where it could not be written whole; and nothing to `err` where nobody
+/// reads `out` any more. The gate is told of the conditions that are checked or searched, and has
+/// no part in what is written.
 pub fn serve<F: Files, I: Read, O: Write, E: Write, G: Gate, H: Threads + Wait + Sync>(
     rt: &H,
     alloc: Global,

@@ -17,7 +17,8 @@ use std::io::Write;
 // The status of wrong words.
 const WRONG: u8 = 3;
 
-// The status where a file cannot be read or written, memory runs out, or a thread cannot be started.
+// The status where a file cannot be read or written, memory runs out, or a thread cannot be
+// started.
 const FAULT: u8 = 4;
 
 const OUT_OF_MEMORY: &str = "og: out of memory\n";
@@ -152,8 +153,8 @@ fn list<O: Write, E: Write>(alloc: Global, listing: &Listing, out: &mut O, err: 
     }
 }
 
-// Writes certificates as their text is made, and then what goes to standard error beside them; or tells
-// why they are not written whole.
+// Writes certificates as their text is made, and then what goes to standard error beside them; or
+// tells why they are not written whole.
 fn print_found<O: Write, E: Write>(
     alloc: Global,
     certificates: &ToldFound,

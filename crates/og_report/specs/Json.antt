@@ -24,7 +24,7 @@ middle source e rest = member (codes "kind") (string (cond.name_of_kind e.kind))
     (member (codes "line") (natural (line_at source e.at))
     (member (codes "status") (string (status_word e.status)) rest))
 
--- a failed one tells its fault and the step too
+-- a failed one has its fault and the step too
 abbrev pub by_status : List ℕ → Entry → Status → Members
 by_status source e (status.Failed fault) = member (codes "fault") (string (cert.name_of_kind fault.kind))
     (middle source e (member (codes "step") (natural fault.step) no_members))

@@ -54,7 +54,7 @@ fn put_common(
     set_text(members, alloc, "status", word_of(entry.status))
 }
 
-// Sets the members of a condition: one of interference tells its action, a failed one its fault.
+// Sets the members of a condition: one of interference has its action, a failed one its fault.
 fn put_entry(
     members: &mut Map<String, Value>,
     alloc: Global,

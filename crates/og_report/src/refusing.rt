@@ -7,8 +7,8 @@ use og_judge::Refusal;
 use og_report_text::refused_line;
 use std::alloc::{AllocError, Global};
 
-/// The line of a refusal, as `og_report_text::refused_line`; no bytes for `Spawn` and `Memory`. A source
-/// in which a refusal has a place has at most 1,048,576 bytes.
+/// The line of a refusal, as `og_report_text::refused_line`; no bytes for `Spawn` and `Memory`. A
+/// source in which a refusal has a place has at most 1,048,576 bytes.
 ///
 /// # Errors
 ///

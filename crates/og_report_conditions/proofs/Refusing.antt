@@ -1,4 +1,4 @@
--- What is answered where conditions are not listed.
+-- The answer where conditions are not listed.
 use Rattle.std.proofs.Common.{◌≡◌, ◌<◌, ℕ, List, length, Result, Ok, Err, IfOk, subst}
 use Rattle.std.specs.declared.alloc.AllocError.{AllocError}
 use Rattle.og_typed.specs.Syntax.{Program}

@@ -1,4 +1,4 @@
--- What is answered to whoever asks for the conditions of a source.
+-- The answer to a request for the conditions of a source.
 use Rattle.std.specs.Prelude.{◌≡◌, ◌≤◌, ◌<◌, ◌&&◌, ◌⊎◌, ℕ, Bool, true, nat_le, not, List, length, find, Option, None, Some, codes, Result, Ok, Err, ⊤}
 use Rattle.std.specs.Borrow.{Bor}
 use Rattle.std.specs.Fmt.{decimal}
@@ -19,7 +19,7 @@ use Rattle.og_report_conditions.specs.declared.form.Form.{Form}
 use Rattle.og_report_conditions.specs.declared.choosing.Reply.{Reply}
 use Rattle.og_report_conditions.specs.declared.choosing.Reply.TheVariants as replies
 
--- one of so many conditions has this number
+-- one of this many conditions has this number
 abbrev pub is_number : ℕ → ℕ → Bool
 is_number count n = nat_le 1 n && nat_le n count
 
@@ -49,14 +49,14 @@ IsNotListed source errors.Memory reply = ⊥
 abbrev pub IsListing : Form → Option (List ℕ) → Program → List ℕ → List ℕ → Type 0
 IsListing form only o source text = (text ≡ listing_text form only o source) × (length (conditions o) ≤ condition_limit)
 
--- the lines that say why a word names no conditions: it has no numbers, or one that none of so many conditions has
+-- the lines that say why a word names no conditions: it has no numbers, or one that none of this many conditions has
 abbrev pub no_numbers_line : List ℕ
 no_numbers_line = codes "  conditions are numbers with commas between them, as 3,7\n"
 
 abbrev pub no_condition_line : ℕ → ℕ → List ℕ
 no_condition_line n count = codes "  there is no condition " & decimal n & codes ": they are numbered from 1 to " & decimal count & codes "\n"
 
--- the line of the first number that none of so many conditions has
+-- the line of the first number that none of this many conditions has
 abbrev pub IsNoCondition : List ℕ → ℕ → List ℕ → Type 0
 IsNoCondition numbers count line = (n : ℕ) × (find (λ m. not (is_number count m)) numbers ≡ Some n) × (line ≡ no_condition_line n count)
 

@@ -126,7 +126,7 @@ module _ (names : List (List ℕ)) where
   abbrev pub variable_lines : ℕ → List ℕ
   variable_lines x = declared_line x & range_line x
 
-  -- so many variables, numbered on
+  -- this many variables, numbered on
   abbrev pub variables_lines : ℕ → List (List ℕ) → List ℕ
   variables_lines x [] = []
   variables_lines x (name ∷ later) = variable_lines x & variables_lines (suc x) later

@@ -1,4 +1,4 @@
-//! What is answered to whoever asks for the conditions of a source.
+//! The answer to a request for the conditions of a source.
 
 ghost use Rattle.std.specs.Prelude.{◌≡◌, ◌≤◌, length, not, find, IfOk};
 ghost use Rattle.og_cond.specs.Groups.{rest};
@@ -14,7 +14,7 @@ use og_report_text::{Answer, InputFault, put_number};
 use og_typed::{Outline, Source};
 use std::alloc::{AllocError, Global};
 
-/// What is answered to whoever asks for the conditions of a source.
+/// The answer to a request for the conditions of a source.
 #[derive(Debug, Drop)]
 pub enum Reply<'a> {
     /// The listing, of which nothing is written yet.
@@ -35,7 +35,7 @@ fn no_numbers(alloc: Global) -> Result<Vec<u8>, AllocError>
     )
 }
 
-// That none of so many conditions has this number, as a line.
+// That none of this many conditions has this number, as a line.
 fn no_condition(alloc: Global, number: u32, count: u32) -> Result<Vec<u8>, AllocError>
     ensures { IfOk result (λ line. line.items ≡ no_condition_line number count) }
 {
@@ -75,14 +75,14 @@ fn count(alloc: Global, outline: &Outline) -> Result<u32, ConditionsError>
     Ok(count_rest(alloc, &mut groups)?)
 }
 
-// Whether one of so many conditions has this number.
+// Whether one of this many conditions has this number.
 fn is_number(count: u32, number: u32) -> bool
     ensures { result ≡ specified.is_number count number }
 {
     1 <= number && number <= count
 }
 
-// The first number that none of so many conditions has.
+// The first number that none of this many conditions has.
 fn first_other(count: u32, numbers: &[u32]) -> Option<u32>
     ensures { result ≡ find (λ m. not (specified.is_number count m)) numbers.now }
 {
@@ -94,7 +94,7 @@ fn first_other(count: u32, numbers: &[u32]) -> Option<u32>
     None
 }
 
-// What is answered where conditions are not listed.
+// The answer where conditions are not listed.
 fn not_listed<'a>(
     alloc: Global,
     error: ConditionsError,
@@ -111,7 +111,7 @@ fn not_listed<'a>(
     }
 }
 
-// What is answered where all conditions are asked for.
+// The answer where all conditions are asked for.
 fn of_all<'a>(alloc: Global, form: Form, source: Source<'_>) -> Result<Reply<'a>, AllocError>
     ensures { IfOk result (IsReplyToAll form source.entry.outline source.entry.bytes) }
 {
@@ -121,7 +121,7 @@ fn of_all<'a>(alloc: Global, form: Form, source: Source<'_>) -> Result<Reply<'a>
     }
 }
 
-// What is answered to the numbers in a word.
+// The answer to the numbers in a word.
 fn of_numbers<'a>(
     alloc: Global,
     form: Form,
@@ -140,7 +140,7 @@ fn of_numbers<'a>(
     }
 }
 
-// What is answered to a word.
+// The answer to a word.
 fn of_word<'a>(
     alloc: Global,
     form: Form,
@@ -155,13 +155,13 @@ fn of_word<'a>(
     }
 }
 
-/// What is answered to whoever asks for the conditions of a source in this form: all, or those whose
-/// numbers are in a word, counted from 1 and with a comma between two. Either the listing, of which
-/// nothing is written yet; or the line of a refusal and status 2, where the source has no outline, or
-/// more than 4,000,000 conditions.
+/// The answer to a request for the conditions of a source in this form: all, or those whose numbers
+/// are in a word, counted from 1 and with a comma between two. Either the listing, of which nothing
+/// is written yet; or the line of a refusal and status 2, where the source has no outline, or more
+/// than 4,000,000 conditions.
 ///
-/// `Bad` where the word is anything else, once the source was read, or has a number that no condition
-/// has; its line tells of the first one.
+/// `Bad` where the word is anything else, once the source was read, or has a number that no
+/// condition has; its line has the first one.
 ///
 /// # Errors
 ///

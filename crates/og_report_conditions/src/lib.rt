@@ -1,7 +1,8 @@
 //! The conditions of an outline as `conditions` prints them: with their facts, as triples, or as a
 //! script for a solver.
 //!
-//! specs/Listings.antt and Chosen.antt define the whole, Triples.antt and Script.antt two of its forms.
+//! specs/Listings.antt and Chosen.antt define the whole, Triples.antt and Script.antt two of its
+//! forms.
 #![tactic(auto)]
 
 mod choosing;

@@ -18,8 +18,8 @@ use std::alloc::{AllocError, Global};
 use std::io::Write;
 use std::marker::Model;
 
-/// The listing of an outline's conditions, of which there are at most 4,000,000. Contracts see it as
-/// its text, of which no more is in memory than is written at a time.
+/// The listing of an outline's conditions, of which there are at most 4,000,000. Contracts see it
+/// as its text, of which no more is in memory than is written at a time.
 #[derive(Debug, Drop)]
 pub struct Listing {
     form: Form,
@@ -97,12 +97,12 @@ impl Listing {
         })
     }
 
-    /// Writes the listing as it is made, and tells the status, which is 0.
+    /// Writes the listing as it is made, and returns the status, which is 0.
     ///
     /// # Errors
     ///
-    /// An allocation was refused, or the writer failed; a front of the listing may have been written
-    /// then.
+    /// An allocation was refused, or the writer failed; a front of the listing may have been
+    /// written then.
     pub fn write<W: Write>(&self, alloc: Global, out: &mut W) -> Result<u8, OutputFault>
         ensures written { OnOk result (Appends (W.contents out.old) (W.contents out.new) self.now) }
         ensures status { IfOk result (λ status. status ≡ 0) }

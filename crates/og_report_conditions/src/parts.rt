@@ -56,7 +56,8 @@ fn put_one_of(text: &mut Vec<u8>, names: &[Name], choices: &[Vec<Part>]) -> Resu
     text.extend_from_slice(b")")
 }
 
-/// Adds a hypothesis to the text, an assertion in parentheses where it binds less tightly than this.
+/// Adds a hypothesis to the text, an assertion in parentheses where it binds less tightly than
+/// this.
 pub(crate) fn put_hypothesis(
     text: &mut Vec<u8>,
     names: &[Name],

@@ -97,7 +97,8 @@ fn put_variables(text: &mut Vec<u8>, names: &[Name]) -> Result<(), AllocError>
     Ok(())
 }
 
-/// What stands before the conditions: the logic, and the variables with these names and their ranges.
+/// What stands before the conditions: the logic, and the variables with these names and their
+/// ranges.
 ///
 /// # Errors
 ///

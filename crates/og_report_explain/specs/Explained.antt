@@ -23,7 +23,7 @@ test_of (While b body) = Some b
 test_of (Await b body) = Some b
 test_of _ = None
 
--- ---- what is true in a state
+-- ---- the conjuncts true in a state
 
 -- an assertion of the outline that is true
 abbrev pub IsTrueNote : Program → List ℤ → Noted → Type 0

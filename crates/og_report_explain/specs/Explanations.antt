@@ -1,4 +1,4 @@
--- What is promised of an explanation.
+-- The promise of an explanation.
 use Rattle.std.specs.Prelude.{◌≡◌, ◌<◌, ℤ, List, Some, true, length, IfSome, Vec, ⊤}
 use Rattle.std.specs.List.{All}
 use Rattle.std.specs.Global.{Global}
@@ -18,7 +18,7 @@ use Rattle.og_report_explain.specs.Explained.{IsNoteOf, IsTrueNote, IsTested, Is
 use Rattle.og_report_explain.specs.Stands.{IsStand, AreStands}
 use denote.Ref.{Bor}
 
--- a statement of the outline whose test has the truth that is told
+-- a statement of the outline whose test has the reported truth
 abbrev pub TestIs : Program → List ℤ → Test → Type 0
 TestIs o s test = IsTested o s test.holds (statement_of test.site)
 
@@ -38,13 +38,13 @@ IsFault o c s after (fault.False note found) = IsNoteOf o (noted note.now) × Is
 IsFault o c s after (fault.TooLarge x v) = first_large (assignments c.action) s ≡ Some (x, v)
 IsFault o c s after (fault.Blocked stands) = AreStands o s stands.items
 
--- where it tells where processes stand, the assertion at each place is true
+-- where it says where processes stand, the assertion at each place is true
 abbrev pub AreAllowed : Program → List ℤ → Fault → Type 0
 AreAllowed o s (fault.False note found) = ⊤
 AreAllowed o s (fault.TooLarge x v) = ⊤
 AreAllowed o s (fault.Blocked stands) = All (IsStand o s) stands.items
 
--- all that is told is so
+-- the whole explanation is right
 pub record IsExplained (o : Program) (c : Condition) (s : List ℤ) (e : Explanation) : Type 0 where
   pub known : All (λ n. IsTrueNote o s (noted n.now)) e.known.items
   pub starts : e.starts ≡ true → HaveValues s o.vars o.aux_values

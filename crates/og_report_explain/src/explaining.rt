@@ -186,7 +186,7 @@ pub fn goal_note<'a>(
     note_at(outline, index, at)
 }
 
-// What is false of the goal.
+// The false part of the goal.
 fn fault_of<'a>(
     alloc: Global,
     outline: &'a Outline,
@@ -228,8 +228,8 @@ fn too_large<'a>(
     }
 }
 
-/// Why the condition is false in the state: what is told of the outline is so, as
-/// `IsExplained` says. Where it tells where processes stand, the assertion at each place is true.
+/// Why the condition is false in the state: each part of the explanation is right, as
+/// `IsExplained` says. Where it says where processes stand, the assertion at each place is true.
 ///
 /// # Errors
 ///
@@ -250,7 +250,7 @@ pub fn explain<'a>(
     explained(alloc, outline, index, condition, &values)
 }
 
-// The same, of the state's values.
+// Of the state's values.
 fn explained<'a>(
     alloc: Global,
     outline: &'a Outline,

@@ -1,5 +1,5 @@
 //! Where a condition's assertions, its test and its goal stand. Nothing is promised of these
-//! places: what is told of them is looked up and evaluated.
+//! places: the parts of an explanation are looked up and evaluated.
 
 use og_cond::{Condition, Kind};
 use og_typed::{Index, Outline, Seq, Stmt};

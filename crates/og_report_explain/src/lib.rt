@@ -1,8 +1,8 @@
 //! Why a condition is false in a state: which assertions of the outline are true there, what the
-//! step does, and what is false then.
+//! step does, and which conjuncts are false then.
 //!
-//! Each place is looked up in the outline, and what is told of it is evaluated; so nothing rests on
-//! how conditions are made. specs/Explained.antt says what is promised.
+//! Each place is looked up in the outline, and the assertion there is evaluated; so nothing rests
+//! on how conditions are made. specs/Explained.antt has the promise.
 #![tactic(auto)]
 
 mod actor;

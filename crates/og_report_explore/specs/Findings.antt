@@ -1,4 +1,4 @@
--- What is promised of a finding.
+-- The promise of a finding.
 use Rattle.std.specs.Prelude.{◌≡◌, ⊤, ℕ, zero, suc, ◌+◌, ◌-◌, ◌<◌, ℤ, List, [], ◌∷◌, ◌++◌, length, take, if◌then◌else◌, Option, Some, None, unwrap_or, option_map, slice_get, IfSome}
 use Rattle.og_linear.specs.Linear.{value_at}
 use Rattle.og_typed.specs.Syntax.{Formula, Simple, Statement, Skip, Assign, If, While, Await, Program}
@@ -71,7 +71,7 @@ AreRowsOf o values history rows = (k : Moment) × AreRows o (start_of o values) 
 abbrev pub IsBefore : Moment → List ℕ → List ℤ → Type 0
 IsBefore m history s = (k : Moment) × (run_on (take (length history - 1) history) (Some m) ≡ Some k) × (s ≡ k.state)
 
--- ---- what is wrong
+-- ---- the violation
 
 -- process p has this statement to do next; none where it has ended
 abbrev pub StandsAt : Moment → ℕ → Option (Bor Item) → Type 0
@@ -82,7 +82,7 @@ abbrev pub AreStands : Moment → ℕ → List (Option (Bor Item)) → Type 0
 AreStands m p [] = ⊤
 AreStands m p (stand ∷ stands) = StandsAt m p stand × AreStands m (p + 1) stands
 
--- what is told of what is wrong is so at the moment: the process, its assertion and which conjuncts of it are false; its statement and the value that is too large; the postcondition; where each process stands
+-- the report of the violation is right at the moment: the process, its assertion and which conjuncts of it are false; its statement and the value that is too large; the postcondition; where each process stands
 abbrev pub IsFault : Program → Moment → Wrong → Fault → Type 0
 IsFault o m (wrongs.Assertion p) (fault.Assertion q note found) =
     (q ≡ p) × ((noted note.now).assertion ≡ current o m p) × IsFalseNote m.state (noted note.now) found
@@ -103,7 +103,7 @@ IsBlame cs before last b =
 
 -- ---- all of it
 
--- the run is the violation's, from its start to a moment where what is told is so
+-- the run is the violation's, from its start to a moment where the report is right
 pub record IsFinding (o : Program) (cs : List Condition) (v : Violation) (f : Finding) : Type 0 where
   pub wrong : IsWrong o v.values v.history.items v.wrong
   pub last : Moment

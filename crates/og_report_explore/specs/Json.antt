@@ -1,4 +1,4 @@
--- What is told of an exploration, as JSON: the members of each object stand in the order of their bytes.
+-- The report of an exploration, as JSON: the members of each object stand in the order of their bytes.
 use Rattle.std.specs.Prelude.{ℕ, ℤ, true, List, length, map, codes, Option, Some, None}
 use Rattle.serde_json.specs.Data.{Data, Members, string, boolean, array, object, member, no_members}
 use Rattle.serde_json.specs.View.{items_of}
@@ -25,7 +25,7 @@ kind_word (fault.Overflow p item x v) = codes "overflow"
 kind_word (fault.Post note all) = codes "postcondition"
 kind_word (fault.Stuck stands) = codes "stuck"
 
--- the process that is told of, the main one as 0
+-- the process reported, the main one as 0
 abbrev pub process_member : ℕ → Fault → Option Data
 process_member main (fault.Assertion p note all) = Some (natural (printed_number main p))
 process_member main (fault.Overflow p item x v) = Some (natural (printed_number main p))

@@ -1,4 +1,4 @@
--- What is told of the end of a run, and of all that was explored.
+-- The report of the end of a run, and of all that was explored.
 use Rattle.std.specs.Prelude.{ℕ, ◌+◌, ◌==◌, zero, suc, ℤ, List, [], ◌∷◌, ◌++◌, length, Bool, true, false, if◌then◌else◌, Option, Some, None, codes}
 use Rattle.std.specs.Fmt.{decimal}
 use Rattle.og_typed.specs.declared.statement.Item.{Item}
@@ -72,7 +72,7 @@ abbrev pub numbers : ℕ → List ℕ
 numbers zero = []
 numbers (suc n) = numbers n ++ n ∷ []
 
--- what is wrong, where, and after how many steps
+-- the violation, its place, and after how many steps
 abbrev pub head_line : List ℕ → ℕ → ℕ → Finding → List ℕ
 head_line source main cobegin_at f =
     position_text (position_of source (place_of cobegin_at f.fault)) & codes ": " & what_text main f.fault

@@ -13,7 +13,7 @@ use og_linear::State;
 use og_typed::Index;
 use std::alloc::{AllocError, Global};
 
-/// Where a run goes wrong: where its last step began, and what is wrong then.
+/// Where a run goes wrong: where its last step began, and the violation then.
 #[derive(Clone, Copy)]
 pub(crate) struct Scene<'b, 'a> {
     pub(crate) index: &'b Index<'a>,
@@ -160,9 +160,9 @@ fn first_false(
     Ok(None)
 }
 
-/// The first condition of the scene's step and place that is false in the state before the step or in
-/// the last one; where there is none, the first one of a branch or a body that the step left. Nothing
-/// is promised of which condition that is: it is evaluated.
+/// The first condition of the scene's step and place that is false in the state before the step or
+/// in the last one; where there is none, the first one of a branch or a body that the step left.
+/// Nothing is promised of which condition that is: it is evaluated.
 ///
 /// # Errors
 ///

@@ -1,4 +1,4 @@
-//! What is wrong at the end of a run.
+//! The violation at the end of a run.
 
 ghost use Rattle.std.specs.Prelude.{◌≡◌, ◌<◌, ◌+◌, length, IfOk, IfSome, slice_get, option_map};
 ghost use Rattle.og_typed.specs.Plain.{noted, item_pair, statement};
@@ -56,7 +56,7 @@ fn stands<'a>(
     Ok(stands)
 }
 
-/// What is wrong at the moment.
+/// The violation at the moment.
 ///
 /// # Errors
 ///

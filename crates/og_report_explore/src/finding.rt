@@ -1,4 +1,4 @@
-//! What is found at the end of a run, with the run.
+//! The finding at the end of a run, with the run.
 
 use og_cond::Kind;
 use og_subst::Values;
@@ -24,7 +24,7 @@ pub struct Row<'a> {
     pub did: Did,
 }
 
-/// What is wrong at the end of a run. Processes have their numbers from 0; the main process has the
+/// The violation at the end of a run. Processes have their numbers from 0; the main process has the
 /// number after the last.
 #[derive(Debug, Drop)]
 pub enum Fault<'a> {
@@ -52,7 +52,7 @@ pub struct Blame {
     pub before: bool,
 }
 
-/// What is found at the end of a run.
+/// The finding at the end of a run.
 #[derive(Debug, Drop)]
 pub struct Finding<'a> {
     /// The state at the start.
@@ -61,7 +61,7 @@ pub struct Finding<'a> {
     pub rows: Vec<Row<'a>>,
     /// The state at the end.
     pub state: Values,
-    /// What is wrong there.
+    /// The violation there.
     pub fault: Fault<'a>,
     /// A condition that is false there, or before the last step.
     pub blame: Option<Blame>,

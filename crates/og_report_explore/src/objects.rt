@@ -25,7 +25,7 @@ pub(crate) struct Page<'a> {
     pub(crate) cobegin_at: u32,
 }
 
-// The word for what is wrong.
+// The word for the violation.
 fn kind_word(fault: &Fault) -> &'static str
     ensures { result.now ≡ kind_word fault.now }
 {
@@ -37,7 +37,7 @@ fn kind_word(fault: &Fault) -> &'static str
     }
 }
 
-// The process that is told of.
+// The process reported.
 fn process_member(main: u32, fault: &Fault) -> Option<Value>
     ensures { option_map view result ≡ process_member main fault.now }
 {
@@ -118,7 +118,7 @@ fn put_last(
     set_number(members, alloc, "line", place.line as u64)
 }
 
-// Sets the column, what is false, the history and the kind.
+// Sets the column, the false conjuncts, the history and the kind.
 fn put_first(
     members: &mut Map<String, Value>,
     alloc: Global,

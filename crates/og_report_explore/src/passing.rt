@@ -1,5 +1,5 @@
-//! Through which assertions a step goes. Nothing is promised of these answers: they only choose what
-//! is evaluated.
+//! Through which assertions a step goes. Nothing is promised of these answers: they only choose
+//! what is evaluated.
 
 use og_typed::{Index, StatementSite, Stmt};
 

@@ -55,7 +55,7 @@ fn report_value(
     totals_value(alloc, totals, findings, list_value(values))
 }
 
-/// What is told of an exploration of an outline, as JSON, in one line without an LF: whether all was
+/// The report of an exploration of an outline, as JSON, in one line without an LF: whether all was
 /// explored, how many starts and moments there were, what follows, and of each violation its kind,
 /// its place, its process, the run that leads there, and the conjuncts that are false. The members
 /// stand in the order of their bytes. The main process is 0. Places are lines and columns of the

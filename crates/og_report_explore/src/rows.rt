@@ -76,8 +76,8 @@ fn tested(alloc: Global, test: &Assert, state: &State) -> Result<Option<bool>, A
     Ok(values.truth(test))
 }
 
-/// The step of process p, and the moment after it; none where it has no step, or a number on the way
-/// leaves 128 bits.
+/// The step of process p, and the moment after it; none where it has no step, or a number on the
+/// way leaves 128 bits.
 ///
 /// # Errors
 ///

@@ -30,7 +30,7 @@ pub(crate) struct Widths {
     statement: usize,
 }
 
-/// What all that is told is printed with.
+/// What the whole report is printed with.
 #[derive(Clone, Copy)]
 pub(crate) struct Page<'a> {
     pub(crate) names: &'a [Name],
@@ -144,7 +144,7 @@ fn put_cell(
     }
 }
 
-// The same in a text of its own.
+// In a text of its own.
 fn cell(
     alloc: Global,
     page: Page,

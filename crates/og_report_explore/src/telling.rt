@@ -1,4 +1,4 @@
-//! What is told of a violation.
+//! The report of a violation.
 
 ghost use Rattle.std.specs.Prelude.{◌≡◌, map, IfOk, IfSome};
 ghost use Rattle.og_typed.specs.Machine.{start_of};
@@ -43,7 +43,7 @@ fn begun<'a>(
     }
 }
 
-// A run as it is told, with the state before its last step.
+// A run as it is reported, with the state before its last step.
 #[derive(Drop)]
 struct Steps<'a> {
     rows: Vec<Row<'a>>,
@@ -73,9 +73,9 @@ fn steps_of<'a>(
     Ok(Some(Steps { rows, before }))
 }
 
-/// The steps of the run from the start at which the variables that are no auxiliaries have these values,
-/// by the processes of the history; none where one of them cannot step, or a number on the way leaves 128
-/// bits.
+/// The steps of the run from the start at which the variables that are no auxiliaries have these
+/// values, by the processes of the history; none where one of them cannot step, or a number on the
+/// way leaves 128 bits.
 ///
 /// # Errors
 ///
@@ -109,7 +109,7 @@ fn led_to(index: &Index, rows: &[Row]) -> Option<u32> {
     Some(first_at(&index.statement(row.item.at)?, holds))
 }
 
-/// What is told of a violation of the outline, as `IsFinding` says; none where a value leaves 128
+/// The report of a violation of the outline, as `IsFinding` says; none where a value leaves 128
 /// bits, which no clause excludes. `conditions` are the outline's, or none.
 ///
 /// # Errors

@@ -1,4 +1,4 @@
-//! What is told of the end of a run, and of all that was explored.
+//! The report of the end of a run, and of all that was explored.
 
 ghost use Rattle.std.specs.Prelude.{◌≡◌, ◌++◌, ◌≤◌, ◌^◌, true, length, None, IfOk, OnOk};
 ghost use Rattle.og_report_prove.specs.Blocks.{false_lines};
@@ -45,7 +45,7 @@ fn part_of(main: u32, p: u32) -> Part
     }
 }
 
-// What is wrong.
+// The violation.
 fn put_what(text: &mut Vec<u8>, main: u32, fault: &Fault) -> Result<(), AllocError>
     ensures { OnOk result (text.new.items ≡ text.old.items ++ what_text main fault.now) }
 {
@@ -64,7 +64,7 @@ fn put_what(text: &mut Vec<u8>, main: u32, fault: &Fault) -> Result<(), AllocErr
     }
 }
 
-/// The byte offset of what is wrong; of a stuck program that of `cobegin`. Takes no memory.
+/// The byte offset of the violation; of a stuck program that of `cobegin`. Takes no memory.
 pub fn place_of(cobegin_at: u32, fault: &Fault) -> u32
     ensures { result ≡ place_of cobegin_at fault.now }
 {
@@ -178,7 +178,7 @@ fn put_stands(
     Ok(())
 }
 
-/// The numbers of so many variables.
+/// The numbers of this many variables.
 ///
 /// # Errors
 ///
@@ -265,7 +265,7 @@ fn put_fault(text: &mut Vec<u8>, page: Page, fault: &Fault) -> Result<(), AllocE
     }
 }
 
-// What is wrong, where, and after how many steps.
+// The violation, its place, and after how many steps.
 fn put_head(
     text: &mut Vec<u8>,
     page: Page,
@@ -293,7 +293,7 @@ fn put_run(text: &mut Vec<u8>, page: Page, finding: &Finding) -> Result<(), Allo
     put_all_line(text, page.names, b"state", &finding.state)
 }
 
-// What is told of a finding.
+// The report of a finding.
 fn put_finding(
     text: &mut Vec<u8>,
     page: Page,
@@ -310,7 +310,7 @@ fn put_finding(
     put_blame(text, page.places, finding.rows.len(), finding.blame)
 }
 
-// What is told of each finding.
+// The report of each finding.
 fn put_findings(
     text: &mut Vec<u8>,
     page: Page,
@@ -327,7 +327,7 @@ fn put_findings(
     Ok(())
 }
 
-/// What is told of an exploration of an outline, as a text: each finding with the run that leads
+/// The report of an exploration of an outline, as a text: each finding with the run that leads
 /// there, in order, and the totals. Places are lines and columns of the source, which has at most
 /// 1,048,576 bytes.
 ///

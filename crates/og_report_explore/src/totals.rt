@@ -92,8 +92,8 @@ fn has_stuck(findings: &[Finding]) -> bool
 }
 
 impl Totals {
-    /// Whether no current assertion is false, nothing overflows and the postcondition is true at the
-    /// end, in all runs from the starts. Takes no memory, like `unblocked`.
+    /// Whether no current assertion is false, nothing overflows and the postcondition is true at
+    /// the end, in all runs from the starts. Takes no memory, like `unblocked`.
     pub fn safe(&self, findings: &[Finding]) -> Found
         ensures { result ≡ safe_of self.now.complete findings.now }
     {
@@ -108,7 +108,7 @@ impl Totals {
     }
 }
 
-// A word and what is found.
+// A word and the finding.
 fn put_found(text: &mut Vec<u8>, word: &[u8], found: Found) -> Result<(), AllocError>
     ensures { OnOk result (text.new.items ≡ text.old.items ++ found_line word.now found) }
 {

@@ -26,13 +26,13 @@ step_place c = unwrap_or c.action_at c.at
 abbrev pub step_link : ℕ → ℕ → List ℕ
 step_link told step = if told == step then [] else codes ", step at " & line_link step
 
--- where a condition is told, and where its step is
+-- the place of a condition, and that of its step
 abbrev pub links_text : List ℕ → Condition → Told → Target → List ℕ
 links_text source c t g = line_link (line_at source (told_place c t g)) & step_link (line_at source (told_place c t g)) (line_at source (step_place c))
 
 -- ---- a block
 
--- with the number and what is found
+-- with the number and the finding
 abbrev pub article_start : ℕ → Finding → List ℕ
 article_start n f =
     codes "<article id=c" & decimal n & codes " class=" & word f & codes "><h3>Condition " & decimal n & codes ": " & word f & codes "</h3>\n<pre>"
@@ -49,7 +49,7 @@ abbrev pub beneath_at : List (List ℕ) → ℕ → List ℕ
 beneath_at beneath i = unwrap_or (slice_get beneath i) []
 
 module _ (names : List (List ℕ)) (source : List ℕ) (rows : Rows) where
-  -- what `prove` prints of a condition, where it is known which conditions told an effect before
+  -- the text that `prove` prints of a condition, where it is known which conditions had an effect before
   abbrev pub printed : (List ℕ → Option ℕ) → ℕ → Condition → Told → List ℕ
   printed known n c t = told_text names source rows known n c (Some 0) t
 

@@ -1,4 +1,4 @@
--- What is found of a condition that is not proved.
+-- The finding on a condition that is not proved.
 use Rattle.std.specs.Prelude.{ℕ, List, Bool, Option, Some, None, codes}
 use Rattle.og_report_prove.specs.Report.{is_false, is_open}
 use Rattle.og_report_prove.specs.declared.telling.Told.{Told}

@@ -25,7 +25,7 @@ has_main o = is_some o.prologue || is_some o.epilogue
 abbrev pub lane_count : ℕ → Bool → ℕ
 lane_count processes main = if main then processes + 1 else processes
 
--- so many empty lanes, as one cell
+-- this many empty lanes, as one cell
 abbrev pub gap : ℕ → List ℕ
 gap n = if n == 0 then [] else codes "<td colspan=" & decimal n & codes ">"
 
@@ -58,7 +58,7 @@ abbrev pub numbered : (ℕ → Row → List ℕ) → ℕ → List Row → List �
 numbered of n [] = []
 numbered of n (row ∷ rows) = of n row & numbered of (n + 1) rows
 
--- what is written with: whether the source is UTF-8, the names, the source, how many lanes there are
+-- the page that is written: whether the source is UTF-8, the names, the source, how many lanes there are
 module _ (utf8 : Bool) (names : List (List ℕ)) (source : List ℕ) (lanes : ℕ) where
   -- what a step did stands in the lane of its process
   abbrev pub step_cell : Row → List ℕ
@@ -94,7 +94,7 @@ abbrev pub IsChart : Program → List ℕ → ℕ → Witness → List ℕ → T
 IsChart o source condition w text =
     (text ≡ []) ⊎ ((rows : List Row) × AreRowsOf o w.values w.history.items rows × (text ≡ chart_text o source condition w.values rows))
 
--- ---- what is told of the runs to a false condition
+-- ---- the report of the runs to a false condition
 
 abbrev pub IsChartOf : Program → List ℕ → ℕ → Run → List ℕ → Type 0
 IsChartOf o source condition (run.Reached w) text = IsChart o source condition w text

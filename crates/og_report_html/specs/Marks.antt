@@ -1,4 +1,4 @@
--- What is known of a place in the source, by what is told of the conditions.
+-- The findings at a place in the source, by the findings on the conditions.
 use Rattle.std.specs.Prelude.{ℕ, ◌+◌, ◌==◌, List, [], ◌∷◌, Bool, true, false, Option, Some, None}
 use Rattle.std.specs.Ordering.{nat_cmp}
 use Rattle.std.specs.BTreeMap.{BTreeMap, get_by}
@@ -12,7 +12,7 @@ use Rattle.og_report_html.specs.declared.marks.Mark.{Mark}
 use Rattle.og_report_html.specs.declared.marks.Mark.TheVariants as mark
 use Rattle.og_report_html.specs.declared.target.Target.{Target}
 
--- ---- where a condition is told
+-- ---- the place of a condition
 
 -- one that is false at the assertion that is false in the state of its block, else at its own place
 abbrev pub fault_place : Condition → Fault → ℕ
@@ -33,7 +33,7 @@ is_action at (Some action) = at == action
 
 -- ---- the mark of a place
 
--- what is told of a condition with a number: one that is proved makes no mark
+-- the finding on a condition with a number: one that is proved makes no mark
 abbrev pub mark_of : ℕ → Told → Option Mark
 mark_of n told.Proved = None
 mark_of n (told.False block) = Some (mark.False n)
@@ -53,7 +53,7 @@ abbrev pub with_mark : Option Mark → Option Mark → Option Mark
 with_mark None old = old
 with_mark (Some m) old = Some (joined old m)
 
--- where it is told at the place
+-- where it has its place there
 abbrev pub marked : Bool → Option Mark → Option Mark → Option Mark
 marked false m old = old
 marked true m old = with_mark m old
@@ -69,7 +69,7 @@ with_all at old n (c ∷ cs) [] gs = old
 with_all at old n (c ∷ cs) (t ∷ ts) [] = old
 with_all at old n (c ∷ cs) (t ∷ ts) (g ∷ gs) = with_all at (with_told at n c t g old) (n + 1) cs ts gs
 
--- of the conditions that are told at a byte offset, the first one that is false, else the first one that is open
+-- of the conditions that have their place at a byte offset, the first one that is false, else the first one that is open
 abbrev pub mark_at : List Condition → List Told → List Target → ℕ → Option Mark
 mark_at cs ts gs at = with_all at None 1 cs ts gs
 

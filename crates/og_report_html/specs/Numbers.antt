@@ -12,7 +12,7 @@ use Rattle.og_report_html.specs.declared.finding.Finding.TheVariants as finding
 abbrev pub number_link : ℕ → List ℕ
 number_link n = codes " <a href=#c" & decimal n & codes ">" & decimal n & codes "</a>"
 
--- where this is told of it
+-- where this is the finding on it
 abbrev pub number_where : Finding → ℕ → Told → List ℕ
 number_where f n t = if is_found f t then number_link n else []
 
@@ -25,7 +25,7 @@ number_links f n (t ∷ ts) = number_where f n t & number_links f (n + 1) ts
 abbrev pub numbers_line : Finding → List Told → List ℕ
 numbers_line f ts = codes "<p>" & sign f & codes " " & word f & codes ":" & number_links f 1 ts & codes "</p>\n"
 
--- nothing where this is told of none
+-- nothing where this is the finding on none
 abbrev pub numbers_of : Finding → List Told → List ℕ
 numbers_of f ts = if list_any (is_found f) ts then numbers_line f ts else []
 

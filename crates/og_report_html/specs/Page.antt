@@ -18,7 +18,7 @@ use Rattle.og_report_html.specs.declared.target.Target.{Target}
 abbrev pub blocks_text : Program → List ℕ → List ℕ → List (List ℕ) → List Condition → List Told → List Target → List ℕ
 blocks_text o source before beneath cs ts gs = before & numbers_text ts & articles_text (is_utf8 source) beneath o.names source None [] cs ts gs
 
--- the totals, the source, the table of interference, the blocks, with what is added to these
+-- the totals, the source, the table of interference, the blocks, with the additions to these
 abbrev pub page_text : Program → List ℕ → List ℕ → List (List ℕ) → List Condition → List Told → List Target → List ℕ
 page_text o source before beneath cs ts gs =
     START.now & totals_items ts

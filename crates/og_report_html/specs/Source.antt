@@ -49,7 +49,7 @@ is_statement mode.Remark = false
 abbrev pub begins : (Mode → Bool) → Mode → Mode → Bool
 begins is old new = is new && not (is old)
 
--- ---- what is written for it
+-- ---- the text written for it
 
 -- a link to the block of a condition
 abbrev pub link_start : List ℕ → ℕ → List ℕ

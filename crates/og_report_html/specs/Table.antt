@@ -14,13 +14,13 @@ use Rattle.og_report_html.specs.declared.target.Target.{Target}
 
 -- ---- which conditions of interference are not proved
 
--- where this is told of the condition with a number
+-- where this is the finding on the condition with a number
 abbrev pub clash_of : Bool → ℕ → Option Interference → List Clash
 clash_of false n i = []
 clash_of true n None = []
 clash_of true n (Some i) = record { number = n; interference = i } ∷ []
 
--- those of which this is told, numbered on
+-- those on which this is the finding, numbered on
 abbrev pub clashes_from : Finding → ℕ → List Told → List Target → List Clash
 clashes_from f n [] gs = []
 clashes_from f n (t ∷ ts) [] = []
@@ -33,9 +33,9 @@ is_by p c = p == c.interference.actor
 abbrev pub is_on : ℕ → Clash → Bool
 is_on p c = p == c.interference.other
 
--- ---- what is written of them
+-- ---- the text written of them
 
--- so many, with a link to the block of the first
+-- this many, with a link to the block of the first
 abbrev pub count_text : Finding → ℕ → ℕ → List ℕ
 count_text f first count = codes "<a class=" & word f & codes " href=#c" & decimal first & codes ">" & sign f & codes " " & decimal count & codes "</a> "
 
@@ -47,7 +47,7 @@ share_text f (c ∷ cs) = count_text f c.number (length (c ∷ cs))
 abbrev pub cell_text : List Clash → List Clash → ℕ → List ℕ
 cell_text wrong unknown p = codes "<td>" & share_text finding.False (filter (is_on p) wrong) & share_text finding.Open (filter (is_on p) unknown)
 
--- what is written of each of so many processes, from one on
+-- the text written of each of this many processes, from one on
 abbrev pub each_text : (ℕ → List ℕ) → ℕ → ℕ → List ℕ
 each_text of p zero = []
 each_text of p (suc k) = of p & each_text of (p + 1) k

@@ -1,4 +1,4 @@
--- Where what is told of a condition belongs in the outline.
+-- Where the finding on a condition belongs in the outline.
 use Rattle.std.specs.Prelude.{◌≡◌, ◌⊎◌, ℕ, List, [], ◌∷◌, Option, Some, IfSome, ⊤}
 use Rattle.og_typed.specs.Syntax.{Noted, Program}
 use Rattle.og_cond.specs.Condition.{Condition}

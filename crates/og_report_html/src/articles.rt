@@ -61,7 +61,7 @@ fn put_step_link(text: &mut Vec<u8>, told: u32, step: u32) -> Result<(), AllocEr
     put_line_link(text, step)
 }
 
-// Links to the lines where the condition is told, and where its step is.
+// Links to the lines of the condition's place and of its step.
 fn put_links(
     text: &mut Vec<u8>,
     places: &Places,
@@ -161,7 +161,7 @@ fn put_block(
     )
 }
 
-// The same, but nothing of one that is proved.
+// But nothing of one that is proved.
 fn put_article(
     text: &mut Vec<u8>,
     firsts: &mut Firsts,

@@ -98,8 +98,8 @@ fn chart_of(
     Ok(text)
 }
 
-/// A run to a state in which the condition with this number, from 1, is false, as a table of HTML: a
-/// row for each of its last 40 steps, in the lane of its process. Without a number of a step that
+/// A run to a state in which the condition with this number, from 1, is false, as a table of HTML:
+/// a row for each of its last 40 steps, in the lane of its process. Without a number of a step that
 /// leaves 128 bits; where there is one, no text.
 ///
 /// # Errors

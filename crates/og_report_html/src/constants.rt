@@ -1,4 +1,4 @@
-//! What is the same on every page.
+//! The part that is the same on every page.
 
 /// The most processes of which there is a table.
 pub(crate) const MOST_PROCESSES: usize = 64;

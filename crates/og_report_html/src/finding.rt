@@ -1,4 +1,4 @@
-//! What is found of a condition that is not proved.
+//! The finding on a condition that is not proved.
 
 ghost use Rattle.std.specs.Prelude.{◌≡◌, ◌++◌, OnOk};
 ghost use Rattle.og_report_html.specs.Findings.{finding_of, is_found, word, sign};
@@ -6,7 +6,7 @@ ghost use Rattle.og_report_html.specs.Findings.{finding_of, is_found, word, sign
 use og_report_prove::Told;
 use std::alloc::AllocError;
 
-/// What is found of a condition that is not proved.
+/// The finding on a condition that is not proved.
 #[derive(Clone, Copy, Debug, PartialEq, Eq, Drop)]
 pub(crate) enum Finding {
     /// It is false in a state.
@@ -16,7 +16,7 @@ pub(crate) enum Finding {
 }
 
 impl Finding {
-    /// What is told of a condition, where it is not that it is proved.
+    /// The finding on a condition, where it is not that it is proved.
     pub(crate) fn of(told: &Told) -> Option<Finding>
         ensures { result ≡ finding_of told.now }
     {
@@ -27,7 +27,7 @@ impl Finding {
         }
     }
 
-    /// Whether this is told of a condition.
+    /// Whether this is the finding on a condition.
     pub(crate) fn is_of(self, told: &Told) -> bool
         ensures { result ≡ is_found self told.now }
     {

@@ -44,7 +44,7 @@ fn put_lane_head(text: &mut Vec<u8>, process: usize) -> Result<(), AllocError>
     put_number(text, process as u128 + 1)
 }
 
-// The heads of the lanes of so many processes.
+// The heads of the lanes of this many processes.
 fn put_lane_heads(text: &mut Vec<u8>, count: usize) -> Result<(), AllocError>
     ensures { OnOk result (text.new.items ≡ text.old.items ++ each_text lane_head 0 count) }
 {
@@ -64,7 +64,7 @@ fn put_main_head(text: &mut Vec<u8>, main: bool) -> Result<(), AllocError>
     }
 }
 
-/// Adds the heads of the columns, of so many processes and perhaps the main one.
+/// Adds the heads of the columns, of this many processes and perhaps the main one.
 pub(crate) fn put_head(text: &mut Vec<u8>, processes: usize, main: bool) -> Result<(), AllocError>
     ensures { OnOk result (text.new.items ≡ text.old.items ++ head_row processes main) }
 {
@@ -115,7 +115,7 @@ fn put_step_cell(text: &mut Vec<u8>, frame: Frame, row: &Row) -> Result<(), Allo
     put_escaped(text, frame.utf8, &quote)
 }
 
-// The same in the lane of its process.
+// In the lane of its process.
 fn put_lane_cells(text: &mut Vec<u8>, frame: Frame, row: &Row) -> Result<(), AllocError>
     ensures { OnOk result (text.new.items ≡ text.old.items ++ lane_cells frame.entry.utf8 frame.entry.names.now frame.entry.source.now frame.entry.lanes row.now) }
 {
@@ -151,7 +151,7 @@ fn put_step_row(
     put_sets_cell(text, frame, row)
 }
 
-/// Adds the rows of steps, but for the first ones, so many.
+/// Adds the rows of steps, but for the first ones, this many.
 pub(crate) fn put_step_rows(
     text: &mut Vec<u8>,
     frame: Frame,

@@ -1,4 +1,4 @@
-//! The page of `show`: what is said of each condition, and the runs to it as charts.
+//! The page of `show`: the finding on each condition, and the runs to it as charts.
 //!
 //! specs/Page.antt defines the page, Lanes.antt the charts.
 #![tactic(auto)]

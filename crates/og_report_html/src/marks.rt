@@ -1,4 +1,4 @@
-//! What is known of the places in the source.
+//! The findings at the places in the source.
 
 ghost use Rattle.std.specs.Prelude.{◌≡◌, ◌++◌, ◌==◌, ◌<◌, ◌^◌, ℕ, length, map, Some, IfOk, OnOk};
 ghost use Rattle.og_cond.specs.Seen.{seen};
@@ -11,7 +11,7 @@ use og_report_prove::Told;
 use std::alloc::{AllocError, Global};
 use std::collections::BTreeMap;
 
-/// What is known of a place: the number of a condition that is told there.
+/// The finding at a place: the number of a condition with that place.
 #[derive(Clone, Copy, Debug, PartialEq, Eq, Drop)]
 pub(crate) enum Mark {
     /// The first one that is false.
@@ -21,7 +21,7 @@ pub(crate) enum Mark {
 }
 
 impl Mark {
-    // What is told of a condition with this number.
+    // The finding on a condition with this number.
     fn of(number: u128, told: &Told) -> Option<Mark>
         ensures { result ≡ mark_of number told.now }
     {
@@ -57,7 +57,7 @@ impl Mark {
 /// The marks of places, by byte offsets.
 pub(crate) type Marks = BTreeMap<u32, Mark>;
 
-// Where the condition is told.
+// The place of the condition.
 pub(crate) fn told_place(condition: &Condition, told: &Told, target: &Target) -> u32
     ensures { result ≡ told_place (seen condition.now) told.now target.now }
 {

@@ -21,7 +21,7 @@ fn put_number_link(text: &mut Vec<u8>, number: u128) -> Result<(), AllocError>
     text.extend_from_slice(b"</a>")
 }
 
-// The same, of a condition of which this is told.
+// Of a condition with this finding.
 fn put_number_where(
     text: &mut Vec<u8>,
     finding: Finding,
@@ -37,7 +37,7 @@ fn put_number_where(
     }
 }
 
-// Links to the blocks of all conditions of which this is told.
+// Links to the blocks of all conditions with this finding.
 fn put_number_links(text: &mut Vec<u8>, finding: Finding, told: &[Told]) -> Result<(), AllocError>
     ensures { OnOk result (text.new.items ≡ text.old.items ++ number_links finding 1 told.now) }
 {
@@ -60,7 +60,7 @@ fn put_numbers_line(text: &mut Vec<u8>, finding: Finding, told: &[Told]) -> Resu
     text.extend_from_slice(b"</p>\n")
 }
 
-// Whether this is told of some condition.
+// Whether this is the finding on some condition.
 fn is_of_some(finding: Finding, told: &[Told]) -> bool
     ensures { result ≡ list_any (is_found finding) told.now }
 {

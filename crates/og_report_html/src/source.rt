@@ -104,7 +104,7 @@ fn put_line_number(text: &mut Vec<u8>, line: u32) -> Result<(), AllocError>
     text.extend_from_slice(b"</span>")
 }
 
-// The same, before the first byte of the line.
+// Before the first byte of the line.
 fn put_line_start(text: &mut Vec<u8>, spot: Spot) -> Result<(), AllocError>
     ensures { OnOk result (text.new.items ≡ text.old.items ++ line_start spot.first spot.line) }
 {

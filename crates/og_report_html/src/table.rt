@@ -37,7 +37,7 @@ impl Clash {
     }
 }
 
-// Adds a condition, where it is one of interference and this is told of it.
+// Adds a condition, where it is one of interference with this finding.
 fn add_clash(
     found: &mut Vec<Clash>,
     finding: Finding,
@@ -59,7 +59,7 @@ fn add_clash(
     Ok(())
 }
 
-// The conditions of interference of which this is told.
+// The conditions of interference with this finding.
 fn clashes_told(
     alloc: Global,
     finding: Finding,
@@ -99,7 +99,7 @@ fn those_on(alloc: Global, clashes: &[Clash], process: usize) -> Result<Vec<Clas
         .collect(alloc)
 }
 
-// A link to the block of a condition, of so many.
+// A link to the block of a condition, of this many.
 fn put_count(
     text: &mut Vec<u8>,
     finding: Finding,
@@ -253,8 +253,8 @@ fn put_clashes(text: &mut Vec<u8>, clashes: Clashes, count: usize) -> Result<(),
     }
 }
 
-/// Adds the table of an outline with so many processes; nothing where all interference is proved, or
-/// there are more than 64 processes.
+/// Adds the table of an outline with this many processes; nothing where all interference is proved,
+/// or there are more than 64 processes.
 pub(crate) fn put_table(
     text: &mut Vec<u8>,
     count: usize,

@@ -1,4 +1,4 @@
-//! Where what is told of a condition belongs in the outline.
+//! Where the finding on a condition belongs in the outline.
 
 ghost use Rattle.std.specs.Prelude.{◌≡◌, length, map, IfOk, IfSome};
 ghost use Rattle.og_cond.specs.Seen.{seen};
@@ -19,7 +19,7 @@ pub struct Interference {
     pub other: u32,
 }
 
-/// Where what is told of a condition belongs.
+/// Where the finding on a condition belongs.
 #[derive(Clone, Copy, Debug, PartialEq, Eq, Drop)]
 pub struct Target {
     /// The byte offset of the assertion to which the condition leads; of a range and of blocking
@@ -72,7 +72,7 @@ fn target_of<'a>(outline: &'a Outline, index: &Index<'a>, condition: &Condition)
     }
 }
 
-/// Where what is told of each condition of an outline belongs.
+/// Where the finding on each condition of an outline belongs.
 ///
 /// # Errors
 ///

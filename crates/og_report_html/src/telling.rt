@@ -1,4 +1,4 @@
-//! What is told of the runs to a false condition.
+//! The report of the runs to a false condition.
 
 ghost use Rattle.std.specs.Prelude.{◌≡◌, ◌++◌, nat_lt, length, map, IfOk, OnOk};
 ghost use Rattle.std.specs.Str.{is_utf8};
@@ -65,7 +65,7 @@ fn run_text(
     Ok(text)
 }
 
-// The same of a false condition alone.
+// Of a false condition alone.
 fn told_run(
     alloc: Global,
     outline: &Outline,
@@ -83,7 +83,7 @@ fn told_run(
     }
 }
 
-/// What is told of the runs to each false condition, as texts of HTML, one for each condition: the
+/// The report of the runs to each false condition, as texts of HTML, one for each condition: the
 /// line that `prove --runs` prints, and a chart of a run that gets there.
 ///
 /// # Errors

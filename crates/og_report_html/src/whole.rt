@@ -22,7 +22,7 @@ use og_report_text::{Origins, Places};
 use og_typed::Outline;
 use std::alloc::{AllocError, Global};
 
-// The source, marked by what is told of the conditions.
+// The source, marked by the findings on the conditions.
 fn put_marked(
     text: &mut Vec<u8>,
     source: &[u8],
@@ -39,7 +39,7 @@ fn put_marked(
     put_source(text, is_utf8(source), &marks, source)
 }
 
-/// What is added to a page, as HTML.
+/// The additions to a page, as HTML.
 #[derive(Clone, Copy)]
 pub struct Additions<'a> {
     /// Before the blocks.
@@ -93,10 +93,10 @@ fn put_blocks(
     put_articles(text, frame, conditions, told, targets)
 }
 
-/// What is told of all conditions of an outline, as one text of HTML: the totals, the source with its
+/// The report of all conditions of an outline, as one text of HTML: the totals, the source with its
 /// marks, the table of interference that is not proved, and a block for each condition that is not
-/// proved, with what is added to these. `targets` has where each condition belongs, as `targets` finds
-/// it. The source has at most 1,048,576 bytes.
+/// proved, with the additions to these. `targets` has where each condition belongs, as `targets`
+/// finds it. The source has at most 1,048,576 bytes.
 ///
 /// # Errors
 ///

@@ -1,4 +1,4 @@
--- Conditions that are told as proved are true.
+-- Conditions reported as proved are true.
 use Rattle.std.proofs.Common.{◌≡◌, ◌-◌, List, [], ◌∷◌, ◌++◌, length, take, slice_get, Some, true, refl, sym, ap, subst, ◌∙◌, length-append, append_assoc, arith, true≢false}
 use Rattle.std.specs.List.{list_all}
 use Rattle.std.proofs.Math.Seq.{take-append_seam}
@@ -11,7 +11,7 @@ use Rattle.og_report_prove.specs.Told.{IsTold, AreTold}
 use Rattle.og_report_prove.specs.declared.telling.Told.{Told}
 use Rattle.og_report_prove.specs.declared.telling.Told.TheVariants as told
 
--- what is told of conditions and of one more
+-- the report of conditions and of one more
 with_last : (o : Program) (cs : List Condition) (last : Condition) (ts : List Told) → AreTold o (cs ++ last ∷ []) ts
     → (front : List Told) × (t : Told) × (ts ≡ front ++ t ∷ []) × AreTold o cs front × IsTold o last t
 with_last o [] last [] h = absurd h
@@ -59,7 +59,7 @@ unblocked_is_valid o cs last ts h is =
 
 -- ---- one after another
 
--- with what is told of these besides, all is told
+-- with the report of these besides, all is reported
 abbrev pub MakesAll : Program → List Condition → List Condition → List Told → Type 0
 MakesAll o cs rest ts = (more : List Told) → AreTold o rest more → AreTold o cs (ts ++ more)
 

@@ -1,4 +1,4 @@
--- What is told of conditions one after another, with the effects that are known.
+-- The report of conditions one after another, with the effects that are known.
 use Rattle.std.proofs.Common.{◌≡◌, ℕ, ◌+◌, List, [], ◌∷◌, ◌++◌, length, drop, Bool, true, false, cond, Option, Some, None, Vec, refl, sym, ap, ap₂, ◌∙◌, append_assoc, length-append, arith, codes}
 use Rattle.std.specs.Global.{Global}
 use Rattle.std.specs.Str.{bytes_eq}
@@ -21,7 +21,7 @@ use Rattle.og_report_prove.specs.declared.telling.Told.{Told}
 use Rattle.og_report_prove.specs.declared.telling.Told.TheVariants as told
 
 module _ (names : List (List ℕ)) (source : List ℕ) (rows : Rows) where
-  -- ---- only what is known of an effect counts
+  -- ---- only the known part of an effect counts
 
   body_same : (f g : List ℕ → Option ℕ) (e : Option (ℕ × List Formula)) (block : Block) → ((text : List ℕ) → f text ≡ g text)
       → effect_or_block names source rows f e block ≡ effect_or_block names source rows g e block
@@ -40,7 +40,7 @@ module _ (names : List (List ℕ)) (source : List ℕ) (rows : Rows) where
   told_same f g n c None t h = refl
   told_same f g n c (Some more) t h = one_same f g n c more t h
 
-  -- ---- what is told of a false condition with an effect
+  -- ---- the report of a false condition with an effect
 
   body_of : (known : List ℕ → Option ℕ) (block : Block) (effect : ℕ × List Formula) (text : List ℕ) (k : Option ℕ)
       → effect_of block.details.value.explanation.action block.details.value.explanation.fault ≡ Some effect → text ≡ effect_text names source rows effect → k ≡ known text
@@ -88,7 +88,7 @@ module _ (names : List (List ℕ)) (source : List ℕ) (rows : Rows) where
       from true h = kept text n k t
       from false h = h
 
-  -- ---- all of them, as far as they are told
+  -- ---- all of them, as far as they are reported
 
   pub record IsSoFar (before text : List ℕ) (firsts : BTreeMap (Vec ℕ Global) ℕ) (i : ℕ) (cs : List Condition) (ms : List (Option ℕ)) (ts : List Told) : Type 0 where
     pub done : List Told

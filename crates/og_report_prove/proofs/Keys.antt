@@ -176,7 +176,7 @@ mores_length rows cs ts h = mores_from_length (keys_of rows cs ts) [] (keys_of r
 
 -- ---- without rows
 
--- of an outline in its own text no more are told with any condition
+-- of an outline in its own text no more are reported with any condition
 none_more_from : (all before : List (Option (List ℕ))) (cs : List Condition) (ts : List Told) → length ts ≡ length cs → mores_from all before (keys_of None cs ts) ≡ replicate (length cs) (Some 0)
 none_more_from all before [] ts h = refl
 none_more_from all before (c ∷ cs) [] h = absurd (omega arith)

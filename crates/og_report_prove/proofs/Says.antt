@@ -1,4 +1,4 @@
--- A report that says that the outline is unblocked is one where the last condition is told as proved.
+-- A report that says that the outline is unblocked is one where the last condition is reported as proved.
 use Rattle.std.proofs.Common.{◌≡◌, ℕ, ◌+◌, List, [], ◌∷◌, ◌++◌, Bool, true, false, inl, refl, subst, cond, codes, length, count_by, Result, Ok, Err, IfOk}
 use Rattle.serde_json.specs.Data.{boolean, object, Members, member}
 use Rattle.serde_json.specs.View.{items_of}

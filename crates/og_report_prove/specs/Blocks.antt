@@ -1,4 +1,4 @@
--- What is told of a false condition.
+-- The report of a false condition.
 use Rattle.std.specs.Prelude.{ℕ, ℤ, ◌==◌, length, List, [], ◌∷◌, Bool, true, false, if◌then◌else◌, Option, Some, None, codes}
 use Rattle.og_typed.specs.Syntax.{Formula, Noted}
 use Rattle.og_typed.specs.Plain.{noted, formula}
@@ -109,7 +109,7 @@ module _ (names : List (List ℕ)) where
       & values_line (codes "state") block.values block.details.value.state.items
       & more_line (codes "besides") block.values block.details.value.besides.items
 
-  -- what is true there
+  -- the assertions true there
   abbrev pub true_lines : List ℕ → Rows → Block → List ℕ
   true_lines source rows block =
       known_lines source rows block.details.value.focus.items block.details.value.explanation.known.items

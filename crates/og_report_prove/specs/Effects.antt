@@ -55,7 +55,7 @@ module _ (names : List (List ℕ)) where
 
     -- ---- the words of the contracts of private functions
 
-    -- the number that a text has after condition n told an effect
+    -- the number that a text has after condition n had an effect
     abbrev pub after_effect : Option (ℕ × List Formula) → List ℕ → ℕ → Option ℕ → Option ℕ
     after_effect None text n number = number
     after_effect (Some effect) text n number = or_this number text (effect_text effect) n

@@ -1,4 +1,4 @@
--- What is told of all conditions of an outline, as JSON: the members of each object stand in the order of their bytes.
+-- The report of all conditions of an outline, as JSON: the members of each object stand in the order of their bytes.
 use Rattle.std.specs.Prelude.{ℕ, ◌+◌, true, false, if◌then◌else◌, List, [], ◌∷◌, ◌++◌, length, count_by, map, codes, Option, Some, None, option_map}
 use Rattle.serde_json.specs.Data.{Data, Members, string, boolean, array, object, member, no_members}
 use Rattle.serde_json.specs.View.{items_of}
@@ -26,7 +26,7 @@ status_word told.Proved = codes "proved"
 status_word (told.False block) = codes "false"
 status_word told.Open = codes "open"
 
--- what is told of a false condition alone
+-- the report of a false condition alone
 abbrev pub of_block : (Block → Option Data) → Told → Option Data
 of_block told_of told.Proved = None
 of_block told_of (told.False block) = told_of block
@@ -103,7 +103,7 @@ module _ (names : List (List ℕ)) (source : List ℕ) where
 
   -- ---- a condition that is not proved
 
-  -- the place, the number, the kind and what is false
+  -- the place, the number, the kind and the false conjuncts
   abbrev pub middle_members : ℕ → Condition → Told → Members
   middle_members n c t = member (codes "column") (natural (column_at source c.at))
       (member (codes "condition") (natural n)

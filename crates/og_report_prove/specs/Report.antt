@@ -1,4 +1,4 @@
--- What is told of all conditions of an outline.
+-- The report of all conditions of an outline.
 use Rattle.std.specs.Prelude.{ℕ, ◌+◌, ◌-◌, List, [], ◌∷◌, ◌++◌, length, count_by, take, slice_get, Bool, true, false, if◌then◌else◌, Option, Some, None, codes}
 use Rattle.std.specs.Fmt.{decimal}
 use Rattle.std.specs.List.{list_all}
@@ -14,7 +14,7 @@ use Rattle.og_report_prove.specs.declared.block.Block.{Block}
 use Rattle.og_report_prove.specs.declared.telling.Told.{Told}
 use Rattle.og_report_prove.specs.declared.telling.Told.TheVariants as told
 
--- and how many more are told with it
+-- and how many more are reported with it
 abbrev pub head_text : List ℕ → Rows → ℕ → Condition → List ℕ → ℕ → List ℕ
 head_text source rows n c word more =
     told_at source rows c.at & codes ": condition " & decimal n & codes " " & name_of_kind c.kind
@@ -74,7 +74,7 @@ module _ (names : List (List ℕ)) (source : List ℕ) (rows : Rows) where
   alike_or_block None found block = block_text names source rows block
   alike_or_block (Some k) found block = alike_line names k found
 
-  -- where it is known which conditions told an effect before
+  -- where it is known which conditions had an effect before
   abbrev pub effect_or_block : (List ℕ → Option ℕ) → Option (ℕ × List Formula) → Block → List ℕ
   effect_or_block known None block = block_text names source rows block
   effect_or_block known (Some effect) block = alike_or_block (known (effect_text names source rows effect)) effect.1 block
@@ -88,7 +88,7 @@ module _ (names : List (List ℕ)) (source : List ℕ) (rows : Rows) where
   one_text known n c more (told.False block) = head_text source rows n c (codes "false") more & body_text known block
   one_text known n c more told.Open = head_text source rows n c (codes "open") more
 
-  -- and of one that is told with an earlier one
+  -- and of one that is reported with an earlier one
   abbrev pub told_text : (List ℕ → Option ℕ) → ℕ → Condition → Option ℕ → Told → List ℕ
   told_text known n c None t = []
   told_text known n c (Some more) t = one_text known n c more t

@@ -1,4 +1,4 @@
--- False conditions of a template's outline that differ in their instances alone: they are told together.
+-- False conditions of a template's outline that differ in their instances alone: they are reported together.
 use Rattle.std.specs.Prelude.{ℕ, zero, suc, ◌+◌, ◌-◌, ◌==◌, List, [], ◌∷◌, ◌++◌, Bool, true, false, if◌then◌else◌, Option, Some, None, option_map, unwrap_or, slice_get, count_by, Vec, codes}
 use Rattle.std.specs.Global.{Global}
 use Rattle.std.specs.Fmt.{decimal}
@@ -37,13 +37,13 @@ abbrev pub with_places : Option Row → List ℕ → List ℕ → List ℕ
 with_places row places [] = places
 with_places row places (n ∷ ns) = with_places row (with_place (conjunct_at row n) places) ns
 
--- those of what is false
+-- those of the false conjuncts
 abbrev pub false_places : Rows → Fault → List ℕ → List ℕ
 false_places rows (fault.False note found) numbers = with_places (row_at rows (noted note.now).at) [] numbers
 false_places rows (fault.TooLarge x v) numbers = []
 false_places rows (fault.Blocked stands) numbers = []
 
--- ---- which conditions are told together
+-- ---- which conditions are reported together
 
 abbrev pub places_key : List ℕ → List ℕ
 places_key [] = []
@@ -53,13 +53,13 @@ abbrev pub action_key : Rows → Option ℕ → List ℕ
 action_key rows None = []
 action_key rows (Some at) = codes " with " & decimal (from_of (row_at rows at) at)
 
--- the place in the template, the kind, the place of the action, and those of the false conjuncts: conditions in which they are the same are told together
+-- the place in the template, the kind, the place of the action, and those of the false conjuncts: conditions in which they are the same are reported together
 abbrev pub key_text : Rows → Condition → Block → List ℕ
 key_text rows c block =
     decimal (from_of (row_at rows c.at) c.at) & codes " " & name_of_kind c.kind & action_key rows c.action_at
     & places_key (false_places rows block.details.value.explanation.fault block.details.value.conjuncts.items)
 
--- of what is told of a condition: of an outline in its own text, and of what is proved or open, nothing is told together
+-- of the finding on a condition: of an outline in its own text, and of proved and open ones, nothing is reported together
 abbrev pub key_of : Rows → Condition → Told → Option (List ℕ)
 key_of None c t = None
 key_of (Some rows) c told.Proved = None
@@ -75,7 +75,7 @@ abbrev pub has_key : List ℕ → Option (List ℕ) → Bool
 has_key key None = false
 has_key key (Some other) = bytes_eq key other
 
--- of one among all, behind these: how many more are told with it, or none where it is told with an earlier one
+-- of one among all, behind these: how many more are reported with it, or none where it is reported with an earlier one
 abbrev pub more_of : List (Option (List ℕ)) → List (Option (List ℕ)) → Option (List ℕ) → Option ℕ
 more_of all before None = Some 0
 more_of all before (Some key) = if list_any (has_key key) before then None else Some (count_by (has_key key) all - 1)
@@ -87,9 +87,9 @@ mores_from all before (k ∷ ks) = more_of all before k ∷ mores_from all (befo
 abbrev pub mores : List (Option (List ℕ)) → List (Option ℕ)
 mores keys = mores_from keys [] keys
 
--- ---- what is shown
+-- ---- the conditions shown
 
--- nothing of one that is told with an earlier one, as of one that is proved
+-- nothing of one that is reported with an earlier one, as of one that is proved
 abbrev pub shown : Option ℕ → Told → Told
 shown None t = told.Proved
 shown (Some more) t = t
@@ -117,7 +117,7 @@ counted false number = number
 abbrev pub left_of : List (Option (List ℕ)) → List (Option (List ℕ)) → List ℕ → Option ℕ
 left_of all before key = if list_any (has_key key) before then None else total (count_by (has_key key) all)
 
--- how many more are told, where it is known how often each key is left
+-- how many more are reported, where it is known how often each key is left
 abbrev pub more_left : (List ℕ → Option ℕ) → Option (List ℕ) → Option ℕ
 more_left left None = Some 0
 more_left left (Some key) = option_map (λ n. n - 1) (left key)

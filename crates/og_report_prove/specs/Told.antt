@@ -1,4 +1,4 @@
--- What is told of a condition.
+-- The finding on a condition.
 use Rattle.std.specs.Prelude.{◌≡◌, ℤ, List, [], ◌∷◌, ⊤}
 use Rattle.og_typed.specs.Syntax.{Program}
 use Rattle.og_cond.specs.Condition.{Condition}
@@ -12,14 +12,14 @@ use Rattle.og_report_prove.specs.declared.block.Block.{Block}
 use Rattle.og_report_prove.specs.declared.telling.Told.{Told}
 use Rattle.og_report_prove.specs.declared.telling.Told.TheVariants as told
 
--- the condition is false in the state of the block, and what is told besides is so
+-- the condition is false in the state of the block, and the rest of the block is right
 pub record IsBlock (o : Program) (c : Condition) (block : Block) : Type 0 where
   pub is_false : IsFalseAt c block.values
   pub explained : IsExplained o c block.values block.details.value.explanation
   pub kind : block.details.value.kind ≡ c.kind
   pub conjuncts : block.details.value.conjuncts.items ≡ fault_numbers block.details.value.explanation.after block.details.value.explanation.fault
 
--- proved: true in every state; false: in the state that is told
+-- proved: true in every state; false: in the state of the finding
 abbrev pub IsTold : Program → Condition → Told → Type 0
 IsTold o c told.Proved = IsValid c
 IsTold o c (told.False block) = IsBlock o c block
@@ -38,13 +38,13 @@ IsOfState s told.Proved = ⊥
 IsOfState s (told.False block) = block.values ≡ s
 IsOfState s told.Open = ⊤
 
--- where it is told where processes stand, the assertion at each place is true
+-- where it says where processes stand, the assertion at each place is true
 abbrev pub IsAllowed : Program → Told → Type 0
 IsAllowed o told.Proved = ⊤
 IsAllowed o (told.False block) = AreAllowed o block.values block.details.value.explanation.fault
 IsAllowed o told.Open = ⊤
 
--- proved exactly where the verdict is that the condition is true; a state that is told is the verdict's
+-- proved exactly where the verdict is that the condition is true; a state in the finding is the verdict's
 abbrev pub Follows : Verdict → Told → Type 0
 Follows (verdicts.True cert) t = t ≡ told.Proved
 Follows (verdicts.False s) t = IsOfState s t

@@ -1,4 +1,4 @@
-//! What is told of a false condition.
+//! The report of a false condition.
 
 ghost use Rattle.std.specs.Prelude.{◌≡◌, ◌++◌, OnOk};
 ghost use Rattle.og_report_prove.specs.Blocks.{head_lines, true_lines, block_text};
@@ -14,8 +14,8 @@ use og_subst::Values;
 use og_text::Name;
 use std::alloc::AllocError;
 
-/// What is told of a condition that is false in a state. A list has room for one for each condition, so
-/// all but the state stands elsewhere.
+/// The report of a condition that is false in a state. A list has room for one for each condition,
+/// so all but the state stands elsewhere.
 #[derive(Debug, Drop)]
 pub struct Block<'a> {
     /// The state.
@@ -23,7 +23,7 @@ pub struct Block<'a> {
     pub details: Box<Details<'a>>,
 }
 
-/// What is told besides the state.
+/// The rest of the report beside the state.
 #[derive(Debug, Drop)]
 pub struct Details<'a> {
     pub kind: Kind,
@@ -32,12 +32,13 @@ pub struct Details<'a> {
     pub explanation: Explanation<'a>,
     /// The numbers, from 0, of the conjuncts that are false among all of their assertion.
     pub conjuncts: Vec<usize>,
-    /// The variables of what is false.
+    /// The variables of the false conjuncts.
     pub focus: Vec<u32>,
-    /// The variables whose values are told first, and then those of the others.
+    /// The variables whose values are printed first, and then those of the others.
     pub state: Vec<u32>,
     pub besides: Vec<u32>,
-    /// The auxiliaries, where their initial values are told; and what the action assigns.
+    /// The auxiliaries, where their initial values are printed; and the values that the action
+    /// assigns.
     pub initial: Vec<u32>,
     pub assigned: Vec<u32>,
 }
@@ -54,7 +55,7 @@ fn put_head(text: &mut Vec<u8>, names: &[Name], block: &Block) -> Result<(), All
     put_more_line(text, names, b"besides", &block.values, &details.besides)
 }
 
-// What is true there.
+// The assertions true there.
 fn put_true(
     text: &mut Vec<u8>,
     names: &[Name],

@@ -67,7 +67,7 @@ pub(crate) fn effect_text(
     Ok(text)
 }
 
-/// The numbers of the conditions that told an effect first, by its text.
+/// The numbers of the conditions that had an effect first, by its text.
 pub type Firsts = BTreeMap<Vec<u8>, u128>;
 
 /// The number that the text has; else none, and it has this one from now on.

@@ -1,4 +1,4 @@
-//! What is told of a false condition.
+//! The report of a false condition.
 
 ghost use Rattle.std.specs.Prelude.{◌≡◌, true, false, map, Some, option_map, IfOk};
 ghost use Rattle.serde_json.specs.Data.{object, member, no_members};

@@ -1,5 +1,5 @@
-//! Which variables are told of a false condition. Nothing is promised of the choice: each value
-//! that is told is that of the state.
+//! Which variables are printed for a false condition. Nothing is promised of the choice: each value
+//! printed is that of the state.
 
 use og_cond::{Condition, Goal, Hypothesis, Part};
 use og_linear::Form;
@@ -16,7 +16,7 @@ pub(crate) struct Vars {
 }
 
 impl Vars {
-    /// None of so many variables.
+    /// None of this many variables.
     pub(crate) fn none(alloc: Global, count: u32) -> Result<Vars, AllocError> {
         let flags = vec![in alloc; false; count as usize]?;
         Ok(Vars { count, flags })
@@ -133,7 +133,7 @@ impl Vars {
         }
     }
 
-    /// The variables of what is false, and those on which they depend.
+    /// The variables of the false conjuncts, and those on which they depend.
     pub(crate) fn of_fault(
         alloc: Global,
         condition: &Condition,
@@ -175,7 +175,7 @@ impl Vars {
         }
     }
 
-    /// Adds the variables of the tests and guards that are told.
+    /// Adds the variables of the tests and guards that are printed.
     pub(crate) fn add_tests(&mut self, explanation: &Explanation) {
         if let Some(test) = &explanation.test {
             self.add_test(test.site.item);
@@ -210,7 +210,7 @@ impl Vars {
         Ok(list)
     }
 
-    /// Those of these that are told first, and the others.
+    /// Those of these that are printed first, and the others.
     pub(crate) fn told(
         &self,
         alloc: Global,

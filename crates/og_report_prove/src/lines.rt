@@ -17,7 +17,7 @@ use std::alloc::AllocError;
 /// The most bytes of a quote.
 const QUOTE_LIMIT: usize = 72;
 
-// A word, before what it tells.
+// A word, before the conjuncts it is about.
 fn put_word(text: &mut Vec<u8>, word: &[u8]) -> Result<(), AllocError>
     ensures { OnOk result (text.new.items ≡ text.old.items ++ word_text word.now) }
 {
@@ -104,7 +104,7 @@ fn put_known_line(
     text.extend_from_slice(b"\n")
 }
 
-/// Adds what is known to be true.
+/// Adds the assertions known to be true.
 pub(crate) fn put_known_lines(
     text: &mut Vec<u8>,
     names: &[Name],
@@ -281,7 +281,7 @@ fn put_stands(text: &mut Vec<u8>, origins: &Origins, stands: &[Stand]) -> Result
     Ok(())
 }
 
-/// Adds what is false.
+/// Adds the false conjuncts.
 pub(crate) fn put_fault(
     text: &mut Vec<u8>,
     names: &[Name],

@@ -53,10 +53,10 @@ fn report_value(
     totals_value(alloc, told, list_value(unproved))
 }
 
-/// What is told of all conditions of an outline, as JSON, in one line without an LF: how many
+/// The report of all conditions of an outline, as JSON, in one line without an LF: how many
 /// conditions there are, how many are proved, false and open, whether the outline is safe and
 /// unblocked; and of each condition that is not proved its number from 1, its kind, its place and
-/// its action's, whether it is false or open, and of a false one the state and what is false there.
+/// its action's, whether it is false or open, and of a false one the state and the false conjuncts.
 /// The members stand in the order of their bytes. Values after an action are texts of their digits,
 /// since they may be no `i64`s. Places are lines and columns of the source, which has at most
 /// 1,048,576 bytes.

@@ -1,4 +1,4 @@
-//! What is told of all conditions of an outline.
+//! The report of all conditions of an outline.
 
 ghost use Rattle.std.specs.Prelude.{◌≡◌, ◌++◌, ◌<◌, ◌≤◌, ◌^◌, count_by, ℕ, List, [], length, map, codes, IfOk, OnOk};
 ghost use Rattle.og_cond.specs.Seen.{seen};
@@ -17,7 +17,7 @@ use og_text::Name;
 use og_typed::Outline;
 use std::alloc::{AllocError, Global};
 
-// How many more are told with a condition.
+// How many more are reported with a condition.
 fn put_more(text: &mut Vec<u8>, more: usize) -> Result<(), AllocError>
     ensures { OnOk result (text.new.items ≡ text.old.items ++ more_text more) }
 {
@@ -29,7 +29,7 @@ fn put_more(text: &mut Vec<u8>, more: usize) -> Result<(), AllocError>
     text.extend_from_slice(b" more)")
 }
 
-// What is found of a condition, and of how many more with it.
+// The finding on a condition, and on how many more with it.
 fn put_found(text: &mut Vec<u8>, word: &[u8], more: usize) -> Result<(), AllocError>
     ensures { OnOk result (text.new.items ≡ text.old.items ++ (word.now ++ (more_text more ++ codes "\n"))) }
 {
@@ -38,7 +38,7 @@ fn put_found(text: &mut Vec<u8>, word: &[u8], more: usize) -> Result<(), AllocEr
     text.extend_from_slice(b"\n")
 }
 
-// The place, the number and the kind of a condition, and what is found of it.
+// The place, the number and the kind of a condition, and the finding on it.
 fn put_head(
     text: &mut Vec<u8>,
     origins: &Origins,
@@ -60,12 +60,12 @@ fn put_head(
     put_found(text, word, more)
 }
 
-/// What all that is told is printed with.
+/// What the whole report is printed with.
 #[derive(Clone, Copy)]
 pub struct Page<'a> {
     /// The names of the variables.
     pub names: &'a [Name],
-    /// How places are told.
+    /// How places are reported.
     pub origins: &'a Origins<'a>,
 }
 
@@ -92,7 +92,7 @@ fn put_body(
     }
 }
 
-// What is told of a condition, and of how many more with it.
+// The report of a condition, and of how many more with it.
 fn put_one(
     text: &mut Vec<u8>,
     firsts: &mut Firsts,
@@ -117,9 +117,9 @@ fn put_one(
     }
 }
 
-/// Adds what is told of a condition, by its number from 1, and of how many more with it; nothing of one
-/// that is told with an earlier one. `firsts` has the numbers of the conditions before it that told
-/// an effect first.
+/// Adds the report of a condition, by its number from 1, and of how many more with it; nothing of
+/// one that is reported with an earlier one. `firsts` has the numbers of the conditions before it
+/// that had an effect first.
 ///
 /// # Errors
 ///
@@ -144,7 +144,7 @@ pub fn put_told(
     }
 }
 
-// What is told of each condition, numbered from 1.
+// The report of each condition, numbered from 1.
 fn put_all(
     text: &mut Vec<u8>,
     page: Page,
@@ -200,7 +200,7 @@ impl<'a> Told<'a> {
     }
 }
 
-/// How many conditions are told as proved, as false and as open.
+/// How many conditions are reported as proved, as false and as open.
 #[derive(Clone, Copy, Debug, PartialEq, Eq)]
 pub struct Totals {
     /// How many are proved.
@@ -294,10 +294,11 @@ pub fn put_totals(text: &mut Vec<u8>, told: &[Told]) -> Result<(), AllocError>
     put_yes_line(text, b"unblocked", is_unblocked(told))
 }
 
-/// What is told of all conditions of an outline, as a text: those that are not proved, in order,
-/// and the totals. Places are lines and columns of the text in which the outline stands, or of a
+/// The report of all conditions of an outline, as a text: those that are not proved, in order, and
+/// the totals. Places are lines and columns of the text in which the outline stands, or of a
 /// template, by its rows. The text has at most 1,048,576 bytes. Of a template's outline the false
-/// conditions that differ in their instances alone are told together, where the first one stands.
+/// conditions that differ in their instances alone are reported together, where the first one
+/// stands.
 ///
 /// # Errors
 ///

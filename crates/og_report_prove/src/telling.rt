@@ -1,4 +1,4 @@
-//! What is told of a condition.
+//! The verdict on a condition.
 
 ghost use Rattle.std.specs.Prelude.{◌≡◌, IfOk};
 ghost use Rattle.og_cond.specs.Seen.{seen};
@@ -20,7 +20,7 @@ use og_subst::{Action, Values};
 use og_typed::{Index, Note, Outline};
 use std::alloc::{AllocError, Global};
 
-/// What is told of a condition.
+/// The finding on a condition.
 #[derive(Debug, Drop)]
 pub enum Told<'a> {
     /// It is true in every state.
@@ -31,7 +31,7 @@ pub enum Told<'a> {
     Open,
 }
 
-// The auxiliaries, where their initial values are told.
+// The auxiliaries, where their initial values are printed.
 fn initial(alloc: Global, outline: &Outline, starts: bool) -> Result<Vec<u32>, AllocError> {
     outline.follows_rule();
     let mut vars = Vec::new(alloc);
@@ -85,7 +85,8 @@ fn fault_numbers(alloc: Global, explanation: &Explanation) -> Result<Vec<usize>,
     }
 }
 
-// The block of a condition by what explains that it is false, and the numbers of the false conjuncts.
+// The block of a condition by what explains that it is false, and the numbers of the false
+// conjuncts.
 fn block_with<'a>(
     alloc: Global,
     outline: &Outline,
@@ -166,7 +167,7 @@ fn block_at<'a>(
     block_of(alloc, outline, index, condition, values, explanation)
 }
 
-// What is told of a condition that is false in the state.
+// The report of a condition that is false in the state.
 fn told_false<'a>(
     alloc: Global,
     outline: &'a Outline,
@@ -187,9 +188,9 @@ fn told_false<'a>(
     }
 }
 
-/// What is told of a condition of the outline by a verdict on it: of one that is true, that it is
+/// The finding on a condition of the outline by a verdict on it: of one that is true, that it is
 /// proved; of one that is false, the state and what explains it, as `IsExplained` says; and that it
-/// is open where the verdict is, or where a value leaves 128 bits. Where it is told where processes
+/// is open where the verdict is, or where a value leaves 128 bits. Where it says where processes
 /// stand, the assertion at each place is true.
 ///
 /// # Errors

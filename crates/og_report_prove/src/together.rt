@@ -1,4 +1,4 @@
-//! Which false conditions of a template's outline are told together: those that differ in their
+//! Which false conditions of a template's outline are reported together: those that differ in their
 //! instances alone.
 
 ghost use Rattle.std.specs.Prelude.{◌≡◌, ◌<◌, ◌^◌, ◌++◌, ℕ, List, [], length, map, option_map, replicate, unwrap_or, count_by, Some, IfOk, OnOk};
@@ -48,7 +48,7 @@ fn places_of(alloc: Global, row: Option<&Row>, numbers: &[usize]) -> Result<Vec<
     Ok(places)
 }
 
-// Those of what is false.
+// Those of the false conjuncts.
 fn false_places(alloc: Global, rows: &Rows, block: &Block) -> Result<Vec<u32>, AllocError>
     ensures { IfOk result (λ v. v.items ≡ false_places (Some rows.entry) block.now.details.value.explanation.fault block.now.details.value.conjuncts.items) }
 {
@@ -88,7 +88,7 @@ fn put_action(text: &mut Vec<u8>, rows: &Rows, at: Option<u32>) -> Result<(), Al
     put_number(text, from(rows, at) as u128)
 }
 
-// The key of a false condition: those with the same one are told together.
+// The key of a false condition: those with the same one are reported together.
 fn key_text(
     alloc: Global,
     rows: &Rows,
@@ -107,7 +107,7 @@ fn key_text(
     Ok(text)
 }
 
-// The key of what is told of a condition, if others may be told with it.
+// The key of the finding on a condition, if others may be reported with it.
 fn key_of(
     alloc: Global,
     rows: Option<&Rows>,
@@ -125,7 +125,7 @@ fn key_of(
     }
 }
 
-// The key of each.
+// A key for each condition.
 fn keys_of(
     alloc: Global,
     rows: Option<&Rows>,
@@ -179,8 +179,8 @@ fn counts_of(alloc: Global, keys: &[Option<Vec<u8>>]) -> Result<Counts, AllocErr
     Ok(counts)
 }
 
-// How many more are told with this one; none where it is told with an earlier one. Its key is taken
-// out of the counts.
+// How many more are reported with this one; none where it is reported with an earlier one. Its key
+// is taken out of the counts.
 fn more_left(counts: &mut Counts, key: &Option<Vec<u8>>) -> Option<usize>
     ensures more { result ≡ more_left (λ t. found t counts.old) (key_seen key.now) }
     ensures counts { (t : List ℕ) → found t counts.new ≡ without (has_key t (key_seen key.now)) (found t counts.old) }
@@ -192,7 +192,7 @@ fn more_left(counts: &mut Counts, key: &Option<Vec<u8>>) -> Option<usize>
     Some(number.saturating_sub(1))
 }
 
-// The same of all of them.
+// Of all of them.
 fn mores_of(alloc: Global, keys: &[Option<Vec<u8>>]) -> Result<Vec<Option<usize>>, AllocError>
     requires { length keys.now < 2 ^ 32 }
     ensures { IfOk result (λ v. v.items ≡ mores (map key_seen keys.now)) }
@@ -205,7 +205,7 @@ fn mores_of(alloc: Global, keys: &[Option<Vec<u8>>]) -> Result<Vec<Option<usize>
     Ok(mores)
 }
 
-// No more are told with any of so many.
+// No more are reported with any of this many.
 fn none_more(alloc: Global, count: usize) -> Result<Vec<Option<usize>>, AllocError>
     ensures { IfOk result (λ v. v.items ≡ replicate count (Some 0)) }
 {
@@ -216,9 +216,9 @@ fn none_more(alloc: Global, count: usize) -> Result<Vec<Option<usize>>, AllocErr
     Ok(mores)
 }
 
-/// How many more are told with each condition: with the first of those false conditions of a template's
-/// outline that differ in their instances alone, and none with the others, which are told with it. With
-/// any other condition, and without rows, 0.
+/// How many more are reported with each condition: with the first of those false conditions of a
+/// template's outline that differ in their instances alone, and none with the others, which are
+/// reported with it. With any other condition, and without rows, 0.
 ///
 /// # Errors
 ///

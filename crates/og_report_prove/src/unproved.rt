@@ -16,7 +16,7 @@ use og_text::Name;
 use serde_json::{Map, Value};
 use std::alloc::{AllocError, Global};
 
-// The word for what is told.
+// The word for the finding.
 fn status_word(told: &Told) -> &'static str
     ensures { result.now ≡ status_word told.now }
 {
@@ -44,7 +44,7 @@ fn put_last(
     put_optional(members, alloc, "state", state)
 }
 
-// Sets the place, the number and the kind, and what is false.
+// Sets the place, the number and the kind, and the false conjuncts.
 fn put_middle(
     members: &mut Map<String, Value>,
     alloc: Global,

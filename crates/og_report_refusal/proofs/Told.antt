@@ -1,4 +1,4 @@
--- From the parts of what is told to the whole.
+-- From the parts of the report to the whole.
 use Rattle.std.proofs.Common.{◌≡◌, ◌++◌, ℕ, ℤ, List, Option, Some, None, Result, Ok, Err, Vec, IfOk}
 use Rattle.std.specs.Prelude.{IfSome}
 use Rattle.std.specs.Global.{Global}

@@ -1,4 +1,4 @@
--- What is told of a refusal on standard error.
+-- The message about a refusal on standard error.
 use Rattle.std.specs.Prelude.{◌≡◌, ℕ, Bool, not, ◌==◌, List, [], Option, None, Some, IfSome, IsTrue, codes}
 use Rattle.std.specs.List.{list_all}
 use Rattle.std.specs.Fmt.{decimal}
@@ -14,7 +14,7 @@ use Rattle.og_report_refusal.specs.Names.{shown_name}
 use Rattle.og_report_refusal.specs.Quotes.{quote_text}
 use Rattle.og_report_refusal.specs.Reasons.{IsReason}
 
--- what is known of a fault before it is told: that of a source is its first
+-- the facts known of a fault before it is reported: that of a source is its first
 abbrev pub IsKnown : List ℕ → InputFault → Type 0
 IsKnown source (faults.Source fault) = IsSourceFault source fault
 IsKnown source (faults.Conditions fault) = Unit {0}

@@ -1,4 +1,4 @@
--- What is told of a template of which nothing is printed.
+-- The message about a template of which nothing is printed.
 use Rattle.std.specs.Prelude.{◌≡◌, ◌^◌, nat_lt, if◌then◌else◌, ℕ, List, length, Option, None, IsTrue, codes}
 use Rattle.og_report_text.specs.Places.{◌&◌}
 use Rattle.og_report_refusal.specs.Advice.{is_one_line, place_text, refusal_text, front_text}

@@ -1,4 +1,4 @@
--- How many conditions have no certificate, as it is told on standard error.
+-- How many conditions have no certificate, as standard error says it.
 use Rattle.std.specs.Prelude.{◌≡◌, ◌<◌, ◌⊎◌, ℕ, List, length, Option, None, Some, Ok, codes}
 use Rattle.std.specs.Fmt.{decimal}
 use Rattle.og_typed.specs.Syntax.{Program}
@@ -45,7 +45,7 @@ abbrev pub IsCountOf : List ℕ → Option ℕ → Type 0
 IsCountOf source (Some n) = (o : Program) × IsSource source o × (n ≡ length (conditions o))
 IsCountOf source None = IsRefusedSource source
 
--- how many of so many conditions have no certificate in the text, or nothing where it is refused
+-- how many of this many conditions have no certificate in the text, or nothing where it is refused
 abbrev pub IsMissingOf : List ℕ → ℕ → Option Missing → Type 0
 IsMissingOf certs count (Some m) = (file : Entries) × Gives certs (Ok file) × (m.count ≡ missing_up_to file count) × (m.conditions ≡ count)
 IsMissingOf certs count None = (fault : CertTextFault) × IsWrong certs fault

@@ -40,7 +40,7 @@ bad_byte_text (b ∷ bs) = byte_text b
 abbrev pub word_at : List ℕ → ℕ → List ℕ
 word_at source at = take (prefix_len is_word_byte (drop at source)) (drop at source)
 
--- that word in front of what is wrong with it
+-- that word in front of its fault
 abbrev pub wrong_text : List ℕ → ℕ → List ℕ → List ℕ
 wrong_text source at why = codes "'" & word_at source at & why
 
@@ -50,7 +50,7 @@ wrong_text source at why = codes "'" & word_at source at & why
 abbrev pub count_before : List Token → ℕ → ℕ
 count_before tokens at = prefix_len (λ t. nat_le t.span.end at) tokens
 
--- at most 64 bytes of what is written from one place to another
+-- at most 64 bytes of the text from one place to another
 abbrev pub cut_at : List ℕ → ℕ → ℕ → List ℕ
 cut_at source start end = take 64 (drop start (take end source))
 
@@ -62,7 +62,7 @@ found_text source (t ∷ tokens) = codes "'" & cut_at source t.span.start t.span
 abbrev pub expected_text : List ℕ → List TokenKind → Bool → List ℕ
 expected_text found symbols may_end = codes "found " & found & codes ", expected " & listed (words_of symbols may_end)
 
--- what is found behind the tokens before a place, and exactly what may stand there
+-- the symbol found behind the tokens before a place, and exactly the symbols that may stand there
 pub record IsExpectedText (source : List ℕ) (at : ℕ) (text : List ℕ) : Type 0 where
   pub tokens : List Token
   pub are : AreTokensOf source tokens

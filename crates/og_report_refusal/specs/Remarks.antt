@@ -1,4 +1,4 @@
--- What is told on standard error beside a refusal: why, where there is one, and else nothing.
+-- The message on standard error beside a refusal: why, where there is one, and else nothing.
 use Rattle.std.specs.Prelude.{◌<◌, ◌≤◌, ℕ, List, [], length, Option, None, Some}
 use Rattle.og_typed.specs.Syntax.{Program}
 use Rattle.og_cond.specs.Conditions.{conditions}

@@ -1,4 +1,4 @@
--- What is told of a run that does not begin.
+-- The message about a run that does not begin.
 use Rattle.std.specs.Prelude.{◌≡◌, ℕ, zero, suc, ℤ, List, [], ◌∷◌, if◌then◌else◌, ◌==◌, ◌⊎◌, Option, Some, None, Vec, codes}
 use Rattle.std.specs.Global.{Global}
 use Rattle.og_typed.specs.Syntax.{Program}
@@ -55,7 +55,7 @@ pub record IsStartRemark (name source : List ℕ) (words : List (List ℕ)) (tex
   pub given : Give outline words values
   pub is_told : IsStartOf name source outline values text
 
--- of a run of a source of this name that does not begin: why the source is refused, or what is told of its start
+-- of a run of a source of this name that does not begin: why the source is refused, or the message about its start
 abbrev pub IsRunRemark : List ℕ → List ℕ → List (List ℕ) → Option (List ℕ) → Type 0
 IsRunRemark name source words (Some text) = IsSourceRemark name source (Some text) ⊎ IsStartRemark name source words text
 IsRunRemark name source words None = IsSourceRemark name source None

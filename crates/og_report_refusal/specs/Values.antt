@@ -10,7 +10,7 @@ use Rattle.og_command_run.specs.Words.{is_equals, IsInteger}
 use Rattle.og_report_refusal.specs.declared.values.Gives.{Gives}
 use Rattle.og_report_refusal.specs.declared.values.Gives.TheVariants as gives
 
--- a name in quotes, and what is said of it
+-- a name in quotes, and the claim about it
 abbrev pub quoted_text : List ℕ → List ℕ → List ℕ
 quoted_text name rest = codes "'" & shown_name name & codes "'" & rest
 

@@ -1,4 +1,4 @@
--- Symbols, as they are told.
+-- Symbols, as they are written in messages.
 use Rattle.std.specs.Prelude.{ℕ, List, [], ◌∷◌, ◌++◌, map, Bool, true, false, codes}
 use Rattle.og_text.specs.Lexemes.{text_of}
 use Rattle.og_text.specs.declared.token.TokenKind.{TokenKind}

@@ -1,4 +1,4 @@
-//! What is told of a refusal on standard error.
+//! The message about a refusal on standard error.
 
 ghost use Rattle.std.specs.Prelude.{◌≡◌, ◌++◌, OnOk, IfOk, IfSome, IsTrue, option_map};
 ghost use Rattle.og_report_text.specs.Faults.{place_of_input};
@@ -63,9 +63,9 @@ fn line_of(hint: Option<Hint>) -> Option<&'static str>
     }
 }
 
-/// What is told of a refusal: the file with the place, and the refusal's number and name; the line of
-/// the source with a mark below it, and why; and a line of advice, where there is some. Where another
-/// symbol is expected, all that may stand there are told, and no other.
+/// The message about a refusal: the file with the place, and the refusal's number and name; the
+/// line of the source with a mark below it, and why; and a line of advice, where there is some.
+/// Where another symbol is expected, all that may stand there are listed, and no other.
 ///
 /// # Errors
 ///

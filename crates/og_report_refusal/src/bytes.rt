@@ -1,4 +1,4 @@
-//! Bytes and words of a source, as they are told.
+//! Bytes and words of a source, as they are written in messages.
 
 ghost use Rattle.std.specs.Prelude.{◌≡◌, ◌<◌, ◌++◌, OnOk, drop, take};
 ghost use Rattle.std.specs.List.{prefix_len};

@@ -212,7 +212,7 @@ impl<'a> Around<'a> {
         }
     }
 
-    // The advice for what is found.
+    // The advice for the symbol found.
     fn hint(&self) -> Option<Hint> {
         let found = self.rest.first()?;
         match &found.kind {

@@ -1,4 +1,4 @@
-//! What is told of a template of which nothing is printed.
+//! The message about a template of which nothing is printed.
 
 ghost use Rattle.std.specs.Prelude.{◌≡◌, ◌≤◌, ◌^◌, ◌++◌, None, Some, IfOk, IsTrue, OnOk, length, codes};
 ghost use Rattle.og_report_refusal.specs.Advice.{is_one_line, place_text, refusal_text};
@@ -140,7 +140,7 @@ fn unplaced_head(alloc: Global, name: &str, fault: &ExpandFault) -> Result<Vec<u
     Ok(text)
 }
 
-// What is told at a place.
+// The message at a place.
 fn placed(
     alloc: Global,
     name: &str,
@@ -157,7 +157,7 @@ fn placed(
     Ok(text)
 }
 
-// What is told without a place.
+// The message without a place.
 fn unplaced(
     alloc: Global,
     name: &str,
@@ -172,9 +172,9 @@ fn unplaced(
     Ok(text)
 }
 
-/// What is told of a template of this name with a fault: the file with the place, the fault's number
-/// and name, the line of the template with a mark below it, and why. Without a place there is no line
-/// of the template.
+/// The message about a template of this name with a fault: the file with the place, the fault's
+/// number and name, the line of the template with a mark below it, and why. Without a place there
+/// is no line of the template.
 ///
 /// # Errors
 ///

@@ -1,4 +1,4 @@
-//! What is found at a place, and what may stand there.
+//! The symbol found at a place, and those that may stand there.
 
 ghost use Rattle.std.specs.Prelude.{◌≡◌, ◌≤◌, ◌++◌, OnOk, IfOk, length, drop};
 ghost use Rattle.og_text.specs.Cut.{AreTokensOf};
@@ -42,7 +42,7 @@ fn cut_at(source: &[u8], start: u32, end: u32) -> &[u8]
     front_of(rest_of(front, start as usize), 64)
 }
 
-// Adds what is found.
+// Adds the symbol found.
 fn put_found(text: &mut Vec<u8>, source: &[u8], rest: &[Token]) -> Result<(), AllocError>
     ensures { OnOk result (text.new.items ≡ text.old.items ++ found_text source.now rest.now) }
 {
@@ -64,7 +64,7 @@ pub(crate) fn tokens_from(tokens: &[Token], index: usize) -> &[Token]
     &tokens[index.min(tokens.len())..]
 }
 
-// What is found.
+// The symbol found.
 fn found(alloc: Global, source: &[u8], rest: &[Token]) -> Result<Vec<u8>, AllocError>
     ensures { IfOk result (λ found. found.items ≡ found_text source.now rest.now) }
 {
@@ -73,7 +73,7 @@ fn found(alloc: Global, source: &[u8], rest: &[Token]) -> Result<Vec<u8>, AllocE
     Ok(text)
 }
 
-// What is found, and what may stand there.
+// The symbol found, and those that may stand there.
 fn line_of(
     alloc: Global,
     found: &[u8],
@@ -89,7 +89,7 @@ fn line_of(
     Ok(text)
 }
 
-/// What is found at a place, and what may stand there, as a text; and the symbols that may.
+/// The symbol found at a place, and those that may stand there, as a text; and these symbols.
 ///
 /// # Errors
 ///

@@ -1,9 +1,10 @@
-//! What standard error says of a refusal: where it is, the line of the source, why, and what to write.
+//! What standard error says of a refusal: where it is, the line of the source, why, and what to
+//! write.
 //!
-//! It is of a source, its conditions, its certificates, a start, a word or a template, found by looking
-//! at them once more. specs/Advice.antt defines the text, and Remarks.antt, Missing.antt,
-//! Starting.antt, Values.antt and Expansion.antt whose it is. What may stand at a place where a symbol
-//! is expected is exact (`og_parse::expected`).
+//! It is of a source, its conditions, its certificates, a start, a word or a template, found by
+//! looking at them once more. specs/Advice.antt defines the text, and Remarks.antt, Missing.antt,
+//! Starting.antt, Values.antt and Expansion.antt whose it is. What may stand at a place where a
+//! symbol is expected is exact (`og_parse::expected`).
 #![tactic(auto)]
 
 mod advice;

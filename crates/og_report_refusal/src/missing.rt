@@ -44,7 +44,7 @@ fn count_of(alloc: Global, source: &[u8]) -> Result<Option<u32>, AllocError>
     }
 }
 
-// How many of so many conditions have no certificate in a text; none where it is refused.
+// How many of this many conditions have no certificate in a text; none where it is refused.
 fn missing_of(alloc: Global, certs: &[u8], count: u32) -> Result<Option<Missing>, AllocError>
     ensures { IfOk result (IsMissingOf certs.now count) }
 {
@@ -77,7 +77,8 @@ fn put_prove(text: &mut Vec<u8>, before: &str, name: &str, after: &str) -> Resul
     text.extend_from_slice(after.as_bytes())
 }
 
-/// The line that so many conditions of a source of this name have no certificate, and what says why.
+/// The line that this many conditions of a source of this name have no certificate, and which
+/// command says why.
 ///
 /// # Errors
 ///
@@ -110,8 +111,8 @@ fn put_length(text: &mut Vec<u8>, name: &str, second: Option<usize>) -> Result<(
     }
 }
 
-/// The line that the certificates of a source of this name take more bytes than the limit, and how many
-/// they take in version 2, where these are no more; or else what does without certificates.
+/// The line that the certificates of a source of this name take more bytes than the limit, and how
+/// many they take in version 2, where these are no more; or else what does without certificates.
 ///
 /// # Errors
 ///

@@ -110,8 +110,8 @@ fn put_marked(text: &mut Vec<u8>, before: &[u8], after: &[u8]) -> Result<(), All
     text.extend_from_slice(b"^ ")
 }
 
-/// Adds the line of a place, a byte offset, and below it a mark at the place, to the text: what is
-/// said of the place may follow in the same line. A line of more than 160 bytes is left out.
+/// Adds the line of a place, a byte offset, and below it a mark at the place, to the text: the line
+/// is said of the place may follow in the same line. A line of more than 160 bytes is left out.
 ///
 /// # Errors
 ///

@@ -24,7 +24,7 @@ use std::alloc::{AllocError, Global};
 /// A reason, and advice where there is some.
 pub(crate) type Reason = (Vec<u8>, Option<Hint>);
 
-// A word of the source, and what is wrong with it.
+// A word of the source, and its fault.
 fn wrong_word(alloc: Global, source: &[u8], at: u32, why: &str) -> Result<Reason, AllocError>
     ensures { IfOk result (λ r. r.0.items ≡ wrong_text source.now at why.now) }
 {
@@ -189,7 +189,7 @@ fn source_reason(alloc: Global, fault: &SourceFault, source: &[u8]) -> Result<Re
     }
 }
 
-// Advice on what is no text of certificates: read behind its source, beside it or alone.
+// Advice on a text that is none of certificates: read behind its source, beside it or alone.
 fn certs_hint(names: Names<'_>) -> Option<Hint> {
     if names.source.is_empty() {
         None

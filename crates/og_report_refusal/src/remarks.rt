@@ -1,4 +1,4 @@
-//! What is told beside a refusal.
+//! Messages beside refusals.
 
 ghost use Rattle.std.specs.Prelude.{option_map, Some, IfOk};
 ghost use Rattle.og_report_refusal.specs.Remarks.{IsSourceRemark, IsCounted, IsListed, IsConditionsRemark, IsTooManyRemark, IsCheckRemark, IsCertificatesRemark};
@@ -14,7 +14,7 @@ use std::alloc::{AllocError, Global};
 use std::sync::Wait;
 use std::thread::Threads;
 
-/// What is told of a source of this name that is refused; nothing of one that has an outline.
+/// The message about a source of this name that is refused; nothing of one that has an outline.
 ///
 /// # Errors
 ///
@@ -73,7 +73,7 @@ fn listed(alloc: Global, source: &[u8]) -> Result<Option<InputFault>, AllocError
     }
 }
 
-/// What is told of a source of this name that is refused or has more than 4,000,000 conditions;
+/// The message about a source of this name that is refused or has more than 4,000,000 conditions;
 /// nothing of any other.
 ///
 /// # Errors
@@ -96,7 +96,7 @@ pub fn conditions_remark(
     Ok(Some(advise(alloc, names, &fault, source)?))
 }
 
-/// What is told of a template of this name whose outline has more than 4,000,000 conditions.
+/// The message about a template of this name whose outline has more than 4,000,000 conditions.
 ///
 /// # Errors
 ///
@@ -112,7 +112,7 @@ pub fn too_many_remark(alloc: Global, name: &str, template: &[u8]) -> Result<Vec
     advise(alloc, names, &fault, template)
 }
 
-/// What is told of a source and certificates of these names that are refused; nothing of others.
+/// The message about a source and certificates of these names that are refused; nothing of others.
 ///
 /// # Errors
 ///
@@ -137,7 +137,7 @@ pub fn check_remark<H: Threads + Wait + Sync>(
     }
 }
 
-/// What is told of certificates of this name that are refused; nothing of others.
+/// The message about certificates of this name that are refused; nothing of others.
 ///
 /// # Errors
 ///

@@ -1,4 +1,4 @@
-//! What is told of a run that does not begin: its start makes the precondition false.
+//! The message about a run that does not begin: its start makes the precondition false.
 
 ghost use Rattle.std.specs.Prelude.{◌≡◌, ◌++◌, map, option_map, IfOk, IfSome, OnOk};
 ghost use Rattle.og_command_run.specs.Words.{Give};
@@ -88,7 +88,7 @@ fn put_help(text: &mut Vec<u8>, count: u32) -> Result<(), AllocError>
     text.extend_from_slice(HELP.as_bytes())
 }
 
-// What is told of a start that makes these conjuncts of the precondition false.
+// The message about a start that makes these conjuncts of the precondition false.
 fn start_text(
     alloc: Global,
     name: &str,
@@ -110,7 +110,7 @@ fn start_text(
     Ok(text)
 }
 
-// What is told of a start of a source, where it makes the precondition false.
+// The message about a start of a source, where it makes the precondition false.
 fn told(
     alloc: Global,
     name: &str,
@@ -138,7 +138,7 @@ fn start_of(alloc: Global, outline: &Outline, words: &[&str]) -> Result<Option<S
     }
 }
 
-// What is told of the start that the words give.
+// The message about the start that the words give.
 fn told_of(
     alloc: Global,
     name: &str,
@@ -153,7 +153,7 @@ fn told_of(
     }
 }
 
-// The same, from the bytes of the source.
+// From the bytes of the source.
 fn start_remark(
     alloc: Global,
     name: &str,
@@ -173,8 +173,8 @@ fn start_remark(
     }
 }
 
-/// What is told of a run of a source of this name that does not begin: why the source is refused, or
-/// where its precondition stands, the values that the words give to its variables, and which
+/// The message about a run of a source of this name that does not begin: why the source is refused,
+/// or where its precondition stands, the values that the words give to its variables, and which
 /// conjuncts of the precondition are false then. Nothing of a source with an outline where a word
 /// gives no value, no conjunct is false, or a number on the way leaves 128 bits.
 ///
@@ -195,7 +195,7 @@ pub fn run_remark(
     }
 }
 
-/// The same of a run that certificates are to prove safe, which may be refused too.
+/// Of a run that certificates are to prove safe, which may be refused too.
 ///
 /// # Errors
 ///

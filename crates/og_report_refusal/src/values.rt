@@ -37,7 +37,7 @@ fn form(gives: Gives) -> &'static str
     }
 }
 
-// A name in quotes, and what is said of it.
+// A name in quotes, and the claim about it.
 fn quoted(alloc: Global, name: &str, rest: &str) -> Result<Vec<u8>, AllocError>
     ensures { IfOk result (λ text. text.items ≡ quoted_text name.now rest.now) }
 {
@@ -133,8 +133,8 @@ pub fn schedule_remark(alloc: Global) -> Result<Vec<u8>, AllocError>
 }
 
 /// Why a word gives no variable of a source a value or a range, as a line after two blanks: it has
-/// no `=`, its name is not declared or an auxiliary's, or what it says is no value; where it is one,
-/// that the variable has one already. Nothing where the source is refused.
+/// no `=`, its name is not declared or an auxiliary's, or what it says is no value; where it is
+/// one, that the variable has one already. Nothing where the source is refused.
 ///
 /// # Errors
 ///

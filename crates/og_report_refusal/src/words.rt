@@ -1,4 +1,4 @@
-//! Symbols, as they are told.
+//! Symbols, as they are written in messages.
 
 ghost use Rattle.std.specs.Prelude.{◌≡◌, ◌++◌, OnOk, IfOk, map};
 ghost use Rattle.og_report_refusal.specs.Words.{word_of, with_end, words_of, others_text, listed};

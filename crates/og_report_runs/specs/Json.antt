@@ -1,4 +1,4 @@
--- The same as JSON.
+-- As JSON.
 use Rattle.std.specs.Prelude.{ℕ, ◌+◌, ℤ, true, List, [], ◌∷◌, ◌++◌, length, map, if◌then◌else◌, codes}
 use Rattle.serde_json.specs.Data.{Data, string, boolean, array, object, member, no_members, put}
 use Rattle.serde_json.specs.View.{items_of}

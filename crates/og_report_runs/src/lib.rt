@@ -1,6 +1,6 @@
 //! Runs that get to a false condition: found, and reported as text and as JSON.
 //!
-//! specs/Sights.antt, Places.antt and Runs.antt say what a run shows, Told.antt what is told by it,
+//! specs/Sights.antt, Places.antt and Runs.antt say what a run shows, Told.antt the report by it,
 //! Lines.antt, Report.antt and Json.antt how it is reported.
 #![tactic(auto)]
 

@@ -1,4 +1,4 @@
-//! The line of a false condition that tells of the runs that get there.
+//! The line of a false condition about the runs that get there.
 
 ghost use Rattle.std.specs.Prelude.{◌≡◌, ◌++◌, [], nat_lt, IfOk, OnOk};
 ghost use Rattle.og_report_runs.specs.Lines.{steps_text, history_text, way_text, nonzero, else_text, begins_text, start_text, from_text, witness_text, run_text, run_line};
@@ -85,7 +85,7 @@ fn put_else(text: &mut Vec<u8>, are_all: bool) -> Result<(), AllocError>
     text.extend_from_slice(b" and else 0")
 }
 
-// These variables among the first so many, which are not 0 at a start; the others are.
+// These variables among the first ones, this many, which are not 0 at a start; the others are.
 fn put_begins(
     text: &mut Vec<u8>,
     names: &[Name],
@@ -149,7 +149,7 @@ fn put_witness(
     put_from(text, outline, many, &witness.values)
 }
 
-// What is known of the runs.
+// The result of the search for runs.
 fn put_run(
     text: &mut Vec<u8>,
     outline: &Outline,
@@ -169,7 +169,7 @@ fn put_run(
     }
 }
 
-/// Adds what is known of the runs, as a line.
+/// Adds the result of the search for runs, as a line.
 ///
 /// # Errors
 ///

@@ -83,7 +83,7 @@ fn witness_value(alloc: Global, outline: &Outline, witness: &Witness) -> Result<
     Ok(Value::Object(members))
 }
 
-// What is known of the runs.
+// The result of the search for runs.
 fn run_value(alloc: Global, outline: &Outline, run: &Run) -> Result<Value, AllocError>
     ensures { IfOk result (λ v. view v ≡ run_data outline.now run.now) }
 {
@@ -201,8 +201,8 @@ fn report_value(
     )
 }
 
-/// The same as JSON, in one line without an LF: as `og_report_prove::json` tells it, with `runs`, how
-/// far the exploration went, and of each false condition `run`, what is known of the runs that get
+/// As JSON, in one line without an LF: as by `og_report_prove::json`, with `runs`, how far the
+/// exploration went, and for each false condition `run`, the result of the search for runs that get
 /// there.
 ///
 /// # Errors

@@ -50,12 +50,12 @@ fn last_inside(stmt: &Stmt, at: u32) -> Option<u32> {
     }
 }
 
-// The same, of a part of the main process.
+// Of a part of the main process.
 fn last_of_main(seq: Option<&Seq>, at: u32) -> Option<u32> {
     last_of(seq?, at)
 }
 
-// The same, of the whole outline.
+// Of the whole outline.
 fn last_in(outline: &Outline, at: u32) -> Option<u32> {
     for process in outline.processes() {
         let found = last_of(process, at);

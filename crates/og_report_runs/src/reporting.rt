@@ -1,4 +1,4 @@
-//! What is told of all conditions of an outline, with the runs.
+//! The report of all conditions of an outline, with the runs.
 
 ghost use Rattle.std.specs.Prelude.{◌≡◌, ◌++◌, ◌<◌, ◌≤◌, ◌^◌, ℕ, List, [], length, map, IfOk, OnOk};
 ghost use Rattle.og_cond.specs.Seen.{seen};
@@ -18,7 +18,7 @@ use og_report_text::{Origins, Places, Rows};
 use og_typed::Outline;
 use std::alloc::{AllocError, Global};
 
-// The line of the run of a false condition; nothing of one that is told with an earlier one.
+// The line of the run of a false condition; nothing of one that is reported with an earlier one.
 fn put_line(
     text: &mut Vec<u8>,
     outline: &Outline,
@@ -38,7 +38,7 @@ fn put_line(
     }
 }
 
-// What is told of a condition, and the line of its run.
+// The report of a condition, and the line of its run.
 fn put_one(
     text: &mut Vec<u8>,
     firsts: &mut Firsts,
@@ -62,7 +62,7 @@ fn put_one(
     put_line(text, outline, explored, more, told, run)
 }
 
-// What is told of each condition, numbered from 1.
+// The report of each condition, numbered from 1.
 fn put_all(
     text: &mut Vec<u8>,
     outline: &Outline,
@@ -123,11 +123,12 @@ fn put_explored(text: &mut Vec<u8>, explored: Explored, runs: &[Run]) -> Result<
     put_number_line(text, b"reached", count_reached(runs))
 }
 
-/// What is told of all conditions of an outline, as a text: those that are not proved, in order,
-/// each false one with what is known of the runs that get there, and the totals. Places are lines
-/// and columns of the text in which the outline stands, or of a template, by its rows. The text has
-/// at most 1,048,576 bytes. Of a template's outline the false conditions that differ in their
-/// instances alone are told together, where the first one stands, with what is known of its runs.
+/// The report of all conditions of an outline, as a text: those that are not proved, in order, each
+/// false one with the result of the search for runs that get there, and the totals. Places are
+/// lines and columns of the text in which the outline stands, or of a template, by its rows. The
+/// text has at most 1,048,576 bytes. Of a template's outline the false conditions that differ in
+/// their instances alone are reported together, where the first one stands, with the result for its
+/// runs.
 ///
 /// # Errors
 ///

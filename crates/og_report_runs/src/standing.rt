@@ -1,4 +1,4 @@
-//! Who stands at the places of a condition, as far as the reading of assertions tells it.
+//! Who stands at the places of a condition, as far as the texts of assertions show it.
 
 ghost use Rattle.std.specs.Prelude.{◌≡◌, ◌↔◌, IfOk, IsTrue, option_map};
 ghost use Rattle.og_typed.specs.Plain.{formula, noted, statement};

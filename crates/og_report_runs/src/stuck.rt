@@ -135,8 +135,8 @@ fn stand_of<'a>(
 ///
 /// # Errors
 ///
-/// `Open` where one of them neither waits nor has ended at a place of its own, or a value leaves 128
-/// bits. `Memory` where an allocation was refused.
+/// `Open` where one of them neither waits nor has ended at a place of its own, or a value leaves
+/// 128 bits. `Memory` where an allocation was refused.
 pub(crate) fn stands_at<'a>(
     alloc: Global,
     outline: &Outline,

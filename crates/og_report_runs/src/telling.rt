@@ -1,4 +1,4 @@
-//! What is told of a condition by a run that gets to a state in which it is false.
+//! The report of a condition by a run that gets to a state in which it is false.
 
 ghost use Rattle.std.specs.Prelude.{◌≡◌, IfOk};
 ghost use Rattle.og_typed.specs.Machine.{IsReached};
@@ -19,7 +19,7 @@ use og_typed::{Index, Outline};
 use og_violation::moment_after;
 use std::alloc::{AllocError, Global};
 
-// With these stands in place of what it tells to be false.
+// With these stands in place of those in the report.
 fn with_stands<'a>(explanation: Explanation<'a>, stands: Vec<Stand<'a>>) -> Explanation<'a>
     ensures known { result.known ≡ explanation.entry.known }
     ensures starts { result.starts ≡ explanation.entry.starts }
@@ -34,7 +34,7 @@ fn with_stands<'a>(explanation: Explanation<'a>, stands: Vec<Stand<'a>>) -> Expl
     }
 }
 
-// Why the condition is false at the moment. Where that tells where processes stand, the moment has
+// Why the condition is false at the moment. Where that says where processes stand, the moment has
 // them there.
 fn explained<'a>(
     alloc: Global,
@@ -81,7 +81,7 @@ fn block_at<'a>(
     block_of(alloc, outline, index, condition, values, explanation)
 }
 
-// What is told of a condition that is false at the moment.
+// The report of a condition that is false at the moment.
 fn told_at<'a>(
     alloc: Global,
     outline: &'a Outline,
@@ -103,9 +103,9 @@ fn told_at<'a>(
     }
 }
 
-/// What is told of a condition by a run that gets to a state in which it is false: that state and what
-/// explains it, as `IsExplained` says; where that tells where processes stand, the run has them there.
-/// It is told as open where a value leaves 128 bits.
+/// The report of a condition by a run that gets to a state in which it is false: that state and its
+/// explanation, as `IsExplained` says; where that says where processes stand, the run has them
+/// there. It is reported as open where a value leaves 128 bits.
 ///
 /// # Errors
 ///

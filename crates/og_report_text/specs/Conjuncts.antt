@@ -1,4 +1,4 @@
--- The conjuncts of an assertion, and which of them are told.
+-- The conjuncts of an assertion, and which of them are printed.
 use Rattle.std.specs.Prelude.{ℕ, nat_lt, length, ◌==◌, List, [], ◌∷◌, ◌++◌, Bool, if◌then◌else◌, codes}
 use Rattle.std.specs.List.{list_any}
 use Rattle.og_typed.specs.Syntax.{Formula, True, False, Le, Eq, Ne, Not, And, Or, Imp, Formulas, none, more}
@@ -43,13 +43,13 @@ module _ (names : List (List ℕ)) where
   abbrev pub nothing_text : List ℕ → List ℕ
   nothing_text vars = if length vars == 0 then codes ".." else codes "nothing about " & names_text names [] vars
 
-  -- of all conjuncts those that are told of these variables
+  -- of all conjuncts those that are printed for these variables
   abbrev pub told_text : List ℕ → List Formula → List Formula → List ℕ
   told_text vars all told =
       if length told == 0 then nothing_text vars
       else conjuncts_text [] told & (if nat_lt (length told) (length all) then codes " and .." else [])
 
-  -- of a conjunction what is said of these variables, of any other assertion all
+  -- of a conjunction the part about these variables, of any other assertion all
   abbrev pub known_text : List ℕ → Formula → List ℕ
   known_text vars True = assertion_text names True
   known_text vars False = assertion_text names False

@@ -1,4 +1,4 @@
--- Where the parts of an outline come from, and how their places are told.
+-- Where the parts of an outline come from, and how their places are printed.
 use Rattle.std.specs.Prelude.{ℕ, List, [], Option, Some, None, codes}
 use Rattle.std.specs.Ordering.{nat_cmp}
 use Rattle.std.specs.BTreeMap.{BTreeMap, get_by}

@@ -15,7 +15,7 @@ abbrev pub line_of : List ℕ → List ℕ
 line_of [] = []
 line_of (b ∷ bs) = if ends_line b then [] else b ∷ line_of bs
 
--- a byte before what is left, which goes too where it is blank and nothing is left
+-- a byte before the rest, which goes too where it is blank and nothing is left
 abbrev pub kept_before : ℕ → List ℕ → List ℕ
 kept_before b [] = if is_blank b then [] else b ∷ []
 kept_before b (c ∷ cs) = b ∷ c ∷ cs
@@ -25,7 +25,7 @@ abbrev pub trimmed : List ℕ → List ℕ
 trimmed [] = []
 trimmed (b ∷ bs) = kept_before b (trimmed bs)
 
--- at most so many bytes of a line, with `..` where there are more
+-- at most this many bytes of a line, with `..` where there are more
 abbrev pub cut_text : ℕ → List ℕ → List ℕ
 cut_text limit line = if nat_lt limit (length line) then trimmed (take limit line) & codes " .." else line
 

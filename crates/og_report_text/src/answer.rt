@@ -10,10 +10,10 @@ use crate::line::refused_line;
 use og_typed::SourceError;
 use std::alloc::{AllocError, Global};
 
-/// What is printed, and the status with which the program ends.
+/// The printed text, and the status with which the program ends.
 #[derive(Debug, Drop)]
 pub struct Answer {
-    /// What is printed.
+    /// The printed text.
     pub text: Vec<u8>,
     /// The status.
     pub status: u8,

@@ -69,8 +69,8 @@ fn put_answer(text: &mut Vec<u8>, names: &[Name], condition: &Condition) -> Resu
     }
 }
 
-/// Adds a condition with this number to the text: its number, its kind and its places, and then a line
-/// for each of its facts, or that they are too large.
+/// Adds a condition with this number to the text: its number, its kind and its places, and then a
+/// line for each of its facts, or that they are too large.
 ///
 /// # Errors
 ///

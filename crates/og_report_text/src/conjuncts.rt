@@ -101,7 +101,7 @@ fn put_more(text: &mut Vec<u8>, more: bool) -> Result<(), AllocError>
     Ok(())
 }
 
-// What is told of conjuncts, these of which are chosen.
+// The text of conjuncts, these of which are chosen.
 fn put_told(
     text: &mut Vec<u8>,
     names: &[Name],

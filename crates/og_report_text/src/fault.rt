@@ -9,7 +9,7 @@ use og_cond::TooMany;
 use og_typed::SourceFault;
 use thiserror::Error;
 
-/// What is wrong with a source and its certificates: the first of these that applies, in this
+/// The fault of a source and its certificates: the first of these that applies, in this
 /// order.
 #[derive(Clone, Copy, Debug, PartialEq, Eq, Error)]
 pub enum InputFault {

@@ -18,8 +18,8 @@ fn put_places(text: &mut Vec<u8>, places: &Places, condition: &Condition) -> Res
     text.extend_from_slice(b"\n")
 }
 
-/// Adds the line of a condition with this number to the text, as `conditions` prints it: its number,
-/// its kind and its places.
+/// Adds the line of a condition with this number to the text, as `conditions` prints it: its
+/// number, its kind and its places.
 ///
 /// # Errors
 ///

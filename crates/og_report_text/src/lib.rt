@@ -1,5 +1,5 @@
-//! What reports share: places and numbers, the facts of conditions, quoted lines, assertions and values,
-//! the texts of refusals, and members, lists and bytes of JSON.
+//! What reports share: places and numbers, the facts of conditions, quoted lines, assertions and
+//! values, the texts of refusals, and members, lists and bytes of JSON.
 //!
 //! specs/ defines each text, in a file named for it.
 #![tactic(auto)]

@@ -1,4 +1,4 @@
-//! How the places of an outline are told.
+//! How the places of an outline are printed.
 
 ghost use Rattle.std.specs.Prelude.{◌≡◌, ◌++◌, None, OnOk, option_map};
 ghost use Rattle.og_report_text.specs.Origins.{row_at, told_at, with_told, quoted_at};
@@ -9,14 +9,15 @@ use crate::row::{Row, Rows};
 use crate::words::put_position;
 use std::alloc::AllocError;
 
-/// Where the parts of an outline are told to stand.
+/// Where the parts of an outline are said to stand.
 #[derive(Clone, Copy)]
 pub struct Origins<'a> {
     /// The text: the outline's own, or a template.
     pub source: &'a [u8],
     /// Its places.
     pub places: &'a Places<'a>,
-    /// Of a template, where the parts of the outline come from. A part without a row stands at its own place.
+    /// Of a template, where the parts of the outline come from. A part without a row stands at its
+    /// own place.
     pub rows: Option<&'a Rows>,
 }
 
@@ -76,8 +77,8 @@ impl<'a> Origins<'a> {
         self.put_place(text, at)
     }
 
-    /// Adds the text from the place of the part at the byte offset `at` on, up to the end of the line
-    /// or to a comment, without blanks at the end: at most so many bytes, and then ` ..`.
+    /// Adds the text from the place of the part at the byte offset `at` on, up to the end of the
+    /// line or to a comment, without blanks at the end: at most this many bytes, and then ` ..`.
     ///
     /// # Errors
     ///

@@ -40,7 +40,7 @@ fn trimmed(bytes: &[u8]) -> &[u8]
     &bytes[..length]
 }
 
-// At most so many bytes of a line.
+// At most this many bytes of a line.
 fn put_cut(text: &mut Vec<u8>, limit: usize, line: &[u8]) -> Result<(), AllocError>
     ensures { OnOk result (text.new.items ≡ text.old.items ++ cut_text limit line.now) }
 {
@@ -52,7 +52,7 @@ fn put_cut(text: &mut Vec<u8>, limit: usize, line: &[u8]) -> Result<(), AllocErr
 }
 
 /// Adds the source from the byte offset `at` up to the end of the line or to a comment, without
-/// blanks at the end, to the text: at most so many bytes, and then ` ..`.
+/// blanks at the end, to the text: at most this many bytes, and then ` ..`.
 ///
 /// # Errors
 ///

@@ -133,7 +133,7 @@ acts_by p c given h false turn d f is = acts_free p c given h turn d f is
 pub fits_listed : (at : Position) (cards : List Listed) (p : ℕ) (c : Card) → AllFit at.given at.history at.halted cards → slice_get cards p ≡ Some (listed c true) → (p < process_count at.given.outline) × CardFits at.given at.history at.halted p c
 fits_listed at cards p c all there = let within = slice_get_within cards p (listed c true) there in let len = all.0 in (omega arith, all.1 p (listed c true) there)
 
--- what taking a card in told, of the cards and the process
+-- the answer to taking a card in, about the cards and the process
 pub listed_there : (cards : List Listed) (p : ℕ) (k w : View) → k ≡ keeper cards → w ≡ holder p w.card → slice_get k.cards w.process ≡ Some (listed w.card true) → slice_get cards p ≡ Some (listed w.card true)
 listed_there cards p k w k_is w_is told = subst (λ (q : ℕ). slice_get cards q ≡ Some (listed w.card true)) (ap (λ (v : View). v.process) w_is) (subst (λ (v : View). slice_get v.cards w.process ≡ Some (listed w.card true)) k_is told)
 

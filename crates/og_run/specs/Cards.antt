@@ -83,7 +83,7 @@ gives p c v = record { keeps = v.keeps; cards = slice_set v.cards p (listed c tr
 abbrev pub Tells : Step (Unit {0}) → Me (Unit {0}) View → ℕ → Me (Unit {0}) View → Type 0
 Tells st m found m' = (slice_get m.0.cards m.0.process ≡ Some (listed m.0.card true)) × (m' ≡ (keeper (slice_set m.0.cards m.0.process (listed m.0.card false)), m.1))
 
--- the card of p is of this given, and has heard a beginning of the history with all moves of p; where it was told of a halt, all of it
+-- the card of p is of this given, and has heard a beginning of the history with all moves of p; where it heard of a halt, all of it
 abbrev pub CardFits : Given → List ℕ → Bool → ℕ → Card → Type 0
 CardFits given history halted p c =
     (c.given ≡ given) × (rest : List ℕ) × (history ≡ c.heard ++ rest) × (moves_of p rest ≡ 0) × (c.halted ≡ true → (rest ≡ []) × (halted ≡ true))
@@ -97,7 +97,7 @@ pub record Place : Type 0 where
   pub process : ℕ
   pub card : Card
 
--- One act. Others' moves came between what was heard and h, and then the process's own turn; or some process has overflowed, and that is told
+-- One act. Others' moves came between the part heard and h, and then the process's own turn; or some process has overflowed, and the answer says so
 abbrev pub Acts : ℕ → Card → RunTurn → Card → Type 0
 Acts p c turn d =
     (d.given ≡ c.given) × (between : List ℕ) × (moves_of p between ≡ 0)

@@ -18,7 +18,7 @@ use std::sync::{Condvar, Mutex, Wait};
 pub(crate) type Tokens = Table<(), View, Setting, OneCardEach, Global>;
 
 /// A process's seat. Contracts see its process and its card: what was given, the history that it
-/// has heard, and whether it was told that a process has overflowed.
+/// has heard, and whether it has heard that a process has overflowed.
 #[derive(Drop)]
 pub struct Seat<K: ArenaName> {
     process: u32,
@@ -68,7 +68,8 @@ impl<K: ArenaName> Seat<K> {
     }
 }
 
-/// What lies under the lock: the machine, and the arena's own seat, which lists each process's card.
+/// What lies under the lock: the machine, and the arena's own seat, which lists each process's
+/// card.
 #[derive(Drop)]
 pub(crate) struct Desk<K: ArenaName, B: Machine> {
     machine: B,
@@ -141,7 +142,7 @@ impl<K: ArenaName, B: Machine> Desk<K, B> {
         turn
     }
 
-    /// Takes a seat in for good. Its card fits the machine as it is.
+    /// Takes a seat in at the end. Its card fits the machine as it is.
     pub fn take(&mut self, tokens: &Tokens, mut seat: Seat<K>)
         requires { tokens.now.shared.table_id ≡ K.table }
         ensures same { self.new ≡ self.old }
@@ -228,9 +229,9 @@ fn first_seat<K: ArenaName>(process: u32, token: Token<(), View>) -> Seat<K>
 }
 
 impl<K: ArenaName, B: Machine> Arena<K, B> {
-    /// The arena of this machine, whose history is empty, and one seat for each process in the order
-    /// of their numbers. Nothing is heard yet, and no halt is told. The table is the one of the
-    /// blank, which K names and which was made for this machine.
+    /// The arena of this machine, whose history is empty, and one seat for each process in the
+    /// order of their numbers. Nothing is heard yet, and no halt is known. The table is the one of
+    /// the blank, which K names and which was made for this machine.
     pub fn new(
         alloc: Global,
         blank: Blank,
@@ -264,7 +265,8 @@ impl<K: ArenaName, B: Machine> Arena<K, B> {
         Ok((arena, seats))
     }
 
-    /// One step of the seat's process, under the lock. Takes no memory; it waits for the lock alone.
+    /// One step of the seat's process, under the lock. Takes no memory; it waits for the lock
+    /// alone.
     ///
     /// What the seat has heard is then the whole history. Since its last act only other processes
     /// have moved. The answer is the turn of the process after that history, or Overflow where a
@@ -291,8 +293,8 @@ impl<K: ArenaName, B: Machine> Arena<K, B> {
         (desk.into_inner(), tokens)
     }
 
-    /// Waits until the history is longer than the seat has seen, or nothing can move any more. Takes
-    /// no memory.
+    /// Waits until the history is longer than the seat has seen, or nothing can move any more.
+    /// Takes no memory.
     pub fn wait_change<R: Wait>(&self, rt: &R, seat: &Seat<K>) {
         let seen = seat.seen;
         let _desk = self.changed.wait_while(

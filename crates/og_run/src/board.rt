@@ -197,8 +197,8 @@ impl<'a> Board<'a> {
         self.counts[p as usize]
     }
 
-    /// How the run ended: the first of Finished, Stuck, Limit and Overflow that is true. Nothing more
-    /// can happen to any process. Takes no memory.
+    /// How the run ended: the first of Finished, Stuck, Limit and Overflow that is true. Nothing
+    /// more can happen to any process. Takes no memory.
     pub fn finish(&self) -> Finish
         requires { (p : ℕ) → p < process_count self.now.given.outline → OverAt self.now.given self.now.history (is_some self.now.halted) p }
         ensures { (m : Instant) → moment_after self.now.given self.now.history ≡ Some m → IsFinish self.now.given self.now.history m result }

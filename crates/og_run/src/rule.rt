@@ -19,7 +19,7 @@ impl ArenaName for Brand {
     ghost table = { no_table };
 }
 
-/// What a process was told of the machine. No value of it is made.
+/// The part of the machine that a process has heard of. No value of it is made.
 pub struct Card {
     pub given: Setting,
     pub heard: LinkedList<u32>,

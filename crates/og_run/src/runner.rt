@@ -38,8 +38,8 @@ fn run_plain<'a, G: Gate, R: Threads + Wait + Sync>(
 /// Runs the outline from these values, each process in a thread of its own, until nothing more can
 /// happen or the history is as long as the limit.
 ///
-/// The gate is told before each act of a process, outside the lock, and after each of its moves, by
-/// the number of the process counted from 1; the main process has the number 0.
+/// The gate hears of each act of a process before it, outside the lock, and of each of its moves,
+/// by the number of the process counted from 1; the main process has the number 0.
 ///
 /// 51 WrongLength where the number of values is not that of the variables that are no auxiliaries;
 /// else 50 NotPre where the precondition is false; 52 Spawn where a thread could not be started: no

@@ -156,7 +156,7 @@ pub(crate) fn run_named<
     Ok(machine)
 }
 
-/// The same, with a table of its own.
+/// With a table of its own.
 pub(crate) fn run_board<B: Machine + Send, G: Gate, R: Threads + Wait + Sync>(
     rt: &R,
     alloc: Global,

@@ -21,7 +21,7 @@ pub enum Claim {
     Nothing,
 }
 
-/// The inequalities of a condition over so many variables, of which a look at each shows no
+/// The inequalities of a condition over this many variables, of which a look at each shows no
 /// contradiction.
 #[derive(Drop)]
 pub struct Ground {
@@ -56,13 +56,14 @@ impl Ground {
         self.known.close_new(0, &self.bounds)
     }
 
-    // The certificate that closes so many facts with this row.
+    // The certificate that closes this many facts with this row.
     fn closed(&self, alloc: Global, row: usize, count: usize) -> Result<Cert, Stop> {
         let proof = leaf(&self.known.rows, row)?;
         Ok(certificate(alloc, &proof.tree, count)?)
     }
 
-    // What this tells of so many facts, of which the inequalities were taken in with this outcome.
+    // What this shows of this many facts, of which the inequalities were taken in with this
+    // outcome.
     fn start(
         self,
         alloc: Global,
@@ -82,8 +83,8 @@ impl Ground {
     }
 }
 
-/// Begins a search among facts over so many variables, within the budget, with the inequalities of
-/// the part: often they need no choice to be at odds.
+/// Begins a search among facts over this many variables, within the budget, with the inequalities
+/// of the part: often they need no choice to be at odds.
 ///
 /// # Errors
 ///
@@ -98,7 +99,7 @@ pub fn begin(alloc: Global, part: &Part, variables: u32, budget: u64) -> Result<
     ground.start(alloc, part.count, taken)
 }
 
-// The certificate of the refutation that the search finds among so many facts.
+// The certificate of the refutation that the search finds among this many facts.
 fn certified(
     alloc: Global,
     search: &mut Search,

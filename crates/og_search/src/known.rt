@@ -1,4 +1,4 @@
-//! What is known on the path of a search: rows, those of several variables by their terms.
+//! The facts known on the path of a search: rows, those of several variables by their terms.
 
 use crate::stop::Halt;
 use og_search_choices::{Atom, Index, Part};
@@ -25,7 +25,7 @@ pub(crate) struct Extent {
 }
 
 impl KnownRows {
-    /// Nothing, within the budget, where so many facts are expected.
+    /// Nothing, within the budget, where this many facts are expected.
     pub(crate) fn new(
         alloc: Global,
         budget: u64,

@@ -58,7 +58,7 @@ pub(crate) struct Search<'a> {
     denials: Denials,
     // How many of the rows, the first ones, were used for bounds at a level above.
     narrowed: usize,
-    // What is new since no choice was found refuted, and since none was found forced.
+    // The new part since no choice was found refuted, and since none was found forced.
     unrefuted: News,
     unforced: News,
     // The choices that have facts in common, and whether these are known.
@@ -149,22 +149,22 @@ impl<'a> Search<'a> {
         }
     }
 
-    // A choice each of whose parts is at odds with what is known.
+    // A choice each of whose parts is at odds with the known facts.
     fn refuted(&self, bounds: &Bounds, reach: Reach) -> Option<usize> {
         self.facts(bounds)
             .refuted(&self.open, reach, self.unrefuted)
     }
 
-    // A choice of which each part is at odds with what is known, or with one of the last choices,
-    // so many; or one of these with a single way.
+    // A choice of which each part is at odds with the known facts, or with one of the last choices,
+    // this many; or one of these with a single way.
     fn denied(&self, own: usize, bounds: &Bounds) -> Option<usize> {
         let from = self.open.len().saturating_sub(own);
         self.facts(bounds).denied(&self.open, from)
     }
 
-    // A choice from above this level of which each part is at odds with what is known, or with a
-    // choice of this level: so what is denied there is split before what denies it, but for a
-    // choice of this level with a single way.
+    // A choice from above this level of which each part is at odds with the known facts, or with a
+    // choice of this level: so a denied choice there is split before the one that denies it, but
+    // for a choice of this level with a single way.
     fn denied_at(&mut self, level: u32, bounds: &Bounds) -> Result<Option<usize>, Stop> {
         let own = own_choices(&self.open, level);
         if own == 0 {
@@ -227,7 +227,7 @@ impl<'a> Search<'a> {
         Ok(())
     }
 
-    // Takes a step for each 10,000 pairs of a fact and one of so many choices.
+    // Takes a step for each 10,000 pairs of a fact and one of this many choices.
     fn spend_pairs(&mut self, choices: usize) -> Result<(), Stop> {
         let pairs = weight(&self.open).saturating_mul(choices);
         self.known.rows.spend((pairs / 10_000) as u64)?;
@@ -258,7 +258,7 @@ impl<'a> Search<'a> {
         }
     }
 
-    // Adds the bounds that follow from the rows, and notes what is new: the rows from this one on,
+    // Adds the bounds that follow from the rows, and notes the new ones: the rows from this one on,
     // and the bounds. Those of the level above were changed for these variables.
     fn narrow(&mut self, from: usize, late: Variables, bounds: &mut Bounds) -> Result<(), Halt> {
         narrow(
@@ -276,7 +276,7 @@ impl<'a> Search<'a> {
         Ok(())
     }
 
-    // Takes in the facts of a level, and tells what is done there. Those of the level above were
+    // Takes in the facts of a level, and returns the outcome there. Those of the level above were
     // changed for these variables.
     fn begin(
         &mut self,
@@ -292,7 +292,7 @@ impl<'a> Search<'a> {
         self.go_on(level, bounds)
     }
 
-    // Takes in the choices of the condition, whose inequalities are known, and tells what is done:
+    // Takes in the choices of the condition, whose inequalities are known, and returns the outcome:
     // at first without the bounds that follow.
     fn begin_at_top(&mut self, bounds: &mut Bounds) -> Result<Decision, Halt> {
         self.take_choices(self.facts, TOP)?;
@@ -351,7 +351,7 @@ impl<'a> Search<'a> {
         common_to_choice(self.alloc, &self.open, among, bounds, &self.model)
     }
 
-    // What is done where all rows hold of these values.
+    // The outcome where all rows hold of these values.
     fn decide_at(&mut self, model: Model, level: u32, bounds: &Bounds) -> Result<Decision, Stop> {
         self.model = model;
         let failing = failing(self.alloc, &self.open, &self.model)?;
@@ -380,7 +380,7 @@ impl<'a> Search<'a> {
         })
     }
 
-    // What is done where no values were found.
+    // The outcome where no values were found.
     fn decide_without(&mut self, gap: Option<Gap>, bounds: &Bounds) -> Result<Decision, Stop> {
         let open = untaken(self.alloc, &self.open)?;
         match self.pick(&open, bounds)? {
@@ -389,7 +389,7 @@ impl<'a> Search<'a> {
         }
     }
 
-    // What is done at a level whose facts were taken in.
+    // The outcome at a level whose facts were taken in.
     fn go_on(&mut self, level: u32, bounds: &Bounds) -> Result<Decision, Halt> {
         if let Some(decision) = self.decided() {
             return Ok(decision);
@@ -520,7 +520,7 @@ impl<'a> Search<'a> {
         Ok(Some(self.keep(proof)?))
     }
 
-    // The refutation of a part that is at odds with what is known, or a choice of which is.
+    // The refutation of a part that is at odds with the known facts, or a choice of which is.
     #[cycle(once)]
     fn at_once(
         &mut self,
@@ -644,7 +644,7 @@ impl<'a> Search<'a> {
         Ok(proof)
     }
 
-    // Refutes what is known at a level, for which this was decided.
+    // Refutes the facts known at a level, for which this was decided.
     #[cycle(search)]
     fn refute(
         &mut self,

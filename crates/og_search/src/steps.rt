@@ -15,12 +15,12 @@ pub(crate) enum Entry<'a> {
     Side(Inequality),
 }
 
-/// What is done at a level that finds no contradiction.
+/// The outcome at a level that finds no contradiction.
 #[derive(Drop)]
 pub(crate) enum Decision {
     /// It goes into the parts of this choice.
     Split(usize),
-    /// It goes into both sides of the form, and on the second into a choice, if it tells one.
+    /// It goes into both sides of the form, and on the second into a choice, if it names one.
     Branch {
         form: Inequality,
         next: Option<usize>,

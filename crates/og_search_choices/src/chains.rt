@@ -28,7 +28,7 @@ pub struct Walk<'a> {
     next: Option<usize>,
 }
 
-// How many chains there are for so many numbers: a power of two, so that a search among few facts
+// How many chains there are for this many numbers: a power of two, so that a search among few facts
 // does not begin with a long table.
 fn chains_for(numbers: usize) -> usize {
     if numbers < 64 {
@@ -55,7 +55,7 @@ impl Walk<'_> {
 }
 
 impl Chains {
-    /// No numbers, where so many are expected: there may be more.
+    /// No numbers, where this many are expected: there may be more.
     pub fn new(alloc: Global, expected: usize) -> Result<Chains, AllocError> {
         let chains = chains_for(expected);
         Ok(Chains {
@@ -104,7 +104,7 @@ impl Chains {
         Ok(())
     }
 
-    /// Forgets all that were put after the first ones, so many.
+    /// Forgets all that were put after the first ones, this many.
     pub fn forget(&mut self, from: usize) {
         for _ in from..self.entries.len() {
             if let Some(entry) = self.entries.pop() {

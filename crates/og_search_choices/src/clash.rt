@@ -1,4 +1,4 @@
-//! Parts of choices that are at odds with what is known, each by one of its inequalities.
+//! Parts of choices that are at odds with the known facts, each by one of its inequalities.
 
 use crate::chains::Chains;
 use crate::index::Index;
@@ -54,7 +54,7 @@ pub struct Clash<'a> {
     pub against: Against,
 }
 
-/// What is known on the path of a search.
+/// The facts known on the path of a search.
 #[derive(Clone, Copy)]
 pub struct Facts<'v> {
     pub rows: &'v Rows,
@@ -67,7 +67,8 @@ pub struct Facts<'v> {
     pub directions: &'v Chains,
     /// A place among them: of several that an inequality is at odds with, one of the next is taken.
     pub near: usize,
-    /// A part whose inequalities are assumed, where it is asked what is at odds with them.
+    /// A part whose inequalities are assumed, where the question is which facts are at odds with
+    /// them.
     pub assumed: Option<&'v Part>,
 }
 
@@ -196,7 +197,8 @@ impl Facts<'_> {
         None
     }
 
-    // The first inequality of the part that is at odds with what is known, by a look at its terms.
+    // The first inequality of the part that is at odds with the known facts, by a look at its
+    // terms.
     fn clash_at_sight<'p>(&self, part: &'p Part) -> Option<Clash<'p>> {
         for atom in &part.atoms {
             if let Some(against) = self.against(atom) {
@@ -216,7 +218,7 @@ impl Facts<'_> {
         None
     }
 
-    /// An inequality of the part that is at odds with what is known.
+    /// An inequality of the part that is at odds with the known facts.
     pub fn clash<'p>(&self, part: &'p Part, reach: Reach) -> Option<Clash<'p>> {
         if let Some(clash) = self.clash_at_sight(part) {
             return Some(clash);
@@ -227,13 +229,13 @@ impl Facts<'_> {
         }
     }
 
-    // Whether the inequality is at odds with what is known, by a look at its own terms.
+    // Whether the inequality is at odds with the known facts, by a look at its own terms.
     fn is_at_odds_at_sight(&self, atom: &Atom) -> bool {
         let has_opposite = atom.form.terms.len() > 1 && self.opposite(atom).is_some();
         has_opposite || self.bounds.exclude(&atom.form)
     }
 
-    // Whether an inequality of the part is at odds with what is known.
+    // Whether an inequality of the part is at odds with the known facts.
     fn has_clash(&self, part: &Part, reach: Reach) -> bool {
         if part.atoms.iter().any(|atom| self.is_at_odds_at_sight(atom)) {
             return true;
@@ -255,7 +257,7 @@ impl Facts<'_> {
         }
     }
 
-    // Whether the part is at odds with what is known or assumed.
+    // Whether the part is at odds with the known facts or the assumed ones.
     #[cycle(shutting)]
     fn is_shut(&self, part: &Part, reach: Reach) -> bool {
         if self.is_denied(part) || self.has_clash(part, reach) {
@@ -269,7 +271,7 @@ impl Facts<'_> {
         false
     }
 
-    /// Whether each of the parts is at odds with what is known or assumed.
+    /// Whether each of the parts is at odds with the known facts or the assumed ones.
     #[cycle(shutting)]
     pub fn are_shut(&self, parts: &[Part], reach: Reach) -> bool {
         for part in parts {
@@ -280,8 +282,8 @@ impl Facts<'_> {
         true
     }
 
-    // The places of the parts that are not at odds with what is known, by a look at their terms;
-    // none where there are more than so many.
+    // The places of the parts that are not at odds with the known facts, by a look at their terms;
+    // none where there are more than this many.
     fn open_parts(&self, parts: &[Part], most: usize) -> Option<Few> {
         let mut open = Few {
             places: [0; PAIRS_LIMIT],
@@ -298,7 +300,7 @@ impl Facts<'_> {
         Some(open)
     }
 
-    // Whether each of these parts is at odds with what is known.
+    // Whether each of these parts is at odds with the known facts.
     fn are_shut_at(&self, parts: &[Part], few: Few, reach: Reach) -> bool {
         for place in few.places.iter().take(few.count) {
             match parts.get(*place) {
@@ -309,7 +311,7 @@ impl Facts<'_> {
         true
     }
 
-    // Whether each part is at odds with what is known. Those that are not so at sight are held
+    // Whether each part is at odds with the known facts. Those that are not so at sight are held
     // against each row, if the look goes so far and they are few.
     fn is_refuted(&self, parts: &[Part], reach: Reach) -> bool {
         match reach {
@@ -345,7 +347,7 @@ impl Facts<'_> {
         })
     }
 
-    // Whether each of the parts is at odds with what is known, or leaves one of these choices no
+    // Whether each of the parts is at odds with the known facts, or leaves one of these choices no
     // way.
     fn all_shut_one(&self, parts: &[Part], open: &[Open]) -> bool {
         for part in parts {
@@ -357,7 +359,7 @@ impl Facts<'_> {
     }
 
     // The first choice with the fewest parts, among those that are open and each of whose parts is
-    // at odds with what is known, or leaves one of the others no way.
+    // at odds with the known facts, or leaves one of the others no way.
     fn shutting(&self, open: &[Open], others: &[Open]) -> Option<usize> {
         let mut best = None;
         let mut least = usize::MAX;
@@ -373,14 +375,14 @@ impl Facts<'_> {
         best
     }
 
-    // Whether all parts but one at most are at odds with what is known.
+    // Whether all parts but one at most are at odds with the known facts.
     fn has_one_open(&self, parts: &[Part]) -> bool {
         self.open_parts(parts, 1).is_some()
     }
 
-    /// A choice each of whose parts is at odds with what is known, or leaves one of the last
+    /// A choice each of whose parts is at odds with the known facts, or leaves one of the last
     /// choices no way, which stand from a place on; if there is one, and all parts but one of one
-    /// of the last choices are at odds with what is known, that one.
+    /// of the last choices are at odds with the known facts, that one.
     pub fn denied(&self, open: &[Open], from: usize) -> Option<usize> {
         let (first, last) = (open.get(..from)?, open.get(from..)?);
         let shutting = self.shutting(first, last)?;
@@ -392,7 +394,7 @@ impl Facts<'_> {
     }
 
     /// The first choice with the fewest parts, among those that are open, that the news concern,
-    /// and each of whose parts is at odds with what is known.
+    /// and each of whose parts is at odds with the known facts.
     pub fn refuted(&self, open: &[Open], reach: Reach, news: News) -> Option<usize> {
         let mut best = None;
         let mut least = usize::MAX;

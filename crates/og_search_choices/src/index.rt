@@ -11,7 +11,7 @@ pub struct Index {
 }
 
 impl Index {
-    /// No rows, where so many are expected.
+    /// No rows, where this many are expected.
     pub fn new(alloc: Global, expected: usize) -> Result<Index, AllocError> {
         Ok(Index {
             chains: Chains::new(alloc, expected)?,

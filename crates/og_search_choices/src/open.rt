@@ -41,7 +41,7 @@ impl News {
         from: 0,
     };
 
-    /// Nothing is new, where there are so many choices on the path.
+    /// Nothing is new, where there are this many choices on the path.
     pub fn none(choices: usize) -> News {
         News {
             variables: Variables::NONE,
@@ -105,7 +105,7 @@ impl<'a> Open<'a> {
         self.size = choice.size;
     }
 
-    // Whether all facts of some part are true by what is known.
+    // Whether all facts of some part are true by the known facts.
     fn follows(&self, known: Known) -> bool {
         some_follows(&self.choice.parts, known)
     }

@@ -38,7 +38,7 @@ pub struct Choice {
     pub variables: Variables,
 }
 
-/// What is known of the variables.
+/// The facts known of the variables.
 #[derive(Clone, Copy)]
 pub enum Known<'a> {
     /// Their values.
@@ -86,7 +86,8 @@ impl Part {
         Ok(directions)
     }
 
-    /// No facts, with room for so many inequalities. `AllocError` where an allocation was refused.
+    /// No facts, with room for this many inequalities. `AllocError` where an allocation was
+    /// refused.
     pub fn new(alloc: Global, room: usize) -> Result<Part, AllocError> {
         Ok(Part {
             alloc,
@@ -188,14 +189,14 @@ impl Part {
         self.atoms.iter().any(|atom| bounds.exclude(&atom.form))
     }
 
-    // Whether each inequality is true by what is known.
+    // Whether each inequality is true by the known facts.
     fn atoms_follow(&self, known: Known) -> bool {
         self.atoms.iter().all(|atom| known.implies(&atom.form))
     }
 }
 
-/// How many ways the bounds leave open, counted up to so many: none where an inequality is false or
-/// a choice has no way, those of the choice where the part is a single choice, and else one.
+/// How many ways the bounds leave open, counted up to this many: none where an inequality is false
+/// or a choice has no way, those of the choice where the part is a single choice, and else one.
 #[cycle(width)]
 pub fn width(part: &Part, bounds: &Bounds, most: usize) -> usize {
     if part.is_barred(bounds) {
@@ -215,7 +216,7 @@ pub fn width(part: &Part, bounds: &Bounds, most: usize) -> usize {
     if part.count == 1 { last } else { 1 }
 }
 
-/// How many ways the bounds leave open in all parts, counted up to so many or a few more.
+/// How many ways the bounds leave open in all parts, counted up to this many or a few more.
 #[cycle(width)]
 pub fn ways(parts: &[Part], bounds: &Bounds, most: usize) -> usize {
     let mut sum = 0usize;
@@ -241,7 +242,7 @@ fn follows(part: &Part, known: Known) -> bool {
     true
 }
 
-/// Whether all facts of some part are true by what is known.
+/// Whether all facts of some part are true by the known facts.
 #[cycle(following)]
 pub fn some_follows(parts: &[Part], known: Known) -> bool {
     for part in parts {

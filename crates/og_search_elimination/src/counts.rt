@@ -26,7 +26,7 @@ pub(crate) struct Counts {
 }
 
 impl Counts {
-    /// How often each of so many variables occurs in the rows.
+    /// How often each of this many variables occurs in the rows.
     pub(crate) fn of(rows: &Rows, among: &[usize], variables: u32) -> Result<Counts, AllocError> {
         let mut counts = Counts {
             counts: vec![in rows.alloc(); Count::NONE; variables as usize]?,

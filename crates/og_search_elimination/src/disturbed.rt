@@ -62,7 +62,7 @@ impl Met {
     }
 }
 
-/// Those of the rows that are false of the values, or share one of so many variables with a row
+/// Those of the rows that are false of the values, or share one of this many variables with a row
 /// that is among these: the others hold, whatever becomes of the variables of these. In their
 /// order. `AllocError` where an allocation was refused.
 pub(crate) fn disturbed(

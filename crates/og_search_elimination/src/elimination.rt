@@ -127,7 +127,7 @@ fn model_of(rows: &Rows, problem: &Problem, gone: &[Eliminated]) -> Result<Outco
     Ok(outcome)
 }
 
-// What it costs to compare so many rows with each other: a step for each 10,000 pairs or so.
+// What it costs to compare this many rows with each other: a step for each 10,000 pairs or so.
 fn steps_for(count: usize) -> u64 {
     let hundreds = (count / 100) as u64;
     hundreds.saturating_mul(hundreds)

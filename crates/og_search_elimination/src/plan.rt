@@ -231,7 +231,7 @@ fn plan_by_pairs(rows: &Rows, left: &[usize], var: u32) -> Result<Plan, AllocErr
     })
 }
 
-/// What is eliminated next from the rows that are left; none where no variable is left.
+/// The variable eliminated next from the rows that are left; none where no variable is left.
 pub(crate) fn next_plan(
     rows: &Rows,
     left: &[usize],

@@ -47,7 +47,7 @@ impl<'r> Leaves<'r> {
         self.room
     }
 
-    // Counts a leaf. The first one and each that completes so many more cost a step.
+    // Counts a leaf. The first one and each that completes this many more cost a step.
     fn count(&mut self) -> Result<(), Unrefuted> {
         if self.count.is_multiple_of(LEAVES_A_STEP) {
             self.rows.spend(1)?;

@@ -1,6 +1,6 @@
 //! Numbers that are all different and have too few values.
 //!
-//! No contract promises anything of what is found: `og_find` checks a certificate before it hands
+//! No contract promises anything of the result: `og_find` checks a certificate before it hands
 //! it out.
 #![tactic(auto)]
 

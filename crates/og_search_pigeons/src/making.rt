@@ -8,7 +8,7 @@ use og_search_refutation::{Cases, Proof, both_sides, refute_clash};
 use og_search_rows::{Bounds, Inequality, Place, Rows, Side, Term};
 use std::alloc::Global;
 
-/// What is known on the path: the rows, the choices and the bounds.
+/// The facts known on the path: the rows, the choices and the bounds.
 #[derive(Drop)]
 pub struct Known<'k, 'a> {
     pub rows: &'k mut Rows,

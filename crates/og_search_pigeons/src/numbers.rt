@@ -88,7 +88,7 @@ impl Numbers {
     }
 
     // The bits of the first variables within these bounds each of which differs from those before
-    // it, so many at most.
+    // it, this many at most.
     fn different(&self, least: i128, most: i128, size: usize) -> u64 {
         let mut bits = 0u64;
         for number in &self.numbers {
@@ -112,7 +112,7 @@ impl Numbers {
         Ok(variables)
     }
 
-    // A crowd of so many numbers, if there is one with this least value.
+    // A crowd of this many numbers, if there is one with this least value.
     fn crowd_from(&self, least: i128, size: usize) -> Result<Option<Crowded>, AllocError> {
         let values = size.saturating_sub(1) as i128;
         let Some(most) = least.saturating_add(values).checked_sub(1) else {
@@ -129,7 +129,7 @@ impl Numbers {
         }))
     }
 
-    // A crowd of so many numbers.
+    // A crowd of this many numbers.
     fn crowd(&self, size: usize) -> Result<Option<Crowded>, AllocError> {
         for first in &self.numbers {
             if let Some(crowd) = self.crowd_from(first.least, size)? {

@@ -68,7 +68,7 @@ pub fn orders(parts: &[Part]) -> Option<(u32, u32)> {
     }
 }
 
-// The same of a part that is such a choice and nothing else.
+// Of a part that is such a choice and nothing else.
 fn orders_in(part: &Part) -> Option<(u32, u32)> {
     if part.count != 1 {
         return None;

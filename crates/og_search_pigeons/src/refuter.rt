@@ -46,7 +46,7 @@ struct Sorting<'v> {
     high: Vec<usize>,
 }
 
-/// What is known of the numbers on the path of a refutation.
+/// The facts known of the numbers on the path of a refutation.
 #[derive(Drop)]
 struct Refuter<'a, 'r> {
     alloc: Global,
@@ -238,7 +238,7 @@ impl Refuter<'_, '_> {
         self.grow(level, Ordering { list, next, chain })
     }
 
-    // Refutes those of the numbers in a half that are one more than its values, if so many are
+    // Refutes those of the numbers in a half that are one more than its values, if this many are
     // there; else takes the next number to be in either half.
     #[cycle(halving)]
     fn halve(&mut self, level: u32, sorting: &mut Sorting) -> Result<Tree, Unrefuted> {

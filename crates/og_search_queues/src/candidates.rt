@@ -45,7 +45,7 @@ pub(crate) struct Candidate<'a> {
     pub apart: Apart<'a>,
 }
 
-/// The choice of which one part tells the range of a number: that it is not below the counter, and
+/// The choice of which one part has the range of a number: that it is not below the counter, and
 /// less than the end.
 #[derive(Clone, Copy)]
 pub(crate) struct Range<'a> {
@@ -109,7 +109,7 @@ fn number_apart(pairs: &[Hidden], parts: &[Part]) -> Option<(Var, Var, usize)> {
     }
 }
 
-// The same of a choice of the part, with its place there and its parts.
+// Of a choice of the part, with its place there and its parts.
 fn apart_in<'a>(pairs: &[Hidden], part: &'a Part) -> Option<(Var, Var, usize, usize, &'a [Part])> {
     for choice in &part.choices {
         if let Some((number, counter, left)) = number_apart(pairs, &choice.parts) {
@@ -230,7 +230,7 @@ fn end_in(part: &Part, number: Var, counter: Var) -> Option<(Var, usize)> {
     None
 }
 
-// The range of a candidate's number, where this choice tells it.
+// The range of a candidate's number, where this choice has it.
 fn range_in<'a>(one: Open<'a>, candidate: Candidate) -> Option<Range<'a>> {
     let (place, parts) = (one.place, one.parts);
     for (left, part) in parts.iter().enumerate() {

@@ -1,4 +1,4 @@
-//! The entries of a queue, made of what is seen of them.
+//! The entries of a queue, made of the facts about them.
 
 use crate::candidates::{Candidate, Hidden, Range, Ways, range_of};
 use crate::missed::Missed;
@@ -14,7 +14,7 @@ struct Seen<'a> {
     part: Option<&'a Part>,
 }
 
-/// What is known of whether an entry is through, its flag, and the fact that this is at most 0
+/// Whether an entry is known to be through, its flag, and the fact that this is at most 0
 /// where it waits.
 #[derive(Drop)]
 struct Flagged {
@@ -85,7 +85,7 @@ impl<'a, 'h> Maker<'a, 'h> {
         None
     }
 
-    // What is known of an entry that may be through.
+    // The facts known of an entry that may be through.
     fn in_doubt(&self, ground: &mut Ground, ways: Ways) -> Result<Flagged, Missed> {
         let waits = ways.parts.get(ways.waits).ok_or(Missed::Fact)?;
         let through = ways.parts.get(ways.through).ok_or(Missed::Fact)?;
@@ -109,7 +109,7 @@ impl<'a, 'h> Maker<'a, 'h> {
         })
     }
 
-    // What is known of an entry that waits by the facts on the path: its flag is the first one that
+    // The facts known of an entry that waits by those on the path: its flag is the first one that
     // is at most 0 there.
     fn waiting(&self, ground: &mut Ground) -> Result<Flagged, Missed> {
         for flag in &self.counted {
@@ -125,7 +125,7 @@ impl<'a, 'h> Maker<'a, 'h> {
         Err(Missed::Fact)
     }
 
-    // What is known of a candidate's flag.
+    // The facts known of a candidate's flag.
     fn flagged(&self, ground: &mut Ground, candidate: Candidate) -> Result<Flagged, Missed> {
         match candidate.ways {
             Some(ways) => self.in_doubt(ground, ways),
@@ -133,7 +133,7 @@ impl<'a, 'h> Maker<'a, 'h> {
         }
     }
 
-    // What is left of the range of a candidate's number.
+    // The rest of the range of a candidate's number.
     fn in_range(
         &self,
         ground: &mut Ground,
@@ -146,7 +146,7 @@ impl<'a, 'h> Maker<'a, 'h> {
         ground.narrowing(place, range.parts, &[range.left], &waits)
     }
 
-    // What is left of the choice that hides that a candidate's number is above the counter.
+    // The rest of the choice that hides that a candidate's number is above the counter.
     fn above_counter(
         &self,
         ground: &mut Ground,
@@ -189,7 +189,7 @@ impl<'a, 'h> Maker<'a, 'h> {
         Ok(*pair.ok_or(Missed::Fact)?)
     }
 
-    // What is left of that choice where the entry with this number and one before it wait.
+    // The rest of that choice where the entry with this number and one before it wait.
     fn pair(&self, ground: &mut Ground, own: Seen<'a>, other: usize) -> Result<Distinct, Missed> {
         let before = *self.seen.get(other).ok_or(Missed::Fact)?;
         let pair = self.hidden(own.number, before.number)?;
@@ -205,7 +205,7 @@ impl<'a, 'h> Maker<'a, 'h> {
         })
     }
 
-    // The same for all that are before it.
+    // For all that are before it.
     fn pairs(&self, ground: &mut Ground, own: Seen<'a>) -> Result<Vec<Distinct>, Missed> {
         let mut pairs = Vec::with_capacity(self.alloc, self.seen.len())?;
         for other in 0..self.seen.len() {

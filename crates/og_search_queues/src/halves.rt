@@ -3,7 +3,7 @@
 //! First the counter is taken to be in the lower half of its values or above it. Where it is above,
 //! few entries can wait, and each is taken to wait or to be through. Where it is not, each entry is
 //! taken to wait with a number of the upper half or not, by a form that is one inequality: so those
-//! that do not are not yet told apart. Once there are too many with such numbers, these alone are
+//! that do not are not yet known apart. Once there are too many with such numbers, these alone are
 //! refuted; once there are too many others, each of these alone is taken to wait or to be through.
 
 use crate::queue::{Queue, State};
@@ -92,8 +92,8 @@ impl Refuter<'_, '_, '_> {
         Ok(branch(self.alloc, below, form, first, second)?)
     }
 
-    // What refutes that an entry does not wait with a number of the upper half, which is the fact at
-    // this level.
+    // What refutes that an entry does not wait with a number of the upper half, which is the fact
+    // at this level.
     #[cycle(halves)]
     fn refute_not_high(
         &mut self,
@@ -119,8 +119,8 @@ impl Refuter<'_, '_, '_> {
         self.refute_sets(level, sets, &mut Course::new(self.alloc))
     }
 
-    // Lets an entry wait with a number of the upper half, by the fact at this place, behind those that
-    // do, at this level.
+    // Lets an entry wait with a number of the upper half, by the fact at this place, behind those
+    // that do, at this level.
     fn join_high(
         &mut self,
         level: u32,
@@ -134,8 +134,8 @@ impl Refuter<'_, '_, '_> {
         self.stand(level, number, least, high)
     }
 
-    // What refutes that an entry waits with a number of the upper half, at this level, by the fact at
-    // this place.
+    // What refutes that an entry waits with a number of the upper half, at this level, by the fact
+    // at this place.
     #[cycle(halves)]
     fn refute_waits_high(
         &mut self,
@@ -154,8 +154,8 @@ impl Refuter<'_, '_, '_> {
         self.with_entry(level, number, &halves.high, most, &facts, tree)
     }
 
-    // What refutes that an entry has a number of the upper half and is not through, which is the fact
-    // at this level.
+    // What refutes that an entry has a number of the upper half and is not through, which is the
+    // fact at this level.
     #[cycle(halves)]
     fn refute_high(
         &mut self,

@@ -5,7 +5,7 @@
 //! of those that are through. That there are as many entries as values of the counter, none of
 //! which is the number of one that waits, cannot be.
 //!
-//! No contract promises anything of what is found: `og_find` checks a certificate before it hands
+//! No contract promises anything of the result: `og_find` checks a certificate before it hands
 //! it out.
 #![tactic(auto)]
 

@@ -6,7 +6,7 @@ use og_search_rows::{Inequality, Levels, Origin, Place};
 use std::alloc::Global;
 
 /// The part of a choice whose facts an entry that waits has: that in which it waits, that which
-/// tells the range of its number, and that in which the number is above the counter.
+/// has the range of its number, and that in which the number is above the counter.
 #[derive(Clone, Copy)]
 pub(crate) enum Stage {
     Waiting,

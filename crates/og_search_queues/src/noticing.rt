@@ -18,14 +18,14 @@ const MOST: usize = 10;
 /// The lowest level at which a queue is refuted, so that levels are left for it.
 const LEVEL: u32 = 120;
 
-/// What is seen at a level, and how many facts on the path were looked at for it.
+/// The facts seen at a level, and how many facts on the path were looked at for it.
 #[derive(Drop)]
 pub struct Seen {
     pub sight: Sight,
     pub looks: usize,
 }
 
-/// What is seen at a level.
+/// The facts seen at a level.
 #[derive(Drop)]
 pub enum Sight {
     /// No queue.
@@ -50,7 +50,7 @@ struct Values {
     most: i128,
 }
 
-// Whether the inequality is that the counter is at least a sum of so many variables or more.
+// Whether the inequality is that the counter is at least a sum of this many variables or more.
 fn is_count(form: &Inequality, counter: Var, fewest: usize) -> bool {
     form.terms.len() > fewest
         && form.terms.iter().all(|term| {

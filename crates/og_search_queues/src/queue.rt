@@ -15,7 +15,7 @@ pub(crate) struct Doubt {
     pub flag: usize,
 }
 
-/// What is known of whether an entry is through.
+/// Whether an entry is known to be through.
 #[derive(Drop)]
 pub(crate) enum State {
     /// It may be.

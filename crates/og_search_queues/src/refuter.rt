@@ -11,7 +11,7 @@ use std::alloc::Global;
 /// How many levels an entry takes that waits, but for those of its orders.
 const LEVELS_OF_ENTRY: usize = 4;
 
-/// What is taken so often of the fact that a flag is 0, or 1, that the number of its entry does not
+/// How often the fact is taken that a flag is 0, or 1, that the number of its entry does not
 /// matter.
 pub(crate) const WEIGHT: u64 = i64::MAX as u64;
 
@@ -43,7 +43,7 @@ pub(crate) struct Values {
     pub most: i128,
 }
 
-/// What is known on the path of a refutation.
+/// The facts known on the path of a refutation.
 #[derive(Drop)]
 pub(crate) struct Refuter<'q, 'l, 'r> {
     pub alloc: Global,
@@ -55,14 +55,14 @@ pub(crate) struct Refuter<'q, 'l, 'r> {
     pub standings: Vec<Standing>,
 }
 
-/// The level so many below this one.
+/// The level this many below this one.
 pub(crate) fn lower(level: u32, more: usize) -> Result<u32, Unrefuted> {
     let more = u32::try_from(more).ok();
     let level = more.and_then(|more| level.checked_sub(more));
     level.ok_or(Unrefuted::Levels)
 }
 
-/// How many levels an entry takes behind its first one, where so many wait before it.
+/// How many levels an entry takes behind its first one, where this many wait before it.
 pub(crate) fn levels_behind(before: usize) -> u32 {
     let levels = LEVELS_OF_ENTRY.saturating_add(before).saturating_sub(1);
     u32::try_from(levels).unwrap_or(u32::MAX)
@@ -128,7 +128,7 @@ impl<'q> Refuter<'q, '_, '_> {
         Ok(Tree::Split { choice, cases })
     }
 
-    // The same where one part is left.
+    // Where one part is left.
     fn split_one(
         &mut self,
         narrowing: &Narrowing,
@@ -216,7 +216,7 @@ impl<'q> Refuter<'q, '_, '_> {
         Ok(())
     }
 
-    // The choices of the orders of an entry and those before it, where the tree refutes what is
+    // The choices of the orders of an entry and those before it, where the tree refutes the part
     // below these.
     fn with_orders(
         &mut self,
@@ -235,8 +235,8 @@ impl<'q> Refuter<'q, '_, '_> {
         Ok(whole)
     }
 
-    // The bound that the number of an entry is at most this value, at this level, where the tree refutes
-    // what is below it.
+    // The bound that the number of an entry is at most this value, at this level, where the tree
+    // refutes below it.
     fn with_most(
         &mut self,
         level: u32,
@@ -249,8 +249,8 @@ impl<'q> Refuter<'q, '_, '_> {
         self.shown(level, form, facts, tree)
     }
 
-    /// What refutes the part in which an entry waits, at this level, where the tree refutes what is
-    /// below its facts, and these facts refute that its number is above the value.
+    /// The refutation of the part in which an entry waits, at this level, where the tree refutes
+    /// the part below its facts, and these facts refute that its number is above the value.
     pub(crate) fn with_entry(
         &mut self,
         level: u32,
@@ -315,7 +315,8 @@ impl<'q> Refuter<'q, '_, '_> {
         Ok(crowd)
     }
 
-    // The facts that the number of an entry is not below the least value, with the one at the place.
+    // The facts that the number of an entry is not below the least value, with the one at the
+    // place.
     fn least_facts(
         &self,
         one: &Waiting,
@@ -329,7 +330,7 @@ impl<'q> Refuter<'q, '_, '_> {
     }
 
     // The bound that the number of an entry is not below the least value, at this level, where the
-    // tree refutes what is below it.
+    // tree refutes the part below it.
     fn with_least(
         &mut self,
         level: u32,

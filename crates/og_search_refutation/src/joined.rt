@@ -13,8 +13,8 @@ pub struct Cases {
 }
 
 impl Cases {
-    /// None yet, with room for so many. The choice is the fact at this place. `AllocError` where an
-    /// allocation was refused.
+    /// None yet, with room for this many. The choice is the fact at this place. `AllocError` where
+    /// an allocation was refused.
     pub fn new(alloc: Global, choice: Place, parts: usize) -> Result<Cases, AllocError> {
         Ok(Cases {
             choice,
@@ -28,7 +28,7 @@ impl Cases {
         self.cases.len()
     }
 
-    /// Adds the next part: so many facts at this level, and what refutes it. `AllocError` where an
+    /// Adds the next part: this many facts at this level, and its refutation. `AllocError` where an
     /// allocation was refused.
     pub fn add(&mut self, level: u32, count: usize, proof: Proof) -> Result<(), AllocError> {
         let Proof { used, tree } = proof;
@@ -85,7 +85,7 @@ fn rests_on_own_facts(used: Levels) -> bool {
 }
 
 /// The refutation by both sides of a form, each of which is a fact at this level: that it is at
-/// most 0, and that it is at least 1. The second goes into this choice first, if it was told one.
+/// most 0, and that it is at least 1. The second goes into this choice first, if one was named.
 /// `AllocError` where an allocation was refused.
 pub fn both_sides(
     alloc: Global,

@@ -51,7 +51,7 @@ fn rows_needed(rows: &Rows, last: usize) -> Result<Vec<bool>, AllocError> {
     Ok(wanted)
 }
 
-// Adds so many times a sum to the multiples of rows. Tells whether all of them fit.
+// Adds this many times a sum to the multiples of rows. Returns whether all of them fit.
 fn add_shares(shares: &mut [u64], sum: &[Summand], times: u64) -> bool {
     for part in sum {
         let Some(place) = shares.get_mut(part.row) else {

@@ -28,13 +28,13 @@ impl Starts {
     }
 }
 
-// The number of the fact at this place, from 0, after so many others.
+// The number of the fact at this place, from 0, after this many others.
 fn number_after(count: usize, index: usize) -> Option<u32> {
     let number = count.checked_add(index)?.checked_add(1)?;
     u32::try_from(number).ok()
 }
 
-// What the name stands for, where the leaf's lines come after so many facts.
+// The fact that the name stands for, where the leaf's lines come after this many facts.
 fn source_of(starts: &Starts, count: usize, name: Name) -> Option<Source> {
     match name {
         Name::Given(place) => Some(Source::Known(starts.number(place)?)),
@@ -108,7 +108,7 @@ fn branch_form(alloc: Global, row: &Inequality) -> Result<Form, Unwritten> {
     }
 }
 
-// The certificate of a refutation that comes after so many facts.
+// The certificate of a refutation that comes after this many facts.
 #[cycle(numbering)]
 fn cert_of(tree: &Tree, count: usize, starts: &mut Starts) -> Result<Cert, Unwritten> {
     let alloc = starts.alloc;
@@ -145,7 +145,7 @@ fn certs_of(cases: &[Case], count: usize, starts: &mut Starts) -> Result<Vec<Cer
     Ok(certs)
 }
 
-/// The certificate of a refutation of so many facts.
+/// The certificate of a refutation of this many facts.
 pub fn certificate(alloc: Global, tree: &Tree, count: usize) -> Result<Cert, Unwritten> {
     let mut starts = Starts {
         alloc,

@@ -67,7 +67,7 @@ pub struct Case {
 
 /// A form that is at most 0, or at least 1, at this level, and what refutes either; whether the
 /// second needs the condition's own facts alone, and the choice that it goes into first, if it was
-/// told one.
+/// named.
 #[cycle(proof)]
 #[derive(Drop)]
 pub struct Sides {
@@ -80,7 +80,7 @@ pub struct Sides {
 }
 
 /// A form that is at most 0 by the condition's own facts, and the choice that shows it, if one was
-/// told.
+/// reported.
 #[derive(Drop)]
 pub struct Lifted {
     pub form: Inequality,
@@ -115,7 +115,7 @@ fn last_large(cases: &[Case]) -> Option<&Tree> {
     None
 }
 
-// The same, and the other cases are let go.
+// And the other cases are dropped.
 fn into_last_large(mut cases: Vec<Case>) -> Option<Tree> {
     for _ in 0..cases.len() {
         if let Some(case) = cases.pop() {
@@ -153,7 +153,7 @@ impl Tree {
         false
     }
 
-    // The same tree, and the form of the branch round it, if that is such a branch.
+    // The tree, and the form of the branch round it, if that is such a branch.
     fn into_spine(self) -> (Option<Tree>, Option<Lifted>) {
         match self {
             Tree::Leaf { .. } => (None, None),

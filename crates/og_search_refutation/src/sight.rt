@@ -1,4 +1,4 @@
-//! The leaves of inequalities that are at odds with what is known: at sight, where they need no
+//! The leaves of inequalities that are at odds with the known facts: at sight, where they need no
 //! rows but facts and the range of `i64`, and else by rows.
 
 use crate::fault::Unshown;
@@ -25,7 +25,7 @@ struct Ending {
 }
 
 impl Ending {
-    // Adds so many times what a name stands for.
+    // Adds this many times the fact that a name stands for.
     fn add(&mut self, name: Name, times: u64) -> Result<bool, AllocError> {
         self.end.push(Multiple { times, name })?;
         Ok(true)
@@ -38,7 +38,7 @@ impl Ending {
         self.add(Name::Given(Place { level, index }), 1)
     }
 
-    // Adds so many times a row, if that is a fact. Tells whether it was added.
+    // Adds this many times a row, if that is a fact. Returns whether it was added.
     fn add_row(&mut self, rows: &Rows, row: usize, times: u64) -> Result<bool, AllocError> {
         let Some(Origin::Given(place)) = rows.origin(row) else {
             return Ok(false);
@@ -71,7 +71,7 @@ impl Ending {
         Ok(true)
     }
 
-    // Adds a row, and the bounds of what is left of its sum with the inequality. Tells whether they
+    // Adds a row, and the bounds of the rest of its sum with the inequality. Returns whether they
     // were added.
     fn add_pair(
         &mut self,
@@ -155,7 +155,7 @@ fn by_rows(
 }
 
 /// The leaf of a clash at this place, if its sum is a contradiction and no number is too large. The
-/// rows are as they were, but for what is spent.
+/// rows are as they were, but for the steps spent.
 ///
 /// # Errors
 ///

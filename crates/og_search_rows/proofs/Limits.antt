@@ -61,7 +61,7 @@ lower_limit k o r q x none positive low high =
           omega (arith, ints, up, turned, opposite, low)),
     )
 
--- what is not below 0 and not 0 is above it
+-- a number that is not below 0 and not 0 is above it
 pub above_zero : (z : ℤ) → pos 0 ≤ℤ z → (z ≡ pos 0 → ⊥) → pos 0 <ℤ z
 above_zero (pos zero) h n = absurd (n refl)
 above_zero (pos (suc m)) h n = omega (arith, ints)

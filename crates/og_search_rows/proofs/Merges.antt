@@ -14,7 +14,7 @@ use Rattle.og_search_rows.proofs.Sums.{sum_at-drop}
 abbrev pub no_term : Term
 no_term = record { var = 0; coefficient = pos 0 }
 
--- what is there, and what is still to be added, is the total
+-- the numbers there, and those still to be added, are the total
 abbrev pub Sums : List Term → List Term → ℤ → ℤ → List Term → ℕ → ℕ → (List ℤ → ℤ) → Type 0
 Sums us ws m n out i j total = (s : List ℤ) → (sum_at out s +ℤ m *ℤ sum_at (drop i us) s) +ℤ n *ℤ sum_at (drop j ws) s ≡ total s
 
@@ -39,7 +39,7 @@ rest_of ts i = grind (arith, common_steps)
 
 -- ---- the least value of a sum
 
--- what is reckoned, with what is still to come, is not above the total
+-- the sum so far, with the rest, is not above the total
 abbrev pub StaysBelow : List Term → List Term → List Interval → ℤ → ℕ → ℕ → (List ℤ → ℤ) → Type 0
 StaysBelow us ws b sum i j total = (s : List ℤ) → Within b s → ((sum +ℤ sum_at (drop i us) s) +ℤ sum_at (drop j ws) s) ≤ℤ total s
 

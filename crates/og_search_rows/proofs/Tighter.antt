@@ -14,7 +14,7 @@ use Rattle.og_search_rows.specs.Bounds.{whole, bound_at, bounded, Within, Meets,
 abbrev pub InInterval : Interval → ℤ → Type 0
 InInterval i v = (i.lower.value ≤ℤ v) × (v ≤ℤ i.upper.value)
 
--- what is within the new bounds is within the old ones, where the interval of one variable is within its old one
+-- a value within the new bounds is within the old ones, where the interval of one variable is within its old one
 within_old : (b : List Interval) (x : ℕ) (i : Interval) (s : List ℤ) → x < length b → InInterval (get_or b x whole) (value_at s x) → Within (slice_set b x i) s → Within b s
 within_old b x i s h old w y = go (y == x) refl
   where

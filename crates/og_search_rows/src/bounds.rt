@@ -58,8 +58,8 @@ pub struct Limit {
 }
 
 impl Limit {
-    /// What `coefficient * x + rest <= 0` says of x; none only where the coefficient is 0, or one of
-    /// the two is the least `i128`.
+    /// What `coefficient * x + rest <= 0` says of x; none only where the coefficient is 0, or one
+    /// of the two is the least `i128`.
     pub fn of(coefficient: i128, rest: i128) -> Option<Limit>
         ensures limit { IfSome result (λ l. (x : ℤ)
             → ((coefficient *ℤ x +ℤ rest) ≤ℤ pos 0) ↔ Meets l.side l.value x) }

@@ -21,7 +21,7 @@ impl marker::Model for Model {
 }
 
 impl Model {
-    /// Each of so many variables is 0.
+    /// Each of this many variables is 0.
     pub fn new(alloc: Global, variables: usize) -> Result<Model, AllocError>
         ensures { IfOk result (λ m. m ≡ replicate variables (pos 0)) }
     {

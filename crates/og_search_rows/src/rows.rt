@@ -114,7 +114,7 @@ impl marker::Model for Rows {
 }
 
 impl Rows {
-    /// No rows, and so many steps to spend.
+    /// No rows, and this many steps to spend.
     pub fn new(alloc: Global, budget: u64) -> Rows
         ensures rows { result.rows ≡ [] }
         ensures budget { result.budget ≡ budget }
@@ -201,7 +201,8 @@ impl Rows {
         }
     }
 
-    /// Takes so many steps from the budget. `Budget` where fewer are left, and then none is taken.
+    /// Takes this many steps from the budget. `Budget` where fewer are left, and then none is
+    /// taken.
     pub fn spend(&mut self, steps: u64) -> Result<(), RowError>
         ensures spent { OnOk result (self.new ≡ record self.old { budget = self.old.budget - steps }) }
         ensures enough { IsOk result ↔ (steps ≤ self.old.budget) }

@@ -69,7 +69,7 @@ impl Refiner<'_> {
         }
     }
 
-    // Adds what each of these facts tells.
+    // Adds the bounds that follow from each of these facts.
     fn add_facts(&mut self, facts: &[Fact]) {
         for fact in facts {
             let around = fact_mark(self.colors, fact, NESTING_LIMIT);
@@ -112,14 +112,14 @@ fn refined(alloc: Global, list: &[Fact], colors: &[u64]) -> Result<Vec<u64>, All
 /// The colors of the variables of a list.
 #[derive(Drop)]
 pub(crate) struct Colors {
-    // By what is said of each alone.
+    // By the facts about each alone.
     first: Vec<u64>,
     // By the first ones of the variables that stand with it, once they were needed.
     second: Option<Vec<u64>>,
 }
 
 impl Colors {
-    /// Those of so many variables in the list.
+    /// Those of this many variables in the list.
     ///
     /// # Errors
     ///
@@ -180,9 +180,9 @@ fn are_some_alike(alloc: Global, own: &[u64], other: &[u64]) -> Result<bool, All
     Ok(false)
 }
 
-/// Which variables of a list with these colors stand for those of another list, of so many
+/// Which variables of a list with these colors stand for those of another list, of this many
 /// variables, by the colors of these: those of one color in the order of their numbers. Where no
-/// two are alike by what is said of them alone, none are by more.
+/// two are alike by the facts about them alone, none are by more.
 ///
 /// # Errors
 ///

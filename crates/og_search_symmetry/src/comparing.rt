@@ -44,7 +44,7 @@ fn compare_parts(renaming: &mut Renaming, from: &[Vec<Fact>], to: &[Vec<Fact>], 
     }
 }
 
-/// Notes which variables the facts have at the same places, where they differ: what is said first
+/// Notes which variables the facts have at the same places, where they differ: the first facts
 /// holds.
 #[cycle(comparing)]
 pub(crate) fn compare_facts(renaming: &mut Renaming, from: &[Fact], to: &[Fact], depth: u32) {

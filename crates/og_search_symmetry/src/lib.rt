@@ -1,8 +1,8 @@
 //! Certificates that are carried over to facts in which variables are exchanged.
 //!
 //! In an outline of like processes the facts of a condition are often those of another one with two
-//! processes exchanged, in another order. No contract promises anything of what is carried over: it
-//! is safe and ends, and `og_find` replays it before it hands it out.
+//! processes exchanged, in another order. No contract promises anything of the carried certificate:
+//! it is safe and ends, and `og_find` replays it before it hands it out.
 #![tactic(auto)]
 
 mod carrying;

@@ -4,7 +4,7 @@
 use og_facts::{Atom, Fact, Signed};
 use og_search_rows::{last_bits, next_mark};
 
-/// Choices that have so many choices round them are not told apart.
+/// Choices that have this many choices round them count as equal.
 pub(crate) const NESTING_LIMIT: u32 = 200;
 
 /// The mark of nothing.
@@ -57,7 +57,7 @@ pub(crate) fn atom_mark(labels: &[u64], atom: &Atom) -> u64 {
     next_mark(sum, last_bits(atom.offset()))
 }
 
-/// The mark of a fact with so many levels of choices.
+/// The mark of a fact with this many levels of choices.
 #[cycle(marks)]
 pub(crate) fn fact_mark(labels: &[u64], fact: &Fact, depth: u32) -> u64 {
     match fact {
@@ -78,7 +78,7 @@ fn choice_mark(labels: &[u64], parts: &[Vec<Fact>], depth: u32) -> u64 {
     next_mark(START, sum)
 }
 
-/// The mark of a part with so many levels of choices.
+/// The mark of a part with this many levels of choices.
 #[cycle(marks)]
 pub(crate) fn part_mark(labels: &[u64], part: &[Fact], depth: u32) -> u64 {
     let mut sum = START;

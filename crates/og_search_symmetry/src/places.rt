@@ -43,7 +43,7 @@ fn are_same(marks: &[Option<u64>], others: &[Option<u64>]) -> bool {
 }
 
 impl Places {
-    // Each of so many places is its own counterpart.
+    // Each of this many places is its own counterpart.
     fn same(alloc: Global, count: usize) -> Result<Places, AllocError> {
         let mut places = Vec::with_capacity(alloc, count)?;
         for place in 0..count {

@@ -18,7 +18,7 @@ pub(crate) struct Renaming {
     is_denied: bool,
 }
 
-// Each of so many variables.
+// Each of this many variables.
 fn each(alloc: Global, variables: u32) -> Result<Vec<u32>, AllocError> {
     let mut all = Vec::with_capacity(alloc, variables as usize)?;
     for var in 0..variables {
@@ -45,7 +45,7 @@ impl Renaming {
         Ok(labels)
     }
 
-    /// Each of so many variables stands for itself.
+    /// Each of this many variables stands for itself.
     pub(crate) fn none(alloc: Global, variables: u32) -> Result<Renaming, AllocError> {
         Ok(Renaming {
             names: each(alloc, variables)?,

@@ -47,7 +47,7 @@ set_others body i y e s t s0 v is cut inv x h =
     let here : (x == y || assigns x (map simple (drop (i + 1) body))) ≡ false = sym (ap (assigns x) cut) ∙ assigns_drop x body i h in
     ap (λ r. value_at r x) is ∙ put_other s y x v (eqb-false x y (or_parts (x == y) _ here).0) ∙ inv x h
 
--- ---- copying what is assigned
+-- ---- copying the assigned variables
 
 pub settle_one : (l rest : List Simple) (y : ℕ) (e : FormValue) (from to new : List ℤ) → l ≡ Set y e ∷ rest → new ≡ put to y (value_at from y) → ((x : ℕ) → assigns x l ≡ false → value_at to x ≡ value_at from x) → (x : ℕ) → assigns x rest ≡ false → value_at new x ≡ value_at from x
 settle_one l rest y e from to new cut is inv x h = ap (λ r. value_at r x) is ∙ ⊎_elim same other (cases_eq x y)

@@ -7,7 +7,7 @@ ghost use Rattle.og_step.specs.Faults.{number_of_fault, name_of_fault};
 use std::alloc::{AllocError, AllocFailed};
 use thiserror::Error;
 
-/// What is wrong with the values that a run is to start from.
+/// The fault of the values that a run is to start from.
 #[derive(Clone, Copy, Debug, Drop, PartialEq, Eq, Error)]
 pub enum StartFault {
     /// The number of values is not that of the variables that are no auxiliaries.

@@ -30,7 +30,7 @@ pub(crate) fn value_of(form: &Form, state: &State) -> i128
     requires { is_readable (length state.now) form.now ≡ true }
     ensures { result ≡ val form.now state.now }
 {
-    // A term tells that the variables rise: there are no more of them than values.
+    // A measure: the variables rise, so there are no more of them than values.
     let _ = form.term(0);
     form.value(state)
 }

@@ -1,4 +1,4 @@
-//! One step of what is left at a point.
+//! One step of the rest at a point.
 
 ghost use Rattle.std.specs.Prelude.{◌≡◌, ◌≤◌, length};
 ghost use Rattle.og_typed.specs.Points.{rest_at};
@@ -23,7 +23,7 @@ pub enum Turn {
     Early,
 }
 
-// One step of what is left at a point, and the point after it. Takes no memory.
+// One step of the rest at a point, and the point after it. Takes no memory.
 pub(crate) fn step_rest(points: &Points, at: &mut u32, values: &mut Values) -> Turn
     requires short { length values.old ≤ 256 }
     requires usable { AreUsable (length values.old) (rest_at points.now at.old) }

@@ -1,4 +1,4 @@
--- What is prepared of an action.
+-- The part of an action that is prepared.
 use Rattle.std.specs.Prelude.{List}
 use Rattle.og_linear.specs.Linear.{FormValue}
 use Rattle.og_linear.specs.Bounded.{MapValue}

@@ -1,7 +1,7 @@
 //! Actions as maps from variables to forms, and assertions under them.
 //!
-//! specs/Large.antt has states of whole numbers that may leave `i64`: what assertions say there, and
-//! what actions make of them, as far as each number fits 128 bits.
+//! specs/Large.antt has states of whole numbers that may leave `i64`: what assertions say there,
+//! and what actions make of them, as far as each number fits 128 bits.
 #![tactic(auto)]
 
 mod action;

@@ -1,4 +1,4 @@
-//! What is prepared of an action: its map and its values.
+//! The part of an action that is prepared: its map and its values.
 
 ghost use Rattle.std.specs.Prelude.{◌≡◌, map};
 ghost use Rattle.og_linear.specs.Answer.{IsAnswer};
@@ -29,7 +29,7 @@ impl Model for ActionMap {
 }
 
 impl ActionMap {
-    // What is prepared of the action.
+    // The part of the action that is prepared.
     pub(crate) fn new(alloc: Global, action: &Action) -> Result<ActionMap, FormError>
         ensures { IsAnswer (λ p. p) faults.TooLarge result (running.run (action_body action.now) running.nothing) }
     {

@@ -30,7 +30,7 @@ impl Model for Values {
     ghost view = { λ v. v.numbers.items };
 }
 
-// The same number.
+// Of the same number.
 fn wide(value: i64) -> i128
     ensures { result ≡ value }
 {
@@ -142,7 +142,7 @@ impl Values {
         None
     }
 
-    // The same, of one assignment.
+    // Of one assignment.
     fn large(&self, var: u32, form: &Form) -> Option<(u32, i128)>
         ensures { IfSome result (λ found. first_large (Set var form.now ∷ []) self.now ≡ Some found) }
     {

@@ -46,7 +46,8 @@ fn use_in(alloc: Global, factor: Factor) -> Option<Unit> {
     }
 }
 
-// The use of a named assertion that a sum without a relation is, if it is one factor without a sign.
+// The use of a named assertion that a sum without a relation is, if it is one factor without a
+// sign.
 fn use_of(alloc: Global, sum: Sum) -> Option<Unit> {
     if !is_one_term(&sum) {
         drop(sum);

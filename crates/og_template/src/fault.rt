@@ -1,4 +1,4 @@
-//! What is wrong with a template.
+//! The fault of a template.
 
 ghost use Rattle.std.specs.Prelude.{◌≡◌};
 ghost use Rattle.og_template.specs.Faults.{number_of_kind, name_of_kind};
@@ -90,7 +90,7 @@ impl FaultKind {
     }
 }
 
-/// What is wrong with a template, and the byte offset at which, from 0.
+/// The fault of a template, and the byte offset at which, from 0.
 #[derive(Clone, Copy, Debug, Drop, PartialEq, Eq, Error)]
 #[error("{} at byte {at}", self.kind.name())]
 pub struct TemplateFault {

@@ -47,8 +47,8 @@ fn first_word(text: &[u8]) -> &[u8]
     &rest[..word_len(rest)]
 }
 
-/// Whether the first word of a text is `template`: what follows white space and comments begins with
-/// these letters, and no letter, digit or `_` follows them. It takes no memory.
+/// Whether the first word of a text is `template`: what follows white space and comments begins
+/// with these letters, and no letter, digit or `_` follows them. It takes no memory.
 pub fn is_template(text: &[u8]) -> bool
     ensures { result ≡ is_template text.now }
 {

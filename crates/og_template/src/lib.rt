@@ -1,8 +1,8 @@
 //! The words and the grammar of templates.
 //!
-//! [`is_template`] tells a template from every other text, and [`words`] cuts it into the words of an
-//! outline and the keywords and marks that templates add. [`read`] returns the tree that the words
-//! stand for, or the first fault in their order.
+//! [`is_template`] tells a template from every other text, and [`words`] cuts it into the words of
+//! an outline and the keywords and marks that templates add. [`read`] returns the tree that the
+//! words stand for, or the first fault in their order.
 #![tactic(auto)]
 
 mod assertions;

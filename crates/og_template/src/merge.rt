@@ -52,14 +52,14 @@ fn merged(alloc: Global, tokens: Vec<Token>, marks: &[Mark]) -> Result<Vec<Word>
 }
 
 /// The words of a template, in order. Outside of comments `[`, `]`, a `:` that no `=` follows, and
-/// each `..` from the left are marks; the rest is cut as an outline is, and a name that is spelt like
-/// a keyword of templates is that keyword.
+/// each `..` from the left are marks; the rest is cut as an outline is, and a name that is spelt
+/// like a keyword of templates is that keyword.
 ///
 /// # Errors
 ///
-/// The fault of the text without its marks, as `og_text` tells it: `SourceTooLong` where it has more
-/// than 1,048,576 bytes, `BadByte`, `NumberTooLarge` or `NameTooLong`. `Memory` may stand in the place
-/// of any other answer where an allocation was refused.
+/// The fault of the text without its marks, as `og_text` has it: `SourceTooLong` where it has more
+/// than 1,048,576 bytes, `BadByte`, `NumberTooLarge` or `NameTooLong`. `Memory` may stand in the
+/// place of any other answer where an allocation was refused.
 #[tactic(auto, using(crate::proofs::Errors::error_of_masked))]
 pub fn words(alloc: Global, text: &[u8]) -> Result<Vec<Word>, LexError>
     ensures words { IfOk result (λ words. AreWordsOf text.now words.items) }

@@ -122,7 +122,7 @@ fn block(
     rest_of_block(alloc, levels, limits, cursor)
 }
 
-/// Reads a sequence with at most so many levels, and the `end` after it.
+/// Reads a sequence with at most this many levels, and the `end` after it.
 #[cycle(statements)]
 pub(crate) fn rest_of_block(
     alloc: Global,
@@ -169,7 +169,7 @@ fn while_statement(
     Ok(Statement::While(test, body))
 }
 
-// A statement that opens a level, where so many are left.
+// A statement that opens a level, where this many are left.
 #[cycle(statements)]
 fn compound(
     alloc: Global,
@@ -274,7 +274,7 @@ fn steps(
     Ok(all)
 }
 
-/// Reads steps after an assertion, with at most so many levels of statements.
+/// Reads steps after an assertion, with at most this many levels of statements.
 #[cycle(statements)]
 pub(crate) fn sequence(
     alloc: Global,

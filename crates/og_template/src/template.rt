@@ -19,7 +19,7 @@ use std::alloc::Global;
 
 const LEVELS: u32 = 100;
 
-// What is declared.
+// A declaration.
 #[derive(Drop)]
 struct Declarations {
     constants: Vec<Constant>,
@@ -35,7 +35,7 @@ struct Center {
     processes: Vec<Process>,
 }
 
-// What is declared in a list, and the `;` behind it.
+// The declarations in a list, and the `;` behind it.
 fn declared_list<T: Listed>(alloc: Global, cursor: &mut Cursor) -> Result<Vec<T>, Refusal>
     ensures { length cursor.new ≤ length cursor.old }
 {
@@ -260,9 +260,9 @@ fn place(words: &[Word], rest: &[Word]) -> u32 {
 /// # Errors
 ///
 /// `Fault`, the first in the order of the words, at a word's first byte or at the end of the last
-/// word: `Expected` at the first word with which no template goes on, `TooDeep` at the word that opens
-/// the 101st level of assertions or of statements; at one word in this order. `Memory` where an
-/// allocation was refused.
+/// word: `Expected` at the first word with which no template goes on, `TooDeep` at the word that
+/// opens the 101st level of assertions or of statements; at one word in this order. `Memory` where
+/// an allocation was refused.
 pub fn read(alloc: Global, words: &[Word]) -> Result<Template, TemplateError> {
     let mut cursor = Cursor::new(words);
     match template(alloc, &mut cursor) {

@@ -3,8 +3,8 @@
 use og_parse::{RawName, Relation, Sign};
 use og_text::Span;
 
-/// A template as it is written, without comments and layout. Each span is the place of a word in the
-/// template, in bytes.
+/// A template as it is written, without comments and layout. Each span is the place of a word in
+/// the template, in bytes.
 #[derive(Drop)]
 pub struct Template {
     /// The constants with their values, in the order of their declarations.
@@ -147,7 +147,7 @@ pub struct Term {
     pub span: Span,
 }
 
-/// What is added or subtracted.
+/// The number added or subtracted.
 #[cycle(term)]
 #[derive(Drop)]
 pub enum TermKind {
@@ -212,8 +212,8 @@ pub enum Basic {
     Assign(RawName, Option<Expr>, Sum),
 }
 
-/// A statement in the body of an `await`, once or for each value of a binder. The span is that of the
-/// statement's first word.
+/// A statement in the body of an `await`, once or for each value of a binder. The span is that of
+/// the statement's first word.
 #[derive(Drop)]
 pub struct Element {
     pub binder: Option<Binder>,

@@ -1,4 +1,5 @@
-//! The expansion of a template: the tree of the outline that it means, under values of its constants.
+//! The expansion of a template: the tree of the outline that it means, under values of its
+//! constants.
 //!
 //! [`expand`] gives the tree with the place of each note and statement in the template.
 #![tactic(auto)]

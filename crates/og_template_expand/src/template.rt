@@ -196,8 +196,8 @@ fn whole<'a>(
 }
 
 /// The tree of the outline that a template means, where constants have the values that are given,
-/// and the others their own. Of two values of one name the first is taken, and one of a name that is
-/// no constant is passed over.
+/// and the others their own. Of two values of one name the first is taken, and one of a name that
+/// is no constant is passed over.
 ///
 /// # Errors
 ///
@@ -207,8 +207,8 @@ fn whole<'a>(
 /// name; `TooDeep` at the word that opens the 101st level; `TooManyStatements` at the 4,097th
 /// statement; `ValueTooLarge`, `BadModulus` at the operator; `BadRange` at the range's first word;
 /// `NothingLeft` at the first `{` of a sequence, at `await` or at `cobegin`. Where the names of the
-/// template were not checked, `Undeclared` or `WrongKind` at a name. `Memory` where an allocation was
-/// refused.
+/// template were not checked, `Undeclared` or `WrongKind` at a name. `Memory` where an allocation
+/// was refused.
 pub fn expand<'a>(
     alloc: Global,
     template: &'a Template,

@@ -1,4 +1,4 @@
--- What is promised of an answer.
+-- The promise of an answer.
 use Rattle.std.specs.Prelude.{◌≡◌, ℕ, ◌≤◌, ◌^◌, ◌⊎◌, length, List, [], Bool, true, false, ◌++◌, Some, Contains, codes, if◌then◌else◌}
 use Rattle.og_text.specs.declared.token.Token.{Token}
 use Rattle.og_parse.specs.Trees.{Outline}
@@ -37,7 +37,7 @@ pub record IsOutlineText (text : List ℕ) : Type 0 where
   pub source : IsSource text outline
   pub same : plain tree ≡ plain source.tree
 
--- what is printed of a template: the text of an outline, or the map, of which nothing is promised
+-- the text printed of a template: that of an outline, or the map, of which nothing is promised
 abbrev pub IsPrinted : Bool → List ℕ → Type 0
 IsPrinted true text = Unit {0}
 IsPrinted false text = IsOutlineText text
@@ -77,7 +77,7 @@ IsOfOutline is_map text words (replies.Answer a) =
 IsOfOutline is_map text words (replies.Refused a fault) = ⊥
 IsOfOutline is_map text words (replies.BadValue word) = Contains words word.now
 
--- of a template: the line of a fault, or what is printed of it
+-- of a template: the line of a fault, or the text printed of it
 abbrev pub IsOfTemplate : Bool → List ℕ → List (List ℕ) → Reply → Type 0
 IsOfTemplate is_map text words (replies.Answer a) = IsPrinted is_map a.text.items × (a.status ≡ 0)
 IsOfTemplate is_map text words (replies.Refused a fault) = IsTold text fault a
@@ -91,7 +91,7 @@ IsReplyBy false = IsOfOutline
 abbrev pub IsReply : Bool → List ℕ → List (List ℕ) → Reply → Type 0
 IsReply is_map text words reply = IsReplyBy (is_template text) is_map text words reply
 
--- ---- what is said of a text
+-- ---- about a text
 
 -- of a template P holds of the text of an outline that it means, of any other text of itself
 abbrev pub HoldsBy : Bool → (List ℕ → Type 0) → List ℕ → Type 0

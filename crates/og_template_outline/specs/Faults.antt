@@ -20,7 +20,7 @@ name_of_fault (faults.Outline fault) = name_of_source (sources.Resolve fault)
 name_of_fault faults.ExpansionTooLong = codes "ExpansionTooLong"
 name_of_fault faults.NotReadBack = codes "NotReadBack"
 
--- the byte offset; what is too long, or was not read back, has none
+-- the byte offset; a text too long, or not read back, has none
 abbrev pub place_of_fault : ExpandFault → Option ℕ
 place_of_fault (faults.Words fault) = place_of_source (sources.Lex fault)
 place_of_fault (faults.Template fault) = Some fault.at

@@ -1,4 +1,4 @@
--- Which words give constants their values, and which word is told as bad.
+-- Which words give constants their values, and which word is reported as bad.
 use Rattle.std.specs.Prelude.{◌≡◌, ℕ, ◌==◌, Bool, not, ◌&&◌, nat_lt, List, length, filter, Contains, ⊤}
 use Rattle.std.specs.List.{list_any, position_or_len, before_first}
 use Rattle.std.specs.Str.{bytes_eq}
@@ -6,7 +6,7 @@ use Rattle.og_template.specs.declared.tree.Constant.{Constant}
 use Rattle.og_template_outline.specs.declared.fault.Refusal.{Refusal}
 use Rattle.og_template_outline.specs.declared.fault.Refusal.TheVariants as refusals
 
--- a word that is told is one of these
+-- a word that is reported is one of these
 abbrev pub IsOneOrOther : List (List ℕ) → Refusal → Type 0
 IsOneOrOther words (refusals.BadValue word) = Contains words word.now
 IsOneOrOther words (refusals.Failed error) = ⊤

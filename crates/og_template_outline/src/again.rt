@@ -1,4 +1,4 @@
-//! Reading what is printed again.
+//! Reading the printed text again.
 
 ghost use Rattle.std.specs.Prelude.{◌≡◌, ◌≤◌, IfOk};
 ghost use Rattle.og_text.specs.Cut.{AreTokensOf};
@@ -62,7 +62,8 @@ pub(crate) struct Again {
     pub(crate) outline: Outline,
 }
 
-/// Asks that the text of a tree is that of an outline, and its tree is this one apart from the places.
+/// Asks that the text of a tree is that of an outline, and its tree is this one apart from the
+/// places.
 pub(crate) fn read_again(alloc: Global, text: &[u8], raw: &Raw) -> Result<Again, Unread>
     requires { text.now ≡ outline_text (tree_of raw.now) }
     ensures text { IfOk result (λ _. IsOutlineText text.now) }

@@ -18,7 +18,7 @@ use std::alloc::{AllocError, Global};
 /// What comes of expanding a text.
 #[derive(Debug, Drop)]
 pub enum Reply<'a> {
-    /// What is printed, and the status.
+    /// The printed text, and the status.
     Answer(Answer),
     /// The line of this fault of a template, and the status.
     Refused(Answer, ExpandFault),
@@ -105,8 +105,9 @@ fn too_long<'a>(alloc: Global, text: &[u8], words: &[&'a str]) -> Result<Expansi
 }
 
 /// The outline that a template means, where constants have the values that the words give, each
-/// NAME=INT, with its text, and where its notes and statements come from. `Refused` holds the line of a
-/// fault with status 2, and the fault; `BadValue` the first word that gives no constant a value.
+/// NAME=INT, with its text, and where its notes and statements come from. `Refused` holds the line
+/// of a fault with status 2, and the fault; `BadValue` the first word that gives no constant a
+/// value.
 ///
 /// # Errors
 ///
@@ -174,10 +175,10 @@ fn of_template<'a>(
 /// Expands a text, where constants have the values that the words give, each NAME=INT.
 ///
 /// Of a text whose first word is `template` the answer is the text of its outline, or with `is_map`
-/// the places of its notes and statements, each with its place in the template and the values of the
-/// bound names round it, with status 0; or `Refused`, the line of a fault with status 2, and the fault.
-/// `BadValue` holds the first word that gives no constant a value. Any other text is read as an outline, and then is
-/// printed as it is, or with `is_map` nothing; it has no constants.
+/// the places of its notes and statements, each with its place in the template and the values of
+/// the bound names round it, with status 0; or `Refused`, the line of a fault with status 2, and
+/// the fault. `BadValue` holds the first word that gives no constant a value. Any other text is
+/// read as an outline, and then is printed as it is, or with `is_map` nothing; it has no constants.
 ///
 /// # Errors
 ///

@@ -8,7 +8,7 @@ use og_text::{LexError, LexFault};
 use og_typed::{SourceFault, TypeError, TypeFault};
 use std::alloc::{AllocError, AllocFailed};
 
-/// What is wrong with a template or its outline.
+/// The fault of a template or its outline.
 #[derive(Clone, Copy, Debug, Drop, PartialEq, Eq)]
 pub enum ExpandFault {
     /// The text is not cut into words.

@@ -1,7 +1,7 @@
 //! From a template to the outline that it stands for.
 //!
 //! [`check_names`] finds the first use of a name without its declaration, or of the wrong kind.
-//! specs/Expanded.antt says what is promised of an answer, specs/Words.antt of the words behind a
+//! specs/Expanded.antt has the promise of an answer, specs/Words.antt of the words behind a
 //! template.
 #![tactic(auto)]
 

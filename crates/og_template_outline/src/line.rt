@@ -42,7 +42,7 @@ fn plain(alloc: Global, number: u8, name: &str) -> Result<Vec<u8>, AllocError>
     Ok(text)
 }
 
-/// The line that tells a fault: its number, its name, and its place in the template where it has one.
+/// The line of a fault: its number, its name, and its place in the template where it has one.
 pub(crate) fn fault_line(
     alloc: Global,
     fault: &ExpandFault,

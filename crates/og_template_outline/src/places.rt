@@ -26,7 +26,8 @@ fn first_relation(assert: &RawAssert) -> Option<u32> {
     }
 }
 
-// Adds the conjuncts of an assertion, also those of the conjunctions in it; else the assertion alone.
+// Adds the conjuncts of an assertion, also those of the conjunctions in it; else the assertion
+// alone.
 fn add_conjuncts(list: &mut Vec<Option<u32>>, assert: &RawAssert) -> Result<(), AllocError> {
     let RawAssert::And(all) = assert else {
         list.push(first_relation(assert))?;

@@ -30,8 +30,8 @@ fn row_of(alloc: Global, part: &mut Part, origin: &Origin<'_>) -> Result<Row, Al
     })
 }
 
-/// The rows of an outline: its parts, those of the expanded tree, and their origins, in the order of
-/// the text.
+/// The rows of an outline: its parts, those of the expanded tree, and their origins, in the order
+/// of the text.
 pub(crate) fn rows(
     alloc: Global,
     printed: &[Part],

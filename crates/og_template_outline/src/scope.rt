@@ -12,7 +12,7 @@ pub(crate) enum Kind {
     Value,
     Variable,
     Family,
-    /// An assertion with so many parameters.
+    /// An assertion with this many parameters.
     Named(usize),
 }
 
@@ -49,7 +49,7 @@ impl<'a> Scope<'a> {
         self.names.len()
     }
 
-    /// Takes the names out of scope that came after the first so many.
+    /// Takes the names out of scope that came after the first this many.
     pub(crate) fn leave(&mut self, len: usize) {
         self.names.truncate(len);
     }

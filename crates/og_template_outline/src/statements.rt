@@ -6,7 +6,7 @@ use crate::scope::{Kind, Scope};
 use og_parse::RawName;
 use og_template::{Basic, Element, Expr, Sequence, Statement, Step, TemplateError};
 
-// Asks the names of what is assigned.
+// Asks the names of the assigned variables.
 fn check_target(
     scope: &Scope<'_>,
     name: &RawName,

@@ -27,7 +27,7 @@ fn told(alloc: Global, answer: &Result<FactList, FactsError>) -> Result<String, 
     format!(in alloc; "{answer:?}")
 }
 
-// The same by a map that was prepared from its action, where it has one.
+// By a map that was prepared from its action, where it has one.
 fn told_by_map(alloc: Global, condition: &Condition) -> Result<Option<String>, AllocError> {
     let Some(action) = &condition.action else {
         return Ok(None);
@@ -124,7 +124,7 @@ fn from_values<'a>(
     })
 }
 
-// Assignments `x := 2147483648*x`, so many that no map holds them.
+// Assignments `x := 2147483648*x`, too many for any map to hold them.
 fn doublings(alloc: Global) -> Result<Vec<Basic>, FormError> {
     let mut body = Vec::new(alloc);
     for _ in 0..5 {
@@ -144,7 +144,7 @@ fn outcome(answer: &Result<FactList, FactsError>) -> (u8, usize) {
     }
 }
 
-// The same of 5,000 values with this action and this goal.
+// Of 5,000 values with this action and this goal.
 fn outcome_of<'a>(
     alloc: Global,
     action: Option<Action<'a>>,

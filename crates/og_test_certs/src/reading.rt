@@ -179,7 +179,7 @@ fn parts_of_lines(rt: HostRuntime) -> Result<(), Fail> {
     Ok(())
 }
 
-// The start of a certificate, what is repeated after it and how often, and the same once more.
+// The start of a certificate, the part repeated after it and how often, and once more.
 type Parts<'a> = (&'a str, &'a str, usize, &'a str, &'a str, usize);
 
 fn repeated(alloc: Global, parts: Parts<'_>) -> Result<String, AllocError> {
@@ -271,7 +271,7 @@ fn what_is_read_is_written(rt: HostRuntime) -> Result<(), Fail> {
     Ok(())
 }
 
-// Texts, and what is written of each in version 2: the least number that has the certificate,
+// Texts, and how each is written in version 2: the least number that has the certificate,
 // whatever the text named, and where the line `same` is shorter.
 const IN_VERSION_2: &[(&str, &str)] = &[
     (

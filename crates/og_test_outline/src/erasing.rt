@@ -21,7 +21,7 @@ fn text_of(alloc: Global, outline: &Outline) -> Result<Vec<u8>, Fail> {
     told
 }
 
-// What is printed of a program as an outline stands for that program again.
+// The text printed of a program as an outline stands for that program again.
 const SOURCE: &str =
     "var x, y; aux a = 0; {x = 2*y - 7} cobegin {a = 0} if 0 <= x and -y < 9223372036854775807 then begin {true} x := -2147483648*y + x - 9223372036854775807 {true} a := 1 {true} end {true} // {true} await x <> 1 then begin a := 2; y := 3*x end {true} coend {x <= y}";
 

@@ -15,10 +15,10 @@ type Sum = (i128, i128, i128);
 // The terms of a form, each a variable and its coefficient.
 type Terms<'a> = &'a [(u32, i128)];
 
-// What is done to a form.
+// The operations on a form.
 #[derive(Clone, Copy)]
 enum Deed<'a> {
-    // This sum is added so many times.
+    // This sum is added this many times.
     Add(i128, Sum),
     // This sum stands in place of x.
     Replace(Sum),
@@ -70,7 +70,7 @@ fn expect_form(rt: &impl Abort, form: &Form, terms: Terms<'_>, constant: i128) {
     assert!(rt; form.offset() == constant, "the constant of {form:?}");
 }
 
-// A form, what is done to it, and the terms and the constant that it has then.
+// A form, the operations on it, and the terms and the constant that it has then.
 const DONE: &[(Sum, Deed<'_>, Terms<'_>, i128)] = &[
     ((1, 0, 0), Deed::Add(3, (1, 0, -1)), &[(X, 4)], -3),
     ((4, 0, -3), Deed::Add(-4, (1, 0, 0)), &[], -3),
@@ -153,7 +153,7 @@ fn what_is_done_to_forms(rt: HostRuntime) -> Result<(), Fail> {
     Ok(())
 }
 
-// A form, what is done to it, and why it is refused.
+// A form, the operations on it, and why it is refused.
 const REFUSED: &[(Sum, Deed<'_>, FormFault)] = &[
     ((2, 0, 1), Deed::Cut(3), FormFault::NotDivisible),
     ((2, 0, 1), Deed::Cut(0), FormFault::NotDivisible),

@@ -41,7 +41,7 @@ fn asks_for_more_at_each_prefix(rt: HostRuntime) -> Result<(), Fail> {
     Ok(())
 }
 
-// No `await` stands in a prologue: so much is told before that it is the 4,097th statement.
+// No `await` stands in a prologue: enough stands before that it is the 4,097th statement.
 #[test]
 fn asks_for_a_statement_of_main(rt: HostRuntime) -> Result<(), Fail> {
     let skips = "skip {true} ".repeat(rt.alloc(), 4096)?;

@@ -54,7 +54,7 @@ fn told(alloc: Global, moment: &Moment<'_>) -> Result<String, AllocError> {
     format!(in alloc; "{first} {main} {ended:?}")
 }
 
-// What is told after the move of each: the current assertion is that of the next statement, the
+// The report after the move of each: the current assertion is that of the next statement, the
 // last one of a process that has ended, and the postcondition at the main's end.
 const MOVES: &[(u32, &str)] = &[
     (1, "0 -1 (false, false)"),

@@ -1,4 +1,4 @@
-//! Checks and searches by so many workers.
+//! Checks and searches by this many workers.
 
 use og_command_check::{Answer, CERTS_LIMIT, FindReply, Options, Wanted, checked, found};
 use og_find::Missing;
@@ -25,7 +25,7 @@ pub(crate) fn checked_by<G: Gate, R: Threads + Wait + Sync>(
     Ok(checked(rt, alloc, source.as_bytes(), certs, options, gate)?)
 }
 
-/// What a search finds whose text may have so many bytes.
+/// The result of a search whose text may have this many bytes.
 pub(crate) fn found_within<R: Threads + Wait + Sync>(
     rt: &R,
     alloc: Global,

@@ -101,7 +101,7 @@ fn a_reader_without_end(rt: HostRuntime) {
     expect_given_up(&rt, rt.alloc());
 }
 
-// The most bytes to read, and what is read.
+// The most bytes to read, and the bytes read.
 const LIMITS: &[(usize, &[u8])] = &[(0, b""), (1, b"v"), (6, b"var x;"), (7, b"var x;")];
 
 #[test]

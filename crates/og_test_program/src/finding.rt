@@ -11,8 +11,8 @@ use std::sync::Wait;
 use std::test::Fail;
 use std::thread::Threads;
 
-// What 2 workers find is in this version, so many conditions have none, and the report of a check
-// of it ends so.
+// The certificates that 2 workers find are in this version, this many conditions have none, and the
+// report of a check of it ends so.
 fn expect_found<R: Threads + Wait + Sync + Abort>(
     rt: &R,
     alloc: Global,

@@ -36,8 +36,8 @@ fn whole_certificates(front: &str, rest: &str) -> Option<usize> {
     is_whole.then_some(front.matches("cond ").count())
 }
 
-// Whether this is the answer where so many conditions have a certificate. The last condition has no
-// part in the status.
+// Whether this is the answer where this many conditions have a certificate. The last condition has
+// no part in the status.
 fn tells(answer: &Answer, certificates: usize) -> bool {
     let Some(lacking) = CONDITIONS.checked_sub(certificates) else {
         return false;

@@ -45,7 +45,7 @@ fn three_workers_meet(rt: HostRuntime) -> Result<(), Fail> {
     Ok(())
 }
 
-// Counts what it is told.
+// Counts the calls that it hears.
 #[derive(Drop)]
 struct Counts {
     before: AtomicU64,
@@ -62,7 +62,7 @@ impl Gate for Counts {
     }
 }
 
-// A check tells its own gate, once of each condition.
+// A check calls its own gate, once for each condition.
 #[test]
 fn a_check_tells_its_gate(rt: HostRuntime) -> Result<(), Fail> {
     let gate = Counts {

@@ -33,7 +33,7 @@ impl<'a> Env for WordList<'a> {
     }
 }
 
-// The words after the name, each with `|` behind it, or what is wrong with them.
+// The words after the name, each with `|` behind it, or their fault.
 fn told<'a>(alloc: Global, words: &'a [&'a [u8]]) -> Result<String, AllocError> {
     let given = match given_words(&(WordList { words }, alloc)) {
         Ok(given) => given,
@@ -48,7 +48,7 @@ fn told<'a>(alloc: Global, words: &'a [&'a [u8]]) -> Result<String, AllocError> 
     Ok(text)
 }
 
-// Words, and what is told of them.
+// Words, and the message about them.
 const WORDS: &[(&[&[u8]], &str)] = &[
     (&[], ""),
     (&[b"og"], ""),

@@ -102,8 +102,8 @@ fn certificates(rt: HostRuntime) -> Result<(), Fail> {
     Ok(())
 }
 
-// For each version and limit how many bytes version 2 is told to have, where the text would be longer:
-// of the two above the first has 78 bytes, and the second 69.
+// For each version and limit how many bytes version 2 is said to have, where the text would be
+// longer: of the two above the first has 78 bytes, and the second 69.
 const LIMITS: [(u32, usize, Option<Option<usize>>); 7] = [
     (1, 78, None),
     (1, 77, Some(Some(69))),
@@ -114,7 +114,8 @@ const LIMITS: [(u32, usize, Option<Option<usize>>); 7] = [
     (2, 68, Some(None)),
 ];
 
-// Certificates whose text would be too long are not given, and it is told how long version 2 is.
+// Certificates whose text would be too long are not printed, and the message says how long version
+// 2 is.
 #[test]
 fn certificates_of_many_bytes(rt: HostRuntime) -> Result<(), Fail> {
     for (number, limit, expected) in &LIMITS {

@@ -8,7 +8,7 @@ pub const TWO_ADD_CERTS: &str =
 pub const ONE_SKIP_CERTS: &str =
     "og-cert 1\ncond 1\nclose 1*1\ncond 2\nclose 1*1\ncond 3\nclose 1*1\ncond 4\nclose 1*1\n";
 
-/// The same in version 2.
+/// In version 2.
 pub const ONE_SKIP_CERTS_2: &str =
     "og-cert 2\ncond 1\nclose 1*1\ncond 2\nsame 1\ncond 3\nsame 1\ncond 4\nsame 1\n";
 

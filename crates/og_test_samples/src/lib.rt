@@ -1,4 +1,5 @@
-//! Sources and certificates that several crates of tests use, and outlines of sources. Nothing is promised of them.
+//! Sources and certificates that several crates of tests use, and outlines of sources. Nothing is
+//! promised of them.
 #![tactic(auto)]
 
 mod certs;

@@ -10,7 +10,7 @@ pub const TWO_ADD: &str =
 pub const EQUAL_ADD: &str =
     "var x;\n{x = 0}\ncobegin\n{x = 0 or x = 1}\nawait true then x := x + 1\n{x = 1 or x = 2}\n//\n{x = 0 or x = 1}\nawait true then x := x + 1\n{x = 1 or x = 2}\ncoend\n{x = 2}\n";
 
-/// The same with auxiliaries that tell who has added.
+/// With auxiliaries that record who has added.
 pub const TOLD_ADD: &str =
     "var x; aux a = 0, b = 0;\n{x = 0}\ncobegin\n{x = a + b and a = 0 and b <= 1}\nawait true then begin x := x + 1; a := 1 end\n{x = a + b and a = 1 and b <= 1}\n//\n{x = a + b and b = 0 and a <= 1}\nawait true then begin x := x + 1; b := 1 end\n{x = a + b and b = 1 and a <= 1}\ncoend\n{x = 2}\n";
 
@@ -45,7 +45,7 @@ pub const NESTED: &str =
 pub const WITH_MAIN: &str =
     "var x;\n{true}\nbegin\n{true} x := 0 {x = 0}\nend\ncobegin\n{x = 0} await true then x := x + 1 {x = 1}\ncoend\nbegin\n{x = 1} x := x + 1 {x = 2}\nend\n{x = 2}\n";
 
-/// The text of `head`, so many equal processes and one more with `//` between them, and `tail`.
+/// The text of `head`, this many equal processes and one more with `//` between them, and `tail`.
 ///
 /// # Errors
 ///
@@ -67,8 +67,8 @@ pub fn equal_processes(
     Ok(text)
 }
 
-/// A process of so many assignments `x := 1` and then so many skips, and so many others like it.
-/// Every assertion is `x >= 0`.
+/// A process of this many assignments `x := 1` and then this many skips, and this many others like
+/// it. Every assertion is `x >= 0`.
 ///
 /// # Errors
 ///

@@ -12,7 +12,7 @@ use std::process::Abort;
 use std::sync::Wait;
 use std::test::Fail;
 
-// What a seat does, and what is seen of it then.
+// What a seat does, and how the board looks then.
 #[derive(Clone, Copy)]
 enum Deed {
     // Its process acts: the turn, how often the process has moved, and how long the history was.
@@ -27,7 +27,7 @@ struct Row<'a> {
     values: &'a [i64],
     // Seats, by the numbers of their processes, with their deeds.
     deeds: &'a [(u32, Deed)],
-    // What a board comes to by the same turns.
+    // The state of a board after the same turns.
     history: &'a [u32],
     halted: Option<u32>,
     is_finished: bool,
@@ -134,7 +134,7 @@ const ROWS: &[Row] = &[
         halted: None,
         is_finished: true,
     },
-    // The first overflow is noted, and after it every turn is one. A halt is told to every seat, and
+    // The first overflow is noted, and after it every turn is one. Every seat hears of a halt, and
     // ends a wait.
     Row {
         source: ONE_OVERFLOWS,

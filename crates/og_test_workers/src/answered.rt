@@ -1,4 +1,4 @@
-//! What is printed of runs whose gates say which process goes first.
+//! The printed text of runs whose gates say which process goes first.
 
 use crate::gates::Holds;
 use og_command_run::{Ran, Reply, ran, ran_proved};
@@ -34,7 +34,7 @@ fn expect_answer<R: Abort>(rt: &R, reply: Reply<'_>, text: &str) {
     }
 }
 
-// A run under a gate is told so.
+// A run under a gate calls it so.
 fn expect_run<G: Gate, R: Threads + Wait + Sync + Abort>(
     rt: &R,
     alloc: Global,

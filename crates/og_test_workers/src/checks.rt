@@ -99,8 +99,8 @@ fn a_worker_draws_on(rt: HostRuntime) -> Result<(), Fail> {
 
 const REPORT: &[u8] = b"conditions: 12\nproved: 12\nsafe: yes\nunblocked: yes\n";
 
-// A check by so many workers answers as ever, with one of its conditions held until all others are
-// done.
+// A check by this many workers answers as ever, with one of its conditions held until all others
+// are done.
 fn expect_report<R: Threads + Wait + Sync + Abort>(
     rt: &R,
     alloc: Global,
@@ -122,8 +122,8 @@ fn expect_report<R: Threads + Wait + Sync + Abort>(
     Ok(())
 }
 
-// Each condition is held in turn, so each worker at each place where it may stand, and the others do
-// all that is left.
+// Each condition is held in turn, so each worker at each place where it may stand, and the others
+// do all that is left.
 #[test]
 fn each_condition_is_held(rt: HostRuntime) -> Result<(), Fail> {
     for held in 1..13 {

@@ -1,4 +1,4 @@
-//! What is expected of the conditions of a source.
+//! The expected conditions of a source.
 
 ghost use Rattle.std.specs.Prelude.{◌≤◌, length};
 
@@ -25,7 +25,7 @@ pub(crate) enum Claim<'a> {
     GreaterBudget,
     // Conditions 3 and 4 have facts that differ only in a sign, and certificates of their own.
     OtherSign,
-    // A gate is told once of each.
+    // A gate hears once of each.
     EachOnce,
     // Two workers check them at once, and the one that is not held draws on.
     NoHold,

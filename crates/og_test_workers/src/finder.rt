@@ -1,4 +1,4 @@
-//! What the finder tells of conditions, alone and by several workers.
+//! The verdicts of the finder on conditions, alone and by several workers.
 
 ghost use Rattle.std.specs.Prelude.{◌<◌, ◌≤◌, length};
 
@@ -43,8 +43,8 @@ fn letter(verdict: &Verdict) -> u8 {
     }
 }
 
-// Adds the certificate that is found of the condition. Its letter, or `x` where `find` and `examine`
-// tell different things.
+// Adds the certificate that is found of the condition. Its letter, or `x` where `find` and
+// `examine` tell different things.
 fn letter_alone(
     alloc: Global,
     file: &mut CertFile,
@@ -76,7 +76,7 @@ fn found_alone(alloc: Global, list: &[Condition], budget: u64) -> Result<(Vec<u8
     Ok((letters, text?))
 }
 
-// The letters that so many workers come to.
+// The letters that this many workers find.
 fn letters_of<R: Threads + Wait + Sync + Abort>(
     rt: &R,
     alloc: Global,
@@ -101,7 +101,7 @@ fn letters_of<R: Threads + Wait + Sync + Abort>(
     Ok(letters)
 }
 
-// The text of what so many workers find, and how many conditions have no certificate.
+// The text of the certificates that this many workers find, and how many conditions have none.
 fn found_by<R: Threads + Wait + Sync>(
     rt: &R,
     alloc: Global,
@@ -119,7 +119,7 @@ fn found_by<R: Threads + Wait + Sync>(
     Ok((text?, missing as usize))
 }
 
-// The same of what is written straight from what is found.
+// As it is written straight from the findings.
 fn written_by<R: Threads + Wait + Sync + Abort>(
     rt: &R,
     alloc: Global,
@@ -168,8 +168,8 @@ fn expect_of_workers<R: Threads + Wait + Sync + Abort>(
     Ok(())
 }
 
-// Searches of each condition alone come to the verdicts, and two workers find these certificates and
-// no others. Their text.
+// Searches of each condition alone come to the verdicts, and two workers find these certificates
+// and no others. Their text.
 pub(crate) fn expect_found<R: Threads + Wait + Sync + Abort>(
     rt: &R,
     alloc: Global,
@@ -190,7 +190,7 @@ pub(crate) fn expect_found<R: Threads + Wait + Sync + Abort>(
     Ok(text)
 }
 
-// Each number of workers comes to the same.
+// Each number of workers has the same result.
 pub(crate) fn expect_by_all<R: Threads + Wait + Sync + Abort>(
     rt: &R,
     alloc: Global,

@@ -1,11 +1,11 @@
-//! Gates that hold a worker or a process, and gates that count what they are told.
+//! Gates that hold a worker or a process, and gates that count their calls.
 
 use og_pool::Gate;
 use std::alloc::{AllocError, Global};
 use std::sync::atomic::{AtomicU64, Ordering};
 use std::thread;
 
-// Holds one condition or process until another one, or any, was done so many times, for at most
+// Holds one condition or process until another one, or any, was done this many times, for at most
 // 1,000,000 turns.
 #[derive(Drop)]
 pub(crate) struct Holds {
@@ -53,14 +53,14 @@ impl Gate for Holds {
     }
 }
 
-// How often a gate was told of one condition or process.
+// How often a gate was called for one condition or process.
 #[derive(Drop)]
 struct Told {
     before: AtomicU64,
     after: AtomicU64,
 }
 
-// Counts how often it is told of each of so many numbers, from 0, and of others.
+// Counts how often it is called for each of this many numbers, from 0, and for others.
 #[derive(Drop)]
 pub(crate) struct Counts {
     told: Vec<Told>,
@@ -82,7 +82,7 @@ impl Counts {
         })
     }
 
-    // How often it was told before and after.
+    // How often it was called before and after.
     pub(crate) fn of(&self, number: usize) -> (u64, u64) {
         match self.told.get(number) {
             Some(told) => (

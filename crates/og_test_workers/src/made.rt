@@ -46,7 +46,7 @@ pub(crate) fn deep(alloc: Global) -> Result<String, AllocError> {
     .concat(alloc)
 }
 
-// Adds a number from 1 to a value that differs from those before it: its name, and what is said of
+// Adds a number from 1 to a value that differs from those before it: its name, and its bounds
 // it.
 fn put_number(
     alloc: Global,
@@ -83,8 +83,8 @@ pub(crate) fn different(
     [names.as_str(), begin, facts.as_str(), end].concat(alloc)
 }
 
-// Adds an entry of a queue: its names, and what is said of it. Either it is through, or it waits with a number
-// above the counter and below the end that differs from those of the entries before it.
+// Adds an entry of a queue: its names, and its facts. Either it is through, or it waits with a
+// number above the counter and below the end that differs from those of the entries before it.
 fn put_entry(
     alloc: Global,
     names: &mut String,
@@ -103,7 +103,7 @@ fn put_entry(
     Ok(())
 }
 
-// The sum of so many flags.
+// The sum of this many flags.
 fn sum_of_flags(alloc: Global, entries: usize) -> Result<String, AllocError> {
     let mut sum = String::new(alloc);
     for n in 0..entries {
@@ -112,7 +112,7 @@ fn sum_of_flags(alloc: Global, entries: usize) -> Result<String, AllocError> {
     Ok(sum)
 }
 
-// A queue of so many entries, not all through, whose numbers are below the end, and then false.
+// A queue of this many entries, not all through, whose numbers are below the end, and then false.
 pub(crate) fn queue(alloc: Global, entries: usize, end: usize) -> Result<String, AllocError> {
     let mut names = String::new(alloc);
     let mut facts = String::new(alloc);

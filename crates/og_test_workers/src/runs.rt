@@ -12,7 +12,7 @@ use std::sync::Wait;
 use std::test::Fail;
 use std::thread::Threads;
 
-// A run of a source, from these values, of at most so many steps.
+// A run of a source, from these values, of at most this many steps.
 #[derive(Clone, Copy)]
 struct Row<'a> {
     source: &'a str,
@@ -144,7 +144,7 @@ fn runs_are_refused(rt: HostRuntime) -> Result<(), Fail> {
     expect_refused(&rt, rt.alloc(), &[1], RunFault::NotPre)
 }
 
-// The run of so many equal processes ended after so many moves of each.
+// The run of this many equal processes ended after this many moves of each.
 fn expect_moves<R: Abort>(rt: &R, outcome: &Outcome, processes: usize, moves: usize) {
     assert!(rt; outcome.finish == Finish::Finished);
     assert!(rt; outcome.history.len() == processes.saturating_mul(moves));
@@ -177,7 +177,7 @@ fn threads_really_move(rt: HostRuntime) -> Result<(), Fail> {
     Ok(())
 }
 
-// A gate is told of the main process as 0, of each move once, and of at least one act more of each.
+// A gate hears of the main process as 0, of each move once, and of at least one act more of each.
 #[test]
 fn gates_are_told_of_each_move(rt: HostRuntime) -> Result<(), Fail> {
     let row = Row {

@@ -18,7 +18,7 @@ pub(crate) const ONE_OVERFLOWS: &str =
 pub(crate) const NOT_EVEN: &str =
     "var x, y;\n{2*x = 2*y + 1}\ncobegin\n{false} skip {false}\ncoend\n{false}\n";
 
-// What is even is not odd, with numbers that are as large as a search uses them.
+// A parity argument, with numbers that are as large as a search uses them.
 pub(crate) const LARGE: &str =
     "var x, y;\n{2147483646*x = 2147483646*y + 1073741823}\ncobegin\n{true}\nawait true then begin x := 2147483648*x; y := 2147483646*y end\n{2147483648*x <> 2147483646*y + 1}\n//\n{false} skip {false}\ncoend\n{true}\n";
 

@@ -9,7 +9,7 @@ use Rattle.og_text.specs.Cut.{Piece, White, Comment, Lexeme, bytes_of, BeginsWit
 use Rattle.og_text.specs.Refused.{length_of}
 use Rattle.og_text.specs.Fronts.{IsGap, IsFront}
 
--- the tokens of the cut so far, which comes to a place over small pieces
+-- the tokens of the cut so far, which gets to a place over small pieces
 pub record SoFar (text : List ℕ) (at : ℕ) (tokens : List Token) : Type 0 where
   pub short : length text ≤ 2 ^ 20
   pub inside : at ≤ length text

@@ -14,7 +14,7 @@ abbrev pub length_of : List Piece → ℕ
 length_of [] = 0
 length_of (piece ∷ pieces) = length (bytes_of piece) + length_of pieces
 
--- the cut of a text within its limit comes to this place over small pieces, and leaves the rest
+-- the cut of a text within its limit gets to this place over small pieces, and leaves the rest
 pub record ComesTo (text : List ℕ) (at : ℕ) (rest : List ℕ) : Type 0 where
   pub short : length text ≤ 2 ^ 20
   pub pieces : List Piece
@@ -22,7 +22,7 @@ pub record ComesTo (text : List ℕ) (at : ℕ) (rest : List ℕ) : Type 0 where
   pub small : AreSmall pieces
   pub place : at ≡ length_of pieces
 
--- the cut comes to this place over small pieces, and this piece is next
+-- the cut gets to this place over small pieces, and this piece is next
 pub record StandsAt (text : List ℕ) (at : ℕ) (piece : Piece) : Type 0 where
   pub rest : List ℕ
   pub comes : ComesTo text at rest

@@ -7,7 +7,7 @@ ghost use Rattle.og_text.specs.Faults.{number_of_fault, name_of_fault, place_of_
 use std::alloc::{AllocError, AllocFailed};
 use thiserror::Error;
 
-/// What is wrong with a text, and at which byte offset, counted from 0.
+/// The fault of a text, and the byte offset at which, counted from 0.
 #[derive(Clone, Copy, Debug, Drop, PartialEq, Eq, Error)]
 pub enum LexFault {
     /// No lexeme, white space or comment begins here.

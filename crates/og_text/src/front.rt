@@ -17,9 +17,9 @@ use std::alloc::{AllocError, Global};
 /// What stands at the front of a text.
 #[derive(Drop)]
 pub enum Front {
-    /// White space or a comment of so many bytes.
+    /// White space or a comment of this many bytes.
     Gap(usize),
-    /// A lexeme of so many bytes.
+    /// A lexeme of this many bytes.
     Lexeme(TokenKind, usize),
     /// No piece.
     BadByte,

@@ -8,8 +8,8 @@ ghost use Rattle.og_text.specs.Lexed.{LiesWithin};
 ghost use Rattle.og_text.specs.Refused.{IsFaultOf};
 ghost use Rattle.og_text.specs.Faults.{place_of_fault};
 
-/// A text has one cut into longest pieces. So it has one list of tokens at most and one fault at most, and never
-/// both: what `lex` answers with memory enough is fixed by the text.
+/// A text has one cut into longest pieces. So it has one list of tokens at most and one fault at
+/// most, and never both: what `lex` answers with memory enough is fixed by the text.
 pub fn one_cut()
     ensures pieces { (text : List ℕ) (a b : List Piece) → IsCut text a [] → IsCut text b [] → a ≡ b }
     ensures tokens { (text : List ℕ) (a b : List Token) → AreTokensOf text a → AreTokensOf text b → a ≡ b }

@@ -11,11 +11,12 @@ use crate::place::Span;
 use crate::token::Token;
 use std::alloc::Global;
 
-/// The tokens of a text, in order: its one cut into white space, comments and lexemes, each the longest at its place,
-/// gives them.
+/// The tokens of a text, in order: its one cut into white space, comments and lexemes, each the
+/// longest at its place, gives them.
 ///
-/// White space is space, tab, CR and LF. A comment runs from `#` up to the next LF or the end of the text, and may hold
-/// any bytes. A word is an ASCII letter or `_`, and then letters, digits and `_`; a number is a row of digits.
+/// White space is space, tab, CR and LF. A comment runs from `#` up to the next LF or the end of
+/// the text, and may hold any bytes. A word is an ASCII letter or `_`, and then letters, digits and
+/// `_`; a number is a row of digits.
 ///
 /// # Errors
 ///

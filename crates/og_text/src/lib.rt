@@ -1,6 +1,6 @@
 //! The lexemes of a source text, and where they stand.
 //!
-//! [`lex`] cuts a text into tokens, or says what is wrong with it and at which byte. [`line_col`] and
+//! [`lex`] cuts a text into tokens, or returns its fault and the byte of it. [`line_col`] and
 //! [`LineIndex`] turn a byte offset into a line and a column for a reader.
 #![tactic(auto)]
 

@@ -7,8 +7,8 @@ ghost use Rattle.og_text.specs.Place.{line_at, column_at};
 use std::alloc::{AllocError, Global};
 use std::marker::Model;
 
-/// A text with the offsets at which its lines start, by which many offsets of it are placed fast. Contracts see it as
-/// the text.
+/// A text with the offsets at which its lines start, by which many offsets of it are placed fast.
+/// Contracts see it as the text.
 #[derive(Debug, Drop)]
 pub struct LineIndex<'a> {
     text: &'a [u8],
@@ -46,8 +46,8 @@ impl<'a> LineIndex<'a> {
         Ok(LineIndex { text, starts })
     }
 
-    /// The line and the column of the byte offset `at`: what the function `line_col` gives, by a binary search among
-    /// the lines. It takes no memory.
+    /// The line and the column of the byte offset `at`: what the function `line_col` gives, by a
+    /// binary search among the lines. It takes no memory.
     pub fn line_col(&self, at: u32) -> (u32, u32)
         requires { at ≤ length self.now }
         ensures line { result.0 ≡ line_at self.now at }

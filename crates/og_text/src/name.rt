@@ -6,8 +6,8 @@ use smallvec::SmallVec;
 use std::alloc::{AllocError, Global};
 use std::marker::Model;
 
-/// A name. Contracts see it as the list of its bytes, so names with the same bytes are equal to them.
-/// A short one, as most are, is kept in the value itself.
+/// A name. Contracts see it as the list of its bytes, so names with the same bytes are equal to
+/// them. A short one, as most are, is kept in the value itself.
 #[derive(Debug, Drop)]
 pub struct Name {
     bytes: SmallVec<u8, 16>,
@@ -29,7 +29,8 @@ impl Name {
         }
     }
 
-    /// The name with a copy of these bytes, of which no check is made. Up to 16 bytes take no memory.
+    /// The name with a copy of these bytes, of which no check is made. Up to 16 bytes take no
+    /// memory.
     pub fn from_slice(alloc: Global, bytes: &[u8]) -> Result<Name, AllocError>
         ensures copied { IfOk result (λ name. name ≡ bytes.now) }
         ensures memory { OnErr result (16 < length bytes.now) }

@@ -12,9 +12,10 @@ pub struct Span {
     pub end: u32,
 }
 
-/// The line and the column of the byte offset `at` in a text of at most 1,048,576 bytes. Lines count from 1, and
-/// each ends with its LF. Columns count bytes from 1. The offset may be that of the end of the text. It takes no
-/// memory, and time linear in `at`: to place many offsets of one text, make a `LineIndex`.
+/// The line and the column of the byte offset `at` in a text of at most 1,048,576 bytes. Lines
+/// count from 1, and each ends with its LF. Columns count bytes from 1. The offset may be that of
+/// the end of the text. It takes no memory, and time linear in `at`: to place many offsets of one
+/// text, make a `LineIndex`.
 pub fn line_col(text: &[u8], at: u32) -> (u32, u32)
     requires inside { at ≤ length text.now }
     requires small { length text.now ≤ 2 ^ 20 }

@@ -42,7 +42,7 @@ module _ (o : Program) (valid : IsSafe o) (rule : IsOutline o) where
       let more = run_long r.1 (start_of o r.0) m r.3 in
       omega (arith, start, count, more)
 
-  -- what is known of the statement that comes next
+  -- the facts known of the statement that comes next
   prologue_fit : (m : Moment) → IsReached o m → phase m ≡ Before → IsFit o.vars m.state m.prologue
   prologue_fit m r e =
       let inv = invariant m r in
@@ -82,7 +82,7 @@ module _ (o : Program) (valid : IsSafe o) (rule : IsOutline o) where
 
   -- one part of a moment: its rest, how another rest is put in its place, and when it is its turn
   record IsPart (get : Moment → Rest) (put : Moment → List ℤ × Rest → Moment) (Live : Moment → Type 0) : Type 0 where
-    -- what is left of it steps next
+    -- the rest of it steps next
     steps : (m : Moment) → IsReached o m → Live m → is_empty (get m) ≡ false → (p : ℕ) × (next m p ≡ option_map (put m) (advance_rest m.state (get m))) × IsFit o.vars m.state (get m)
     -- the rest that is put is read, and it is still its turn
     puts : (m : Moment) (after : List ℤ × Rest) → Live m → is_empty (get m) ≡ false → (get (put m after) ≡ after.1) × Live (put m after)
@@ -318,7 +318,7 @@ module _ (o : Program) (valid : IsSafe o) (rule : IsOutline o) where
       let there = settle at.0 at.1 in
       (there.0, there.1.0, there.1.1 ∙ at.2, there.1.2)
 
-  -- ---- what is active in both
+  -- ---- the part active in both
 
   main_same : (p : ℕ) → is_main (erased o) p ≡ is_main o p
   main_same p = λ i. (some_erased o.vars o.prologue i || some_erased o.vars o.epilogue i) && p == length-map o.processes (erase_seq o.vars) i

@@ -50,7 +50,7 @@ against_kept n p others q v k =
     (actions p)
     (each_flat IsValid (λ action. flat_map (pair_condition n action) (flat_map notes others)) (actions p) v)
 
--- ---- what is known of each process
+-- ---- the facts known of each process
 
 abbrev pub texts : Sequence → List Formula
 texts p = map (λ note. note.assertion) (notes p)

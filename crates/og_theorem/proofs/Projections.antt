@@ -65,7 +65,7 @@ aux_step n s before (If b branch other) rest e over long = absurd (both_ways fal
 aux_step n s before (While b body) rest e over long = absurd (both_ways false refl e)
 aux_step n s before (Await b body) rest e over long = absurd (both_ways false refl e)
 
--- what is left of a rest that a statement that stays leads
+-- the rest after a statement that stays at the front of its sequence
 pub empty_erased : (n : ℕ) (rest : Rest) → is_led n rest ≡ false → is_empty (erase_rest n rest) ≡ is_empty rest
 empty_erased n [] f = refl
 empty_erased n (head ∷ rest) f = ap is_empty (erase_head n head rest f)

@@ -80,7 +80,7 @@ IsFine s rest last = (truth (head_or rest last) s ≡ true) × (rest_overflows s
 ready_fine : (IsN : Formula → Statement → Type 0) (IsA : Action → Type 0) (s : List ℤ) (rest : Rest) (last : Formula) → IsProper s → IsReady IsN IsA s rest last → IsFine s rest last
 ready_fine IsN IsA s rest last proper ready = (ready.1, ready_fits IsN IsA s rest last proper ready)
 
--- what is active in a phase, by its rest
+-- the active part in a phase, by its rest
 pub active_cases : (o : Program) (m : Moment) (p : ℕ) (f : Phase) → active_in f o p ≡ true → ((f ≡ Before) × (is_main o p ≡ true)) ⊎ (((f ≡ During) × (is_process o p ≡ true)) ⊎ (((f ≡ After) × (is_main o p ≡ true)) ⊎ ((f ≡ After) × (is_process o p ≡ true) × (is_some o.epilogue ≡ false))))
 active_cases o m p Before h = inl (refl, h)
 active_cases o m p During h = inr (inl (refl, h))

@@ -1,11 +1,11 @@
--- What is promised of every run of an outline, and which conditions it rests on.
+-- The promise of every run of an outline, and the conditions on which it rests.
 use Rattle.std.specs.Prelude.{◌≡◌, ℕ, true, false}
 use Rattle.og_typed.specs.Syntax.{Program}
 use Rattle.og_typed.specs.Truth.{truth}
 use Rattle.og_typed.specs.Machine.{Moment, IsReached, active, current, overflows, is_finished}
 use Rattle.og_typed.specs.Erase.{erased, project}
 
--- ---- what is promised
+-- ---- the promise
 
 -- at every moment that some run of the outline reaches
 pub record IsSound (o : Program) : Type 0 where

@@ -1,4 +1,4 @@
--- A step of a statement that stays is a step of what is left of it.
+-- A step of a statement that stays is a step of its rest.
 use Rattle.std.proofs.Common.{◌≡◌, ℕ, ◌≤◌, ℤ, pos, List, [], ◌∷◌, ◌++◌, filter, take, length, Bool, true, false, not, ◌&&◌, cond, if◌then◌else◌, nat_lt, nat_le, Some, None, option_map, refl, sym, ap, ◌∙◌, get_or-take, ⊎_elim, arith}
 use Rattle.std.specs.List.{AllByRecursion}
 use Rattle.std.proofs.lemmas.Bool.{cases_lt, both_ways, and_parts, and_from, ltb-true, ltb-false, leb-false, lt-ltb, not-false, not_from_true}
@@ -79,7 +79,7 @@ module _ (n : ℕ) where
   erase_else_items Nothing = refl
   erase_else_items (Else branch) = erase_items branch
 
-  -- what is left of a state and a rest
+  -- the rest of a state and a rest
   abbrev pub left : List ℤ × Rest → List ℤ × Rest
   left after = (take n after.0, erase_rest n after.1)
 

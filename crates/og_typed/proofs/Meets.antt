@@ -1,4 +1,4 @@
--- What is resolved meets the rule for auxiliaries and the limits.
+-- A resolved tree meets the rule for auxiliaries and the limits.
 use Rattle.std.proofs.Common.{◌≡◌, ℕ, ◌+◌, ◌^◌, ◌<◌, ◌≤◌, ℤ, List, [], ◌∷◌, ◌++◌, length, Bool, true, false, cond, Option, Some, None, IfSome, FitsSigned, refl, subst, arith, length-append}
 use mir.Syntax.{w64}
 use Rattle.std.specs.Prelude.{nat_lt, nat_le, Ok, Err, pos, negsuc}

@@ -10,7 +10,7 @@ use Rattle.og_typed.specs.declared.points.Point.{Point}
 use Rattle.og_typed.specs.Points.{rest_at, past, passed, statement_rests, sequence_rests, else_rests, parts_rests}
 use Rattle.og_typed.specs.Table.{rests_from, rests_of, IsLinked, AreLinked, IsGrown}
 
--- what is left at a point more
+-- the rest at a point more
 abbrev pub rest_of_point : List Rest → Point → Rest
 rest_of_point rests p = item_pair p.item.now ∷ rest_at rests p.after
 
@@ -310,7 +310,7 @@ grown_places a b (at ∷ places) g h =
     let long = grown_long a b g in
     (omega (arith, here, long), grown_places a b places g h.1)
 
--- ---- what is left at the points of statements
+-- ---- the rests at the points of statements
 
 -- of statements one after another, the last one first
 abbrev pub list_rests : Rest → Rest → List Rest

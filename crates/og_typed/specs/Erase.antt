@@ -50,7 +50,7 @@ abbrev pub erase_rest : ℕ → Rest → Rest
 erase_rest n [] = []
 erase_rest n (head ∷ rest) = if is_aux_assign n head.1 then erase_rest n rest else (True, erase_stmt n head.1) ∷ erase_rest n rest
 
--- the moment of the erased program: the vars alone, and the rests without what is erased
+-- the moment of the erased program: the vars alone, and the rests without the erased statements
 abbrev pub project : ℕ → Moment → Moment
 project n m =
     record { state = take n m.state; prologue = erase_rest n m.prologue; rests = map (erase_rest n) m.rests; epilogue = erase_rest n m.epilogue }

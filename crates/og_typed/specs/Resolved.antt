@@ -30,7 +30,7 @@ abbrev pub ◌>>=◌ : {A B : Type 0} → Checked A → (A → Checked B) → Ch
 (Ok x) >>= next = next x
 (Err fault) >>= next = Err fault
 
--- each in turn, where so many stand before; the fault of the one that is beyond the limit
+-- each in turn, where this many stand before; the fault of the one that is beyond the limit
 abbrev pub counted : {X Y : Type 0} → ℕ → (X → TypeFault) → (X → Checked Y) → ℕ → List X → Checked (List Y)
 counted limit fault each before [] = Ok []
 counted limit fault each before (x ∷ xs) =

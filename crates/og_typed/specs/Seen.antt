@@ -28,7 +28,7 @@ statement_of site = record {
 abbrev pub IsOneOf : {S : Type 0} → List S → S → Type 0
 IsOneOf sites site = (i : ℕ) × (slice_get sites i ≡ Some site)
 
--- ---- what is added at the end of both lists
+-- ---- the addition at the end of both lists
 
 abbrev pub Gains : Sites → Sites → List plain.NoteSite → List plain.StatementSite → Type 0
 Gains old new notes statements =

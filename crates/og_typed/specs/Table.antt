@@ -1,11 +1,11 @@
--- Tables of points, and what is left to do at each.
+-- Tables of points, and the rest at each.
 use Rattle.std.specs.Prelude.{◌≡◌, ℕ, ◌+◌, ◌<◌, ◌≤◌, List, [], ◌∷◌, ◌++◌, true, false, length, Some, slice_get}
 use Rattle.og_typed.specs.Syntax.{Rest}
 use Rattle.og_typed.specs.Plain.{item_pair}
 use Rattle.og_typed.specs.declared.points.Point.{Point}
 use Rattle.og_typed.specs.Points.{rest_at, passed}
 
--- each point has its item, and then what is left at a point before it
+-- each point has its item, and then the rest at a point before it
 abbrev pub rests_from : List Rest → List Point → List Rest
 rests_from rests [] = rests
 rests_from rests (p ∷ ps) = rests_from (rests ++ (item_pair p.item.now ∷ rest_at rests p.after) ∷ []) ps
@@ -14,7 +14,7 @@ rests_from rests (p ∷ ps) = rests_from (rests ++ (item_pair p.item.now ∷ res
 abbrev pub rests_of : List Point → List Rest
 rests_of = rests_from ([] ∷ [])
 
--- point k leads to points of the table, where what is left is as after its statement
+-- point k leads to points of the table, where the rest is as after its statement
 pub record IsLinked (rests : List Rest) (k : ℕ) (p : Point) : Type 0 where
   pub after_known : p.after < length rests
   pub inside_known : p.inside < length rests

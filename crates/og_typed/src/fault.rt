@@ -7,7 +7,7 @@ ghost use Rattle.og_typed.specs.Faults.{number_of_fault, name_of_fault, place_of
 use std::alloc::{AllocError, AllocFailed};
 use thiserror::Error;
 
-/// What is wrong with a tree, and at which byte offset of the source, counted from 0.
+/// The fault of a tree, and the byte offset in the source, counted from 0.
 #[derive(Clone, Copy, Debug, PartialEq, Eq, Error)]
 pub enum TypeFault {
     /// The name that is used here is not declared.

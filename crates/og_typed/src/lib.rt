@@ -1,9 +1,10 @@
 //! Outlines: annotated parallel programs whose names are resolved.
 //!
-//! [`Source`] is the bytes of a source with the outline that they stand for. [`Index`] is made of an
-//! outline once, and then finds the assertion or statement at a byte offset; specs/Sites.antt says
-//! which ones an outline has. [`Points`] are the places where a process may stand, by number, and where
-//! each statement leads: a moment of a run is the values of the variables and a number for each process.
+//! [`Source`] is the bytes of a source with the outline that they stand for. [`Index`] is made of
+//! an outline once, and then finds the assertion or statement at a byte offset; specs/Sites.antt
+//! says which ones an outline has. [`Points`] are the places where a process may stand, by number,
+//! and where each statement leads: a moment of a run is the values of the variables and a number
+//! for each process.
 #![tactic(auto)]
 
 mod assertion;

@@ -12,8 +12,8 @@ use crate::{Item, Outline, Seq, Stmt};
 use std::alloc::{AllocError, Global};
 use std::marker::Model;
 
-/// A point before a statement, and those that come after it, by number: where the statement is left,
-/// where it leads with a true test, and where with a false one. Point 0 is the end.
+/// A point before a statement, and those that come after it, by number: where the statement is
+/// left, where it leads with a true test, and where with a false one. Point 0 is the end.
 #[derive(Clone, Copy, Debug, Drop)]
 pub(crate) struct Point<'a> {
     item: &'a Item,
@@ -25,7 +25,7 @@ pub(crate) struct Point<'a> {
 // The number of the end, where nothing is left.
 const END: u32 = 0;
 
-/// The points of an outline, by number; 0 is the end. Contracts see what is left to do at each.
+/// The points of an outline, by number; 0 is the end. Contracts see the rest at each.
 #[derive(Debug, Drop)]
 pub struct Points<'a> {
     points: Vec<Point<'a>>,

@@ -47,7 +47,7 @@ impl<'a> Source<'a> {
     ///
     /// # Errors
     ///
-    /// `Fault`, what is wrong with them: the first that applies. `Memory` where an allocation was
+    /// `Fault`, the first fault of them that applies. `Memory` where an allocation was
     /// refused.
     pub fn read(alloc: Global, bytes: &'a [u8]) -> Result<Source<'a>, SourceError>
         ensures same { IfOk result (λ s. s.bytes ≡ bytes.now) }
@@ -75,7 +75,7 @@ impl<'a> Source<'a> {
         &self.outline
     }
 
-    /// Its outline, for good.
+    /// Takes the outline out.
     pub fn into_outline(self) -> Outline
         ensures same { result ≡ self.entry.outline }
         ensures source { IsSource self.entry.bytes result }

@@ -9,7 +9,7 @@ use og_parse::{ParseError, ParseFault};
 use og_text::{LexError, LexFault};
 use thiserror::Error;
 
-/// What is wrong with a source: the first of these that applies, in this order.
+/// The fault of a source: the first of these that applies, in this order.
 #[derive(Clone, Copy, Debug, PartialEq, Eq, Error)]
 pub enum SourceFault {
     /// It is not cut into tokens.

@@ -1,4 +1,4 @@
--- What is told of a moment, and along a history.
+-- The report of a moment, and along a history.
 use Rattle.std.proofs.Common.{◌≡◌, ℕ, zero, suc, ◌+◌, ◌<◌, ◌≤◌, ℤ, List, [], ◌∷◌, ◌++◌, length, take, get_or, Bool, true, false, not, ◌&&◌, ◌||◌, ◌==◌, nat_lt, if◌then◌else◌, Option, Some, None, IfSome, is_some, option_map, refl, sym, ap, ◌∙◌, subst, ⊎_elim, inl, inr, arith, add-one}
 use Rattle.std.specs.Prelude.{IfNone, ◌⊎◌}
 use Rattle.std.proofs.lemmas.Bool.{and_parts, and_from, both_ways, cases_lt, eqb-true, eq-eqb, lt-ltb, ltb-true, or_right}
@@ -143,7 +143,7 @@ take_all (x ∷ h) zero le = absurd (omega (arith, le))
 take_all (x ∷ h) (suc k) le = ap (λ l. x ∷ l) (take_all h k (omega (arith, le)))
 
 module _ (o : Program) (values : List ℤ) (history : List ℕ) where
-  -- what is wrong after a run is wrong at its moment
+  -- the violation after a run is one at its moment
   pub at_last : (at : Progress) (wrong : Wrong) → IsAfterRun o values history at → IsWrong o values history wrong → IsWrongAt o at.moment wrong
   at_last at wrong after is = subst (λ m. IsWrongAt o m wrong) (same_Some is.last at.moment (sym is.leads ∙ after.2)) is.there
 
@@ -200,7 +200,7 @@ module _ (o : Program) (values : List ℤ) (history : List ℕ) where
       (cases_lt k j))
       (cases_lt j k)
 
-  -- what is told where the run ends after k steps
+  -- the report where the run ends after k steps
   abbrev pub IsEnd : Option (ℕ × Wrong) → Type 0
   IsEnd found = IfSome found (IsFirstWrong o values history) × IfNone found (IsTrueAlong o values history)
 

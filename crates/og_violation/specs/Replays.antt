@@ -38,9 +38,9 @@ IsFirstFalse o m p = (p < length o.processes) × (truth (current o m p) m.state 
 abbrev pub of_main : Program → Moment → Option Wrong
 of_main o m = if truth (current o m (length o.processes)) m.state then None else Some (Assertion (length o.processes))
 
--- ---- what is told of a moment
+-- ---- the report of a moment
 
--- nothing that is told before this is wrong too
+-- nothing that is reported before this is violated too
 abbrev pub IsLeastAt : Program → Moment → Wrong → Type 0
 IsLeastAt o m (Assertion p) = (q : ℕ) → q < p → IsWrongAt o m (Assertion q) → ⊥
 IsLeastAt o m (Overflow p) = ⊥
@@ -56,7 +56,7 @@ IsToldAt o m (Some wrong) = IsWrongAt o m wrong × IsLeastAt o m wrong
 abbrev pub IsToldIfMoves : Program → Moment → ℕ → Option Wrong → Type 0
 IsToldIfMoves o m p found = (k : Moment) → next m p ≡ Some k → IsToldAt o m found
 
--- it is wrong after so many steps of the history, and none of what is told is after fewer
+-- it is violated after this many steps of the history, and nothing reported is after fewer
 abbrev pub IsFirstWrong : Program → List ℤ → List ℕ → ℕ × Wrong → Type 0
 IsFirstWrong o values history found =
     (found.0 ≤ length history)

@@ -33,7 +33,7 @@ fn of_process(found: Option<u32>) -> Option<Wrong>
     Some(Wrong::Assertion(found?))
 }
 
-// What is false where process p steps next: of the main process, or of the others.
+// The false assertion where process p steps next: of the main process, or of the others.
 fn before_step(outline: &Outline, moment: &Moment, p: u32) -> Option<Wrong>
     requires { IsOf outline.now moment.now }
     ensures { IsToldIfMoves outline.now moment.now.moment p result }
@@ -45,7 +45,7 @@ fn before_step(outline: &Outline, moment: &Moment, p: u32) -> Option<Wrong>
     }
 }
 
-// What is false where all have ended.
+// The false assertion where all have ended.
 fn at_end(outline: &Outline, moment: &Moment) -> Option<Wrong>
     requires of { IsOf outline.now moment.now }
     requires ended { is_finished moment.now.moment ≡ true }
@@ -63,7 +63,7 @@ fn at_end(outline: &Outline, moment: &Moment) -> Option<Wrong>
     }
 }
 
-// What is false, whoever steps next.
+// The false assertion, whoever steps next.
 fn at_last(outline: &Outline, moment: &Moment) -> Option<Wrong>
     requires { IsOf outline.now moment.now }
     ensures { IsToldAt outline.now moment.now.moment result }
@@ -103,7 +103,7 @@ fn first_wrong(
     Ok(with_steps(history.len(), at_last(outline, &moment)))
 }
 
-// With so many steps.
+// With this many steps.
 fn with_steps(steps: usize, found: Option<Wrong>) -> Option<(usize, Wrong)>
     ensures { result ≡ option_map (λ wrong. (steps, wrong)) found }
 {

@@ -1,7 +1,7 @@
-//! What is wrong at a moment of an outline, with a run that leads there: found again by replay.
+//! The violation at a moment of an outline, with a run that leads there: found again by replay.
 //!
-//! specs/Violations.antt says what is wrong at a moment, and what a violation is; specs/Along.antt
-//! which one comes first along a history.
+//! specs/Violations.antt says which violation a moment has, and which runs show it;
+//! specs/Along.antt which one comes first along a history.
 #![tactic(auto)]
 
 mod along;

@@ -1,4 +1,4 @@
-//! What is so at a moment that a run reaches.
+//! Assertions at a moment that a run reaches.
 
 ghost use Rattle.std.specs.Prelude.{◌≡◌, ◌↔◌, ℕ, ◌<◌, length, IsTrue, IfSome, IfNone};
 ghost use Rattle.og_violation.specs.Violations.{IsWrongAt};

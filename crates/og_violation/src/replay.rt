@@ -66,7 +66,7 @@ pub fn moment_after<'a>(
     Ok(Some(moment))
 }
 
-/// The violation with these values, this history and what is wrong, where it is one: the values
+/// The run with these values, this history and this violation, where it is one: the values
 /// are a start, each number of the history is a step, and this is wrong at the end.
 ///
 /// # Errors

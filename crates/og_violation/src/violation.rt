@@ -1,8 +1,8 @@
-//! What is wrong, and the run that leads there.
+//! The violation, and the run that leads there.
 
 use og_linear::State;
 
-/// What is wrong at a moment. Processes have their numbers from 0, in the order of the text; the
+/// The violation at a moment. Processes have their numbers from 0, in the order of the text; the
 /// main process has the number after the last.
 #[derive(Clone, Copy, Debug, Drop, PartialEq, Eq)]
 pub enum Wrong {
@@ -16,7 +16,7 @@ pub enum Wrong {
     Stuck,
 }
 
-/// A run, and what is wrong at its end. The values are those of the variables that are no
+/// A run, and the violation at its end. The values are those of the variables that are no
 /// auxiliaries, at the start.
 #[derive(Debug, Drop)]
 pub struct Violation {
@@ -24,6 +24,6 @@ pub struct Violation {
     pub values: State,
     /// The numbers of the processes that moved, in order.
     pub history: Vec<u32>,
-    /// What is wrong at the end.
+    /// The violation at the end.
     pub wrong: Wrong,
 }

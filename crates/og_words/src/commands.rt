@@ -16,8 +16,8 @@ fn command<'a>(alloc: Global, name: &'a str, about: &'a str) -> Command<'a>
     Command::new(alloc, name).about(about)
 }
 
-// The command with one argument more. Both are taken as they were made, so that no function that adds
-// several has a way out at each.
+// The command with one argument more. Both are taken as they were made, so that no function that
+// adds several has a way out at each.
 fn with_arg<'a>(
     command: Result<Command<'a>, AllocError>,
     arg: Result<Arg<'a>, AllocError>,

@@ -13,7 +13,7 @@ decreases-add_seq l = goal.size-add_seq l
 abbrev pub decreases-add_item : goal.decreases-add_item
 decreases-add_item l = goal.size-add_item l
 
--- what is still to come of both lists completes them
+-- the rest of both lists completes them
 abbrev pub invariant-add_seq-loop-item : goal.invariant-add_seq-loop-item
 invariant-add_seq-loop-item l =
     (notes_of l.walk.notes.items ++ notes_from (drop l.item-index l.item-items) (noted (out-Seq l.seq).last)

@@ -2,7 +2,7 @@ use Rattle.std.proofs.Common.{◌≡◌, ◌-◌, length, take, drop}
 use Rattle.og_search_rows.specs.Bounds.{undone}
 use Rattle.og_search_rows.proofs.bounds.undo.Given as goal
 
--- what is left leads back to where all leads
+-- the rest leads back to where all leads
 abbrev pub invariant-back : goal.invariant-back
 invariant-back l = record {
   left : undone (drop l.from l.trail.items) l.intervals ≡ undone (drop l.from l.fn.trail.items) l.fn.intervals;

@@ -12,7 +12,7 @@ decreases-add_seq l = goal.size-add_seq l
 abbrev pub decreases-add_item : goal.decreases-add_item
 decreases-add_item l = goal.size-add_item l
 
--- what is still to come of both lists completes them
+-- the rest of both lists completes them
 abbrev pub invariant-add_seq-loop-index : goal.invariant-add_seq-loop-index
 invariant-add_seq-loop-index l =
     (map note_of l.sites.notes.items ++ notes_from l.part (leads_of l.leads) (drop l.index (out-Seq l.seq).items.items) (noted (out-Seq l.seq).last)
