@@ -65,7 +65,8 @@ fn high_bound(variables: u32, var: u32) -> Result<Single, FaultKind>
 fn add_term(variables: u32, held: &[Held], sum: &mut Sum, term: Term) -> Result<(), CheckError>
     ensures added { IsChecked (λ _. sum.new) result
         (check.add_term variables (facts_held held.now) sum.old (term.times, ref_of term.source)) }
-    ensures memory { IsErrOf result Memory → IsOk (check.form_at variables (facts_held held.now) (ref_of term.source)) }
+    ensures memory { IsErrOf result Memory
+        → IsOk (check.form_at variables (facts_held held.now) (ref_of term.source)) }
 {
     let added = match term.source {
         Source::Known(number) => sum.add(term.times, atom_at(held, number)?),
@@ -104,7 +105,8 @@ fn is_positive(form: &Form) -> bool
 
 // Whether the sum of these multiples is seen to be a constant above 0.
 fn is_seen_closed(variables: u32, held: &[Held], terms: &[Term]) -> bool
-    ensures { IsTrue result → check.closing variables (facts_held held.now) (combination_of terms.now) ≡ Ok tt }
+    ensures { IsTrue result
+        → check.closing variables (facts_held held.now) (combination_of terms.now) ≡ Ok tt }
 {
     match terms {
         [a, b] => is_closed(variables, held, *a, *b),
@@ -140,7 +142,8 @@ pub(crate) fn cut_at(
     number: u32,
     divisor: u64,
 ) -> Result<Form, CheckError>
-    ensures cut { IsChecked (λ form. form) result (check.cut_at (facts_held held.now) number divisor) }
+    ensures cut { IsChecked (λ form. form) result
+        (check.cut_at (facts_held held.now) number divisor) }
     ensures memory { IsErrOf result Memory → IsOk (check.atom_at (facts_held held.now) number) }
 {
     let form = atom_at(held, number)?.form(alloc)?;
@@ -165,7 +168,8 @@ fn is_over(form: &Form, variables: u32) -> bool
 // is below this number.
 pub(crate) fn otherwise(alloc: Global, variables: u32, form: &Form) -> Result<Form, CheckError>
     ensures other { IsChecked (λ other. other) result (check.otherwise variables form.now) }
-    ensures memory { IsErrOf result Memory → list_all (λ t. nat_lt t.0 variables) form.now.terms ≡ true }
+    ensures memory { IsErrOf result Memory → list_all (λ t. nat_lt t.0 variables) form.now.terms
+        ≡ true }
 {
     if !is_over(form, variables) {
         return Err(CheckError::Fault(FaultKind::NoSuchFact));

@@ -25,7 +25,8 @@ pub(crate) fn hold_all<'a, 'c>(
     held: &mut Vec<Held<'a, 'c>>,
     facts: &'a [Fact<'c>],
 ) -> Result<(), AllocError>
-    ensures added { OnOk result (facts_held held.new.items ≡ facts_held held.old.items ++ map plain_fact facts.now) }
+    ensures added { OnOk result (facts_held held.new.items ≡ facts_held held.old.items
+        ++ map plain_fact facts.now) }
     ensures kept { OnOk result (take (length held.old.items) held.new.items ≡ held.old.items) }
 {
     for fact in facts {
@@ -36,7 +37,8 @@ pub(crate) fn hold_all<'a, 'c>(
 
 // The fact that the form is at most 0, at the end.
 pub(crate) fn hold_made(held: &mut Vec<Held>, form: Form) -> Result<(), AllocError>
-    ensures added { OnOk result (facts_held held.new.items ≡ facts_held held.old.items ++ plain.Atom form ∷ []) }
+    ensures added { OnOk result (facts_held held.new.items ≡ facts_held held.old.items
+        ++ plain.Atom form ∷ []) }
     ensures kept { OnOk result (take (length held.old.items) held.new.items ≡ held.old.items) }
 {
     let atom = Atom::own(*held.allocator(), form)?;

@@ -114,7 +114,8 @@ fn replay_cert<'a, 'c>(
     line: u64,
     cert: &Cert,
 ) -> Result<u64, ReplayError>
-    ensures replays { Replays line variables (facts_held held.old.items) (plain_cert cert.now) result }
+    ensures replays { Replays line variables (facts_held held.old.items) (plain_cert cert.now)
+        result }
     ensures kept { OnOk result (held.new.items ≡ held.old.items) }
 {
     let count = held.len();
@@ -131,7 +132,8 @@ fn replay_finish<'a, 'c>(
     line: u64,
     finish: &Finish,
 ) -> Result<u64, ReplayError>
-    ensures replays { Replays line variables (facts_held held.old.items) (plain_finish finish.now) result }
+    ensures replays { Replays line variables (facts_held held.old.items) (plain_finish finish.now)
+        result }
     ensures kept { OnOk result (held.new.items ≡ held.old.items) }
 {
     let alloc = *held.allocator();
@@ -162,7 +164,8 @@ fn replay_with<'a, 'c>(
     form: Form,
     cert: &Cert,
 ) -> Result<u64, ReplayError>
-    ensures replays { Replays line variables (facts_held held.old.items ++ Atom form ∷ []) (plain_cert cert.now) result }
+    ensures replays { Replays line variables (facts_held held.old.items ++ Atom form ∷ [])
+        (plain_cert cert.now) result }
     ensures kept { OnOk result (held.new.items ≡ held.old.items) }
 {
     let count = held.len();
@@ -181,7 +184,8 @@ fn replay_part<'a, 'c>(
     cert: &Cert,
     part: &'a [Fact<'c>],
 ) -> Result<u64, ReplayError>
-    ensures replays { Replays line variables (facts_held held.old.items ++ map plain_fact part.now) (plain_cert cert.now) result }
+    ensures replays { Replays line variables (facts_held held.old.items ++ map plain_fact part.now)
+        (plain_cert cert.now) result }
     ensures kept { OnOk result (held.new.items ≡ held.old.items) }
 {
     let count = held.len();
@@ -235,7 +239,8 @@ fn room_for(held: &[Held], more: usize) -> Result<(), CheckError>
 /// refused.
 pub fn replay(alloc: Global, facts: &FactList, cert: &Cert) -> Result<(), ReplayError>
     ensures answer { IsReplay facts.now.variables facts.now.facts (plain_cert cert.now) result }
-    ensures sound { OnOk result ((c : plain.Condition) → facts_of c ≡ Ok facts.now.facts → IsValid c) }
+    ensures sound { OnOk result ((c : plain.Condition) → facts_of c ≡ Ok facts.now.facts
+        → IsValid c) }
 {
     let mut held = Vec::with_capacity(alloc, facts.as_slice().len())?;
     hold_all(&mut held, facts.as_slice())?;

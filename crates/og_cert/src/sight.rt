@@ -61,7 +61,8 @@ fn opposes(k: u64, x: Single, m: u64, y: Single) -> bool
 /// Whether the sum of these two multiples is a constant above 0, as far as that is seen at sight:
 /// of two facts of one variable. Takes no memory.
 pub(crate) fn is_closed(variables: u32, held: &[Held], a: Term, b: Term) -> bool
-    ensures { IsTrue result → check.closing variables (facts_held held.now) (combination_of (a ∷ b ∷ [])) ≡ Ok tt }
+    ensures { IsTrue result
+        → check.closing variables (facts_held held.now) (combination_of (a ∷ b ∷ [])) ≡ Ok tt }
 {
     let (Source::Known(i), Source::Known(j)) = (a.source, b.source) else {
         return false;

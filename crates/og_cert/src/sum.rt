@@ -105,7 +105,8 @@ fn coefficient_at(terms: &[(u32, i128)], place: usize, var: u32) -> Option<i128>
 // Puts a coefficient in place of the one there. A term whose coefficient is 0 goes.
 fn put_at(terms: &mut Vec<(u32, i128)>, place: usize, var: u32, c: i128)
     requires { place < length terms.old.items }
-    ensures { terms.new.items ≡ take place terms.old.items ++ with_term var c (drop (place + 1) terms.old.items) }
+    ensures { terms.new.items ≡ take place terms.old.items
+        ++ with_term var c (drop (place + 1) terms.old.items) }
 {
     if c == 0 {
         terms.remove(place);
@@ -117,7 +118,8 @@ fn put_at(terms: &mut Vec<(u32, i128)>, place: usize, var: u32, c: i128)
 // Adds d times the variable.
 fn add_term(terms: &mut Vec<(u32, i128)>, var: u32, d: i128) -> Result<(), FormError>
     requires { AreTerms terms.old.items }
-    ensures answer { IsAnswer (λ _. terms.new.items) faults.TooLarge result (checked_terms (merge terms.old.items (with_term var d []))) }
+    ensures answer { IsAnswer (λ _. terms.new.items) faults.TooLarge result
+        (checked_terms (merge terms.old.items (with_term var d []))) }
     ensures kept { OnErr result (terms.new.items ≡ terms.old.items) }
 {
     if d == 0 {
@@ -140,7 +142,8 @@ fn add_term(terms: &mut Vec<(u32, i128)>, var: u32, d: i128) -> Result<(), FormE
 // Adds k times c times the variable.
 fn add_multiple(terms: &mut Vec<(u32, i128)>, k: i128, var: u32, c: i128) -> Result<(), FormError>
     requires { AreTerms terms.old.items }
-    ensures answer { IsAnswer (λ _. terms.new.items) faults.TooLarge result (added_terms terms.old.items k ((var, c) ∷ [])) }
+    ensures answer { IsAnswer (λ _. terms.new.items) faults.TooLarge result
+        (added_terms terms.old.items k ((var, c) ∷ [])) }
     ensures terms { AreTerms terms.new.items }
 {
     let product = product_of(k, c)?;
@@ -177,7 +180,8 @@ fn are_taken_away(terms: &[(u32, i128)], k: i128, atom: &Atom) -> bool
 // Adds k times the terms of the inequality, one after another.
 fn add_each(terms: &mut Vec<(u32, i128)>, k: i128, atom: &Atom) -> Result<(), FormError>
     requires { AreTerms terms.old.items }
-    ensures answer { IsAnswer (λ _. terms.new.items) faults.TooLarge result (added_terms terms.old.items k atom.now.terms) }
+    ensures answer { IsAnswer (λ _. terms.new.items) faults.TooLarge result
+        (added_terms terms.old.items k atom.now.terms) }
     ensures terms { AreTerms terms.new.items }
 {
     atom.numbers_fit();
@@ -193,7 +197,8 @@ fn add_each(terms: &mut Vec<(u32, i128)>, k: i128, atom: &Atom) -> Result<(), Fo
 // Adds k times the terms of the inequality.
 fn add_terms(terms: &mut Vec<(u32, i128)>, k: i128, atom: &Atom) -> Result<(), FormError>
     requires { AreTerms terms.old.items }
-    ensures answer { IsAnswer (λ _. terms.new.items) faults.TooLarge result (added_terms terms.old.items k atom.now.terms) }
+    ensures answer { IsAnswer (λ _. terms.new.items) faults.TooLarge result
+        (added_terms terms.old.items k atom.now.terms) }
     ensures terms { AreTerms terms.new.items }
 {
     if are_taken_away(terms, k, atom) {
@@ -219,7 +224,8 @@ impl Sum {
     /// `TooLarge` where a product of a number of it, or a sum of such a product and a number of the
     /// sum, leaves `i128`. After an error the sum is of no use.
     pub(crate) fn add(&mut self, times: u64, atom: &Atom) -> Result<(), FormError>
-        ensures { IsAnswer (λ _. self.new) faults.TooLarge result (add_scaled self.old (pos times) atom.now) }
+        ensures { IsAnswer (λ _. self.new) faults.TooLarge result
+            (add_scaled self.old (pos times) atom.now) }
     {
         let times = i128::from(times);
         add_terms(&mut self.terms, times, atom)?;
@@ -229,7 +235,8 @@ impl Sum {
 
     /// Adds this many times the inequality of one variable. The same errors as of `add`.
     pub(crate) fn add_single(&mut self, times: u64, single: Single) -> Result<(), FormError>
-        ensures { IsAnswer (λ _. self.new) faults.TooLarge result (add_scaled self.old (pos times) (single_form single)) }
+        ensures { IsAnswer (λ _. self.new) faults.TooLarge result
+            (add_scaled self.old (pos times) (single_form single)) }
     {
         let times = i128::from(times);
         add_multiple(&mut self.terms, times, single.var, single.coefficient)?;

@@ -37,7 +37,8 @@ fn most_words(text: &[u8]) -> usize
 
 // The terms that the words are.
 fn combination(alloc: Global, text: &[u8]) -> Result<Option<Vec<Term>>, AllocError>
-    ensures { IfOk result (λ r. option_map (λ v. combination_of v.items) r ≡ words.terms_of (words.words_in text.now)) }
+    ensures { IfOk result (λ r.
+        option_map (λ v. combination_of v.items) r ≡ words.terms_of (words.words_in text.now)) }
 {
     let mut terms = Vec::with_capacity(alloc, most_words(text))?;
     let mut rest = Some(text);
@@ -54,7 +55,8 @@ fn combination(alloc: Global, text: &[u8]) -> Result<Option<Vec<Term>>, AllocErr
 
 // The variables with their coefficients that the words are, where the variables rise.
 fn parts(alloc: Global, text: Option<&[u8]>) -> Result<Option<Vec<(u32, i128)>>, AllocError>
-    ensures { IfOk result (λ r. option_map (λ v. v.items) r ≡ words.parts_of 0 (words.words_of (option_map (λ s. s.now) text.entry))) }
+    ensures { IfOk result (λ r. option_map (λ v. v.items) r
+        ≡ words.parts_of 0 (words.words_of (option_map (λ s. s.now) text.entry))) }
 {
     let room = match text {
         Some(words) => most_words(words),

@@ -16,7 +16,8 @@ use std::alloc::Global;
 // Reads the lines after the first one.
 fn read_rest(alloc: Global, version: Version, text: &[u8]) -> Result<CertFile, CertTextError>
     requires { length text.now ≤ most_text }
-    ensures file { IsFile result (read_lines (version_of version) 2 nothing_read (lines_of text.now)) }
+    ensures file { IsFile result
+        (read_lines (version_of version) 2 nothing_read (lines_of text.now)) }
     ensures memory { IsErrOf result Memory → 0 < length text.now }
 {
     let mut reader = Reader::new(alloc);

@@ -77,7 +77,8 @@ impl Reader {
     fn enter(&mut self, n: u32, cert: Cert) -> Result<(), AllocError>
         requires open { IsOpen n self.old.file }
         requires good { IsGood 0 (plain_cert cert) }
-        ensures file { OnOk result (shown self.new.file ≡ with_entry n (plain_cert cert) (shown self.old.file)) }
+        ensures file { OnOk result (shown self.new.file
+            ≡ with_entry n (plain_cert cert) (shown self.old.file)) }
         ensures number { OnOk result (self.new.number ≡ None) }
     {
         self.file.put(n, cert)?;
@@ -90,7 +91,8 @@ impl Reader {
         requires number { self.old.number ≡ Some n }
         requires sound { IsSound self.old }
         requires good { IsGood (depth (frames_of self.old)) (plain_finish finish) }
-        ensures reading { OnOk result (reading_of self.new ≡ plug (shown self.old.file) n (plain_finish finish) (frames_of self.old)) }
+        ensures reading { OnOk result (reading_of self.new
+            ≡ plug (shown self.old.file) n (plain_finish finish) (frames_of self.old)) }
         ensures sound { OnOk result (IsSound self.new) }
     {
         let mut steps = mem::replace(&mut self.steps, Vec::new(alloc));
@@ -106,7 +108,8 @@ impl Reader {
     fn same(&mut self, version: Version, n: u32, k: u32, at: u32) -> Result<(), CertTextError>
         requires number { self.old.number ≡ Some n }
         requires sound { IsSound self.old }
-        ensures { IsTaken result at (same_as (version_of version) (shown self.old.file) n (frames_of self.old) k) self.new }
+        ensures { IsTaken result at
+            (same_as (version_of version) (shown self.old.file) n (frames_of self.old) k) self.new }
     {
         if matches!(version, Version::One) || !self.steps.is_empty() || !self.levels.is_empty() {
             return Err(bad_line(at));
@@ -123,7 +126,8 @@ impl Reader {
 
     // Refuses a branch or a split with too many round it.
     fn deeper(&self, at: u32) -> Result<(), CertTextError>
-        ensures { MatchResult result (λ _. depth (frames_of self.now) < 200) (λ e. (200 ≤ depth (frames_of self.now)) × (e ≡ refused TooDeep at)) }
+        ensures { MatchResult result (λ _. depth (frames_of self.now) < 200)
+            (λ e. (200 ≤ depth (frames_of self.now)) × (e ≡ refused TooDeep at)) }
     {
         if self.levels.len() >= DEPTH_LIMIT {
             return Err(CertTextError::Fault(CertTextFault::TooDeep(at)));
@@ -143,7 +147,8 @@ impl Reader {
         requires number { self.old.number ≡ Some n }
         requires sound { IsSound self.old }
         requires good { is_line (SplitLine fact count) ≡ true }
-        ensures { IsTaken result at (deeper (frames_of self.old) (split_frames (shown self.old.file) n (frames_of self.old) fact count)) self.new }
+        ensures { IsTaken result at (deeper (frames_of self.old)
+            (split_frames (shown self.old.file) n (frames_of self.old) fact count)) self.new }
     {
         self.deeper(at)?;
         if count == 0 {
@@ -167,7 +172,8 @@ impl Reader {
         requires number { self.old.number ≡ Some n }
         requires sound { IsSound self.old }
         requires good { is_line (said_line line) ≡ true }
-        ensures { IsTaken result at (line_within (version_of version) (shown self.old.file) n (frames_of self.old) (said_line line)) self.new }
+        ensures { IsTaken result at (line_within (version_of version) (shown self.old.file) n
+            (frames_of self.old) (said_line line)) self.new }
     {
         match line {
             Line::Condition(_) => return Err(bad_line(at)),
@@ -211,7 +217,8 @@ impl Reader {
     ) -> Result<(), CertTextError>
         requires sound { IsSound self.old }
         requires good { is_line (said_line line) ≡ true }
-        ensures { IsTaken result at (line_at (version_of version) (shown self.old.file) (place_of self.old) (said_line line)) self.new }
+        ensures { IsTaken result at (line_at (version_of version) (shown self.old.file)
+            (place_of self.old) (said_line line)) self.new }
     {
         match self.number {
             None => self.between(alloc, line, at),
@@ -230,7 +237,9 @@ impl Reader {
     ) -> Result<&'a [u8], CertTextError>
         requires some { 0 < length text.now }
         requires sound { IsSound self.old }
-        ensures next { MatchResult result (λ rest. IsNext (version_of version) at text.now rest.now self.old self.new) (λ e. IsStopped e (read_lines (version_of version) at (reading_of self.old) (lines_of text.now))) }
+        ensures next { MatchResult result (λ rest. IsNext (version_of version) at text.now rest.now
+            self.old self.new) (λ e. IsStopped e
+            (read_lines (version_of version) at (reading_of self.old) (lines_of text.now))) }
         ensures memory { IsErrOf result Memory → IsSome (past 10 text.now) }
     {
         let (bytes, past) = split_at_byte(text, b'\n');

@@ -147,7 +147,8 @@ fn source(word: &[u8]) -> Option<Source>
 fn short_term(digit: u8, rest: &[u8]) -> Option<Term>
     requires low { 49 ≤ digit }
     requires high { digit ≤ 57 }
-    ensures { option_map (λ t. (t.times, ref_of t.source)) result ≡ words.term_of (digit ∷ 42 ∷ rest.now) }
+    ensures { option_map (λ t. (t.times, ref_of t.source)) result
+        ≡ words.term_of (digit ∷ 42 ∷ rest.now) }
 {
     let source = source(rest)?;
     Some(Term {

@@ -16,7 +16,8 @@ use std::collections::BTreeMap;
 
 // A line of a word and a number.
 fn put_line(text: &mut Vec<u8>, word: &[u8], n: u32) -> Result<(), AllocError>
-    ensures { OnOk result (text.new.items ≡ text.old.items ++ (word.now ++ 32 ∷ decimal n ++ 10 ∷ [])) }
+    ensures { OnOk result (text.new.items ≡ text.old.items
+        ++ (word.now ++ 32 ∷ decimal n ++ 10 ∷ [])) }
 {
     let digits = n.to_string(*text.allocator())?;
     text.extend_from_slice(word)?;
@@ -27,7 +28,8 @@ fn put_line(text: &mut Vec<u8>, word: &[u8], n: u32) -> Result<(), AllocError>
 
 // The lines of a certificate that condition k has too, or the line `same k`, if that is shorter.
 fn put_again(text: &mut Vec<u8>, k: u32, lines: &[u8]) -> Result<(), AllocError>
-    ensures { (c : tree.Cert) → lines.now ≡ cert_text c → OnOk result (text.new.items ≡ text.old.items ++ listed_text (listed_as (Some k) c)) }
+    ensures { (c : tree.Cert) → lines.now ≡ cert_text c
+        → OnOk result (text.new.items ≡ text.old.items ++ listed_text (listed_as (Some k) c)) }
 {
     let mut same = Vec::new(*text.allocator());
     put_line(&mut same, b"same", k)?;
@@ -44,8 +46,11 @@ fn put_entry(
     n: u32,
     cert: &Cert,
 ) -> Result<(), AllocError>
-    ensures text { OnOk result (text.new.items ≡ text.old.items ++ lines_text (ForCondition n ∷ listed_lines (listed_as (found (cert_text (plain_cert cert.now)) firsts.old) (plain_cert cert.now)))) }
-    ensures firsts { OnOk result ((t : List ℕ) → found t firsts.new ≡ or_this (found t firsts.old) t (cert_text (plain_cert cert.now)) n) }
+    ensures text { OnOk result (text.new.items ≡ text.old.items ++ lines_text (ForCondition n
+        ∷ listed_lines
+        (listed_as (found (cert_text (plain_cert cert.now)) firsts.old) (plain_cert cert.now)))) }
+    ensures firsts { OnOk result ((t : List ℕ) → found t firsts.new
+        ≡ or_this (found t firsts.old) t (cert_text (plain_cert cert.now)) n) }
 {
     let mut lines = Vec::new(*text.allocator());
     put_cert(&mut lines, cert)?;

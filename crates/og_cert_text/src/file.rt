@@ -55,7 +55,8 @@ impl CertFile {
     /// one place have one certificate. Takes no memory.
     pub fn kept_at(&self, n: u32) -> Option<usize>
         ensures place { result ≡ kept_at n self.now }
-        ensures certificate { certificate_of n (shown self.now) ≡ option_map (placed self.now.certs.items) result }
+        ensures certificate { certificate_of n (shown self.now)
+            ≡ option_map (placed self.now.certs.items) result }
     {
         self.numbers.get(&n).copied()
     }
@@ -69,7 +70,8 @@ impl CertFile {
 
     /// The certificate of the condition. Takes no memory.
     pub fn certificate(&self, n: u32) -> Option<&Cert>
-        ensures found { option_map (λ c. plain_cert c.now) result ≡ certificate_of n (shown self.now) }
+        ensures found { option_map (λ c. plain_cert c.now) result
+            ≡ certificate_of n (shown self.now) }
         ensures good { IfSome result (λ c. is_well_formed (plain_cert c.now) ≡ true) }
     {
         let place = self.kept_at(n)?;
@@ -94,7 +96,8 @@ impl CertFile {
 
     /// The least number above n that has a certificate, with the place of that. Takes no memory.
     pub(crate) fn place_above(&self, n: u32) -> Option<(u32, usize)>
-        ensures next { IsNextEntry n (shown self.now) (option_map (λ e. (e.0, placed self.now.certs.items e.1)) result) }
+        ensures next { IsNextEntry n (shown self.now)
+            (option_map (λ e. (e.0, placed self.now.certs.items e.1)) result) }
         ensures within { IfSome result (λ e. e.1 < length self.now.certs.items) }
     {
         let above = (Bound::Excluded(n), Bound::Unbounded);
@@ -104,7 +107,8 @@ impl CertFile {
 
     /// The entry with the least number above n. Takes no memory.
     pub fn entry_above(&self, n: u32) -> Option<(u32, &Cert)>
-        ensures { IsNextEntry n (shown self.now) (option_map (λ e. (e.0, plain_cert e.1.now)) result) }
+        ensures { IsNextEntry n (shown self.now)
+            (option_map (λ e. (e.0, plain_cert e.1.now)) result) }
     {
         let (number, place) = self.place_above(n)?;
         Some((number, &self.certs[place]))
@@ -122,7 +126,8 @@ impl CertFile {
         requires fresh { certificate_of n (shown self.old) ≡ None }
         requires number { lines.is_number n ≡ true }
         requires within { place < length self.old.certs.items }
-        ensures ok { OnOk result (shown self.new ≡ with_entry n (placed self.old.certs.items place) (shown self.old)) }
+        ensures ok { OnOk result (shown self.new
+            ≡ with_entry n (placed self.old.certs.items place) (shown self.old)) }
         ensures kept { OnOk result (kept_at n self.new ≡ Some place) }
         ensures err { OnErr result (self.new.numbers.entries ≡ self.old.numbers.entries) }
         ensures certs { self.new.certs ≡ self.old.certs }
@@ -173,7 +178,8 @@ impl CertFile {
     /// branch or a split has 200 of them round it; `BadNumber` where n is not from 1 to 999999999,
     /// or the certificate is not well formed. An error leaves the file as it was.
     pub fn add(&mut self, n: u32, cert: Cert) -> Result<(), CertFileError>
-        ensures { IsAdded result (fault_of_entry n (plain_cert cert) (shown self.old)) (Some (plain_cert cert)) n (shown self.old) (shown self.new) }
+        ensures { IsAdded result (fault_of_entry n (plain_cert cert) (shown self.old))
+            (Some (plain_cert cert)) n (shown self.old) (shown self.new) }
     {
         if let Some(fault) = self.fault_of_entry(n, &cert) {
             return Err(CertFileError::Fault(fault));
@@ -189,7 +195,8 @@ impl CertFile {
     /// where condition k has none; `BadNumber` where n is not from 1 to 999999999. An error leaves
     /// the file as it was.
     pub fn add_same(&mut self, n: u32, k: u32) -> Result<(), CertFileError>
-        ensures added { IsAdded result (fault_of_same n k (shown self.old)) (certificate_of k (shown self.old)) n (shown self.old) (shown self.new) }
+        ensures added { IsAdded result (fault_of_same n k (shown self.old))
+            (certificate_of k (shown self.old)) n (shown self.old) (shown self.new) }
         ensures kept { OnOk result (kept_at n self.new ≡ kept_at k self.old) }
     {
         if self.has(n) {

@@ -56,7 +56,8 @@ fn put_times(text: &mut Vec<u8>, times: u64) -> Result<(), AllocError>
 
 // A term with a space before it.
 fn put_term(text: &mut Vec<u8>, t: Term) -> Result<(), AllocError>
-    ensures { OnOk result (text.new.items ≡ text.old.items ++ 32 ∷ term_text (t.times, ref_of t.source)) }
+    ensures { OnOk result (text.new.items ≡ text.old.items ++ 32
+        ∷ term_text (t.times, ref_of t.source)) }
 {
     put_times(text, t.times)?;
     put_source(text, t.source)
@@ -64,7 +65,8 @@ fn put_term(text: &mut Vec<u8>, t: Term) -> Result<(), AllocError>
 
 // Each term with a space before it.
 fn put_terms(text: &mut Vec<u8>, terms: &[Term]) -> Result<(), AllocError>
-    ensures { OnOk result (text.new.items ≡ text.old.items ++ combination_text (combination_of terms.now)) }
+    ensures { OnOk result (text.new.items ≡ text.old.items
+        ++ combination_text (combination_of terms.now)) }
 {
     for t in terms {
         put_term(text, *t)?;
@@ -74,7 +76,8 @@ fn put_terms(text: &mut Vec<u8>, terms: &[Term]) -> Result<(), AllocError>
 
 // A line with a combination.
 fn put_combination(text: &mut Vec<u8>, word: &[u8], terms: &[Term]) -> Result<(), AllocError>
-    ensures { OnOk result (text.new.items ≡ text.old.items ++ (word.now ++ combination_text (combination_of terms.now) ++ 10 ∷ [])) }
+    ensures { OnOk result (text.new.items ≡ text.old.items
+        ++ (word.now ++ combination_text (combination_of terms.now) ++ 10 ∷ [])) }
 {
     text.extend_from_slice(word)?;
     put_terms(text, terms)?;
@@ -83,7 +86,8 @@ fn put_combination(text: &mut Vec<u8>, word: &[u8], terms: &[Term]) -> Result<()
 
 // A line with two numbers.
 fn put_pair(text: &mut Vec<u8>, word: &[u8], first: u64, second: u64) -> Result<(), AllocError>
-    ensures { OnOk result (text.new.items ≡ text.old.items ++ (word.now ++ 32 ∷ (decimal first ++ 32 ∷ decimal second) ++ 10 ∷ [])) }
+    ensures { OnOk result (text.new.items ≡ text.old.items
+        ++ (word.now ++ 32 ∷ (decimal first ++ 32 ∷ decimal second) ++ 10 ∷ [])) }
 {
     text.extend_from_slice(word)?;
     text.extend_from_slice(b" ")?;
@@ -117,7 +121,8 @@ fn put_parts(text: &mut Vec<u8>, form: &Form) -> Result<(), AllocError>
 
 // The line of a branch.
 fn put_branch(text: &mut Vec<u8>, form: &Form) -> Result<(), AllocError>
-    ensures { OnOk result (text.new.items ≡ text.old.items ++ (line_text (BranchLine form.now) ++ 10 ∷ [])) }
+    ensures { OnOk result (text.new.items ≡ text.old.items
+        ++ (line_text (BranchLine form.now) ++ 10 ∷ [])) }
 {
     text.extend_from_slice(b"branch ")?;
     put_whole(text, form.offset())?;
@@ -126,7 +131,8 @@ fn put_branch(text: &mut Vec<u8>, form: &Form) -> Result<(), AllocError>
 }
 
 fn put_step(text: &mut Vec<u8>, step: &CertStep) -> Result<(), AllocError>
-    ensures { OnOk result (text.new.items ≡ text.old.items ++ (line_text (step_line step.now) ++ 10 ∷ [])) }
+    ensures { OnOk result (text.new.items ≡ text.old.items
+        ++ (line_text (step_line step.now) ++ 10 ∷ [])) }
 {
     match step {
         CertStep::Sum(terms) => put_combination(text, b"sum", terms),
@@ -147,7 +153,8 @@ fn put_steps(text: &mut Vec<u8>, steps: &[CertStep]) -> Result<(), AllocError>
 #[cycle(put)]
 #[tactic(auto, using(crate::proofs::Writing::steps_text))]
 fn put_lines(text: &mut Vec<u8>, cert: &Cert) -> Result<(), AllocError>
-    ensures { OnOk result (text.new.items ≡ text.old.items ++ lines_text (cert_lines (plain_cert cert.now))) }
+    ensures { OnOk result (text.new.items ≡ text.old.items
+        ++ lines_text (cert_lines (plain_cert cert.now))) }
 {
     put_steps(text, &cert.steps)?;
     put_finish(text, &cert.finish)
@@ -156,7 +163,8 @@ fn put_lines(text: &mut Vec<u8>, cert: &Cert) -> Result<(), AllocError>
 #[cycle(put)]
 #[tactic(auto, using(crate::proofs::Writing::lines_both, crate::proofs::Writing::split_text))]
 fn put_finish(text: &mut Vec<u8>, finish: &Finish) -> Result<(), AllocError>
-    ensures { OnOk result (text.new.items ≡ text.old.items ++ lines_text (cert_lines (plain_finish finish.now))) }
+    ensures { OnOk result (text.new.items ≡ text.old.items
+        ++ lines_text (cert_lines (plain_finish finish.now))) }
 {
     match finish {
         Finish::Close(terms) => put_combination(text, b"close", terms),
@@ -186,7 +194,8 @@ fn lines_of(alloc: Global, cert: &Cert) -> Result<Vec<u8>, AllocError>
 
 // The lines of each certificate.
 fn all_lines(alloc: Global, certs: &[Cert]) -> Result<Vec<Vec<u8>>, AllocError>
-    ensures lines { IfOk result (λ all. map (λ lines. lines.items) all.items ≡ map (λ c. lines_text (cert_lines (plain_cert c))) certs.now) }
+    ensures lines { IfOk result (λ all. map (λ lines. lines.items) all.items
+        ≡ map (λ c. lines_text (cert_lines (plain_cert c))) certs.now) }
     ensures len { IfOk result (λ all. length all.items ≡ length certs.now) }
 {
     let mut all = Vec::with_capacity(alloc, certs.len())?;
@@ -198,7 +207,8 @@ fn all_lines(alloc: Global, certs: &[Cert]) -> Result<Vec<Vec<u8>>, AllocError>
 
 // The lines of an entry, of which those of the certificate are given.
 fn put_entry(text: &mut Vec<u8>, n: u32, lines: &[u8]) -> Result<(), AllocError>
-    ensures { OnOk result (text.new.items ≡ text.old.items ++ (line_text (ForCondition n) ++ 10 ∷ lines.now)) }
+    ensures { OnOk result (text.new.items ≡ text.old.items
+        ++ (line_text (ForCondition n) ++ 10 ∷ lines.now)) }
 {
     text.extend_from_slice(b"cond ")?;
     put_number(text, n as u64)?;
@@ -208,7 +218,8 @@ fn put_entry(text: &mut Vec<u8>, n: u32, lines: &[u8]) -> Result<(), AllocError>
 
 /// Adds the lines of the certificate to the text. An error leaves the text as it was.
 pub fn put_cert(text: &mut Vec<u8>, cert: &Cert) -> Result<(), AllocError>
-    ensures ok { OnOk result (text.new.items ≡ text.old.items ++ lines_text (cert_lines (plain_cert cert.now))) }
+    ensures ok { OnOk result (text.new.items ≡ text.old.items
+        ++ lines_text (cert_lines (plain_cert cert.now))) }
     ensures err { OnErr result (text.new.items ≡ text.old.items) }
 {
     let lines = lines_of(*text.allocator(), cert)?;

@@ -57,7 +57,8 @@ pub fn told_by<'a>(
     requires verdict { IfSome verdict (λ v. IsVerdict (seen condition.now) v.now) }
     ensures told { IfOk result (IsTold outline.now (seen condition.now)) }
     ensures allowed { IfOk result (IsAllowed outline.now) }
-    ensures follows { IfOk result (λ t. MatchOption verdict.entry (t ≡ Told.Open) (λ v. Follows v.now t)) }
+    ensures follows { IfOk result (λ t.
+        MatchOption verdict.entry (t ≡ Told.Open) (λ v. Follows v.now t)) }
 {
     match verdict {
         Some(verdict) => tell(alloc, outline, index, condition, verdict),
@@ -113,8 +114,10 @@ fn text_of(
     requires short { length texts.told.now ≤ 2 ^ 20 }
     requires each { length told.now ≡ length conditions.now }
     requires few { length told.now < 2 ^ 32 }
-    ensures text { IfOk result (λ t. t.items ≡ told_in false outline.now.names texts.entry.own.now texts.entry.told.now texts.entry.rows (map seen conditions.now) told.now) }
-    ensures unblocked { IfOk result (λ t. SaysUnblocked false t.items → is_unblocked told.now ≡ true) }
+    ensures text { IfOk result (λ t. t.items ≡ told_in false outline.now.names texts.entry.own.now
+        texts.entry.told.now texts.entry.rows (map seen conditions.now) told.now) }
+    ensures unblocked { IfOk result (λ t.
+        SaysUnblocked false t.items → is_unblocked told.now ≡ true) }
 {
     let text = report(alloc, outline, texts.told, texts.rows, conditions, told)?;
     Ok(text)
@@ -133,8 +136,10 @@ fn told_text(
     requires short { length texts.told.now ≤ 2 ^ 20 }
     requires each { length told.now ≡ length conditions.now }
     requires few { length told.now < 2 ^ 32 }
-    ensures text { IfOk result (λ t. t.items ≡ told_in in_json outline.now.names texts.entry.own.now texts.entry.told.now texts.entry.rows (map seen conditions.now) told.now) }
-    ensures unblocked { IfOk result (λ t. SaysUnblocked in_json t.items → is_unblocked told.now ≡ true) }
+    ensures text { IfOk result (λ t. t.items ≡ told_in in_json outline.now.names texts.entry.own.now
+        texts.entry.told.now texts.entry.rows (map seen conditions.now) told.now) }
+    ensures unblocked { IfOk result (λ t.
+        SaysUnblocked in_json t.items → is_unblocked told.now ≡ true) }
 {
     if !in_json {
         return text_of(alloc, outline, texts, conditions, told);
@@ -159,7 +164,9 @@ fn answer_of(
     requires told { AreTold outline.now (map seen conditions.now) told.now }
     requires each { length told.now ≡ length conditions.now }
     requires few { length told.now < 2 ^ 32 }
-    ensures says { IfOk result (Says (told_in in_json outline.now.names texts.entry.own.now texts.entry.told.now texts.entry.rows (map seen conditions.now) told.now) (told_status told.now)) }
+    ensures says { IfOk result (Says (told_in in_json outline.now.names texts.entry.own.now
+        texts.entry.told.now texts.entry.rows (map seen conditions.now) told.now)
+        (told_status told.now)) }
     ensures promises { IfOk result (Promises in_json outline.now) }
 {
     let text = told_text(alloc, outline, texts, conditions, told, in_json)?;
@@ -187,7 +194,8 @@ fn searched<G: Gate, H: Threads + Wait + Sync>(
     requires short { length texts.told.now ≤ 2 ^ 20 }
     requires listed { map seen conditions.now ≡ conditions_of outline.now }
     requires few { length conditions.now ≤ condition_limit }
-    ensures told { IfOk result (IsToldText search.json outline.now texts.entry.own.now texts.entry.told.now texts.entry.rows) }
+    ensures told { IfOk result (IsToldText search.json outline.now texts.entry.own.now
+        texts.entry.told.now texts.entry.rows) }
     ensures promises { IfOk result (Promises search.json outline.now) }
     ensures spawn { IfErr result (λ e. e ≡ Spawn → 1 < search.workers) }
 {
@@ -216,7 +224,8 @@ pub fn proved_outline<G: Gate, H: Threads + Wait + Sync>(
 ) -> Result<Answer, PoolFault>
     requires own { length texts.own.now ≤ 2 ^ 20 }
     requires short { length texts.told.now ≤ 2 ^ 20 }
-    ensures told { IfOk result (IsToldOf search.json outline.now texts.entry.own.now texts.entry.told.now texts.entry.rows) }
+    ensures told { IfOk result (IsToldOf search.json outline.now texts.entry.own.now
+        texts.entry.told.now texts.entry.rows) }
     ensures promises { IfOk result (Promises search.json outline.now) }
     ensures spawn { IfErr result (λ e. e ≡ Spawn → 1 < search.workers) }
 {
@@ -238,7 +247,8 @@ fn proved_of<G: Gate, H: Threads + Wait + Sync>(
     search: Search,
     gate: &G,
 ) -> Result<Answer, PoolFault>
-    ensures told { IfOk result (IsToldOf search.json source.now.outline source.now.bytes source.now.bytes None) }
+    ensures told { IfOk result (IsToldOf search.json source.now.outline source.now.bytes
+        source.now.bytes None) }
     ensures promises { IfOk result (Promises search.json source.now.outline) }
     ensures spawn { IfErr result (λ e. e ≡ Spawn → 1 < search.workers) }
 {
@@ -271,7 +281,8 @@ pub fn proved<G: Gate, H: Threads + Wait + Sync>(
 ) -> Result<Answer, PoolFault>
     ensures answer { IfOk result (IsProving search.json source.now) }
     ensures sound { IfOk result (λ answer. answer.status ≡ 0 → IsProvenSource source.now) }
-    ensures unblocked { IfOk result (λ answer. answer.status ≡ 0 → SaysUnblocked search.json answer.text.items → IsNeverStuckSource source.now) }
+    ensures unblocked { IfOk result (λ answer. answer.status ≡ 0
+        → SaysUnblocked search.json answer.text.items → IsNeverStuckSource source.now) }
     ensures spawn { IfErr result (λ e. e ≡ Spawn → 1 < search.workers) }
 {
     match Source::read(alloc, source) {

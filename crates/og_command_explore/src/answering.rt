@@ -41,7 +41,8 @@ fn told_of<'a>(
 ) -> Result<Told<'a>, AllocError>
     requires found { AreViolations outline.now found.now }
     requires within { AreWithin ranges.now found.now }
-    ensures each { IfOk result (λ told. AllByRecursion (IsOneFinding outline.now (map seen conditions.now) ranges.now) told.findings.items) }
+    ensures each { IfOk result (λ told. AllByRecursion
+        (IsOneFinding outline.now (map seen conditions.now) ranges.now) told.findings.items) }
     ensures complete { IfOk result (λ told. told.complete ≡ true → found.now.complete ≡ true) }
     ensures safe { IfOk result (λ told. safe_of told.complete told.findings.items ≡ yes_or_no.Yes
         → (found.now.complete ≡ true) × (found.now.assertion ≡ None) × (found.now.overflow ≡ None) × (found.now.post ≡ None)) }
@@ -129,7 +130,8 @@ fn json_line(
     findings: &[Finding],
 ) -> Result<Vec<u8>, AllocError>
     requires { length source.now ≤ 2 ^ 20 }
-    ensures { IfOk result (λ text. text.items ≡ printed true outline.now source.now totals.now findings.now) }
+    ensures { IfOk result (λ text.
+        text.items ≡ printed true outline.now source.now totals.now findings.now) }
 {
     let mut text = json(alloc, outline, source, totals, findings)?;
     text.push(b'\n')?;
@@ -147,7 +149,8 @@ fn printed(
 ) -> Result<Vec<u8>, AllocError>
     requires short { length source.now ≤ 2 ^ 20 }
     requires given { length totals.now.given.items ≤ 256 }
-    ensures { IfOk result (λ text. text.items ≡ printed is_json outline.now source.now totals.now findings.now) }
+    ensures { IfOk result (λ text.
+        text.items ≡ printed is_json outline.now source.now totals.now findings.now) }
 {
     if is_json {
         json_line(alloc, outline, source, totals, findings)
@@ -173,7 +176,8 @@ pub fn answer(
 ) -> Result<Option<Answer>, AllocError>
     requires short { length source.now ≤ 2 ^ 20 }
     requires ranges { length ranges.now ≡ outline.now.vars }
-    ensures explored { IfOk result (λ found. IfSome found (IsExplored request.json outline.now source.now (map seen conditions.now) ranges.now)) }
+    ensures explored { IfOk result (λ found. IfSome found
+        (IsExplored request.json outline.now source.now (map seen conditions.now) ranges.now)) }
     ensures none { IfOk result (λ found. IfNone found (HasNoStart outline.now ranges.now)) }
 {
     outline.follows_rule();

@@ -58,7 +58,8 @@ fn of_outline(
 ) -> Result<Answer, AllocError>
     requires short { length source.now ≤ 2 ^ 20 }
     requires ranges { length ranges.now ≡ outline.now.vars }
-    ensures { IfOk result (IsAnswer request.json outline.now source.now (map seen conditions.now) ranges.now) }
+    ensures { IfOk result (IsAnswer request.json outline.now source.now (map seen conditions.now)
+        ranges.now) }
 {
     match answer(alloc, outline, source, conditions, ranges, request)? {
         Some(answer) => Ok(answer),
@@ -96,7 +97,8 @@ fn of_source<'a>(
     words: &[&'a str],
     request: Request,
 ) -> Result<Reply<'a>, AllocError>
-    ensures { IfOk result (IsReply request.json source.now.bytes request.erased (map (λ w. w.now) words.now)) }
+    ensures { IfOk result (IsReply request.json source.now.bytes request.erased
+        (map (λ w. w.now) words.now)) }
 {
     let outline = source.outline();
     match given(alloc, outline, words) {
@@ -128,7 +130,8 @@ pub fn explored<'a>(
     words: &[&'a str],
     request: Request,
 ) -> Result<Reply<'a>, AllocError>
-    ensures { IfOk result (IsReply request.json source.now request.erased (map (λ w. w.now) words.now)) }
+    ensures { IfOk result (IsReply request.json source.now request.erased
+        (map (λ w. w.now) words.now)) }
 {
     match Source::read(alloc, source) {
         Ok(source) => {

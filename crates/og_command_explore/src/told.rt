@@ -32,7 +32,8 @@ pub(crate) fn add<'a>(
 ) -> Result<(), AllocError>
     requires violation { IfSome found.now (IsViolation outline.now) }
     requires within { IfSome found.now (λ v. IsWithin ranges.now v.values) }
-    ensures { OnOk result (IsAdded outline.now (map seen conditions.now) ranges.now found.now told.old told.new) }
+    ensures { OnOk result (IsAdded outline.now (map seen conditions.now) ranges.now found.now
+        told.old told.new) }
 {
     let Some(violation) = found else {
         return Ok(());

@@ -79,7 +79,8 @@ fn add_inner<'a>(
     search: Search,
     notes: &[&'a Note],
 ) -> Result<(), AllocError>
-    ensures { OnOk result (Gains (claims_of claims.old.items) (claims_of claims.new.items) (map inner (notes_of notes.now))) }
+    ensures { OnOk result (Gains (claims_of claims.old.items) (claims_of claims.new.items)
+        (map inner (notes_of notes.now))) }
 {
     let alloc = *claims.allocator();
     for note in notes {

@@ -51,7 +51,8 @@ fn step_word(stmt: &Stmt) -> &'static str
 
 // A word, and the place of what it means.
 fn put_placed(text: &mut Vec<u8>, places: &Places, word: &str, at: u32) -> Result<(), AllocError>
-    ensures { OnOk result (text.new.items ≡ text.old.items ++ line.placed_text places.now word.now at) }
+    ensures { OnOk result (text.new.items ≡ text.old.items
+        ++ line.placed_text places.now word.now at) }
 {
     text.extend_from_slice(word.as_bytes())?;
     text.extend_from_slice(b" at ")?;
@@ -66,7 +67,8 @@ pub(crate) fn put_claim(
     word: &str,
     note: &Note,
 ) -> Result<(), AllocError>
-    ensures { OnOk result (text.new.items ≡ text.old.items ++ line.claim_line places.now names.now word.now (noted note.now)) }
+    ensures { OnOk result (text.new.items ≡ text.old.items
+        ++ line.claim_line places.now names.now word.now (noted note.now)) }
 {
     put_placed(text, places, word, note.at)?;
     text.extend_from_slice(b": ")?;
@@ -76,7 +78,8 @@ pub(crate) fn put_claim(
 
 // The line of an assertion that no state meets.
 fn put_unmet(text: &mut Vec<u8>, places: &Places, claim: &Claim) -> Result<(), AllocError>
-    ensures { OnOk result (text.new.items ≡ text.old.items ++ line.unmet_line places.now (claim_of claim.now)) }
+    ensures { OnOk result (text.new.items ≡ text.old.items
+        ++ line.unmet_line places.now (claim_of claim.now)) }
 {
     if !claim.unmet {
         return Ok(());
@@ -94,7 +97,8 @@ pub(crate) fn put_all_unmet(
     places: &Places,
     claims: &[Claim],
 ) -> Result<(), AllocError>
-    ensures { OnOk result (text.new.items ≡ text.old.items ++ flat_map (line.unmet_line places.now) (claims_of claims.now)) }
+    ensures { OnOk result (text.new.items ≡ text.old.items
+        ++ flat_map (line.unmet_line places.now) (claims_of claims.now)) }
 {
     for claim in claims {
         put_unmet(text, places, claim)?;
@@ -110,7 +114,8 @@ fn put_wide(
     item: &Item,
     vars: &[u32],
 ) -> Result<(), AllocError>
-    ensures { OnOk result (text.new.items ≡ text.old.items ++ line.wide_line places.now names.now (statement item.now.stmt) item.now.at vars.now) }
+    ensures { OnOk result (text.new.items ≡ text.old.items
+        ++ line.wide_line places.now names.now (statement item.now.stmt) item.now.at vars.now) }
 {
     if vars.len() <= 1 {
         return Ok(());
@@ -133,7 +138,8 @@ pub(crate) fn put_steps(
     steps: &[Step],
     vars: u32,
 ) -> Result<(), AllocError>
-    ensures { OnOk result (text.new.items ≡ text.old.items ++ line.step_lines places.now names.now (steps_of steps.now) vars) }
+    ensures { OnOk result (text.new.items ≡ text.old.items
+        ++ line.step_lines places.now names.now (steps_of steps.now) vars) }
 {
     let alloc = *text.allocator();
     for step in steps {

@@ -53,7 +53,8 @@ fn put_some_auxiliaries(
     outline: &Outline,
     vars: &[u32],
 ) -> Result<(), AllocError>
-    ensures { OnOk result (text.new.items ≡ text.old.items ++ wanted.some_auxiliaries_text outline.now vars.now) }
+    ensures { OnOk result (text.new.items ≡ text.old.items
+        ++ wanted.some_auxiliaries_text outline.now vars.now) }
 {
     let program = program_text(*text.allocator(), outline)?;
     text.extend_from_slice(b"auxiliary variables: ")?;
@@ -64,7 +65,8 @@ fn put_some_auxiliaries(
 
 // These auxiliary variables, and the program that is left without them, where there are some.
 fn put_auxiliaries(text: &mut Vec<u8>, outline: &Outline, vars: &[u32]) -> Result<(), AllocError>
-    ensures { OnOk result (text.new.items ≡ text.old.items ++ wanted.auxiliaries_text outline.now vars.now) }
+    ensures { OnOk result (text.new.items ≡ text.old.items
+        ++ wanted.auxiliaries_text outline.now vars.now) }
 {
     if vars.is_empty() {
         return text.extend_from_slice(b"auxiliary variables: none\n");
@@ -74,7 +76,8 @@ fn put_auxiliaries(text: &mut Vec<u8>, outline: &Outline, vars: &[u32]) -> Resul
 
 // What everybody should know of every yes.
 fn put_meaning(text: &mut Vec<u8>) -> Result<(), AllocError>
-    ensures { OnOk result (text.new.items ≡ text.old.items ++ (wanted.unblocked_line ++ wanted.definitions_line)) }
+    ensures { OnOk result (text.new.items ≡ text.old.items
+        ++ (wanted.unblocked_line ++ wanted.definitions_line)) }
 {
     text.extend_from_slice(
         b"unblocked is said of the whole program: until all processes have ended, one of them can step; a single one may wait for ever\n",
@@ -91,7 +94,8 @@ fn put_claims(
     places: &Places,
     claims: &[Claim],
 ) -> Result<(), AllocError>
-    ensures { OnOk result (text.new.items ≡ text.old.items ++ wanted.claims_text outline.now places.now (claims_of claims.now)) }
+    ensures { OnOk result (text.new.items ≡ text.old.items
+        ++ wanted.claims_text outline.now places.now (claims_of claims.now)) }
 {
     let names = outline.names();
     put_claim(text, places, names, "precondition", outline.pre())?;
@@ -108,7 +112,8 @@ fn put_notes(
     claims: &[Claim],
 ) -> Result<(), AllocError>
     requires { steps_of steps.now ≡ all_steps outline.now }
-    ensures { OnOk result (text.new.items ≡ text.old.items ++ wanted.notes_text outline.now places.now (claims_of claims.now)) }
+    ensures { OnOk result (text.new.items ≡ text.old.items
+        ++ wanted.notes_text outline.now places.now (claims_of claims.now)) }
 {
     let auxiliaries = auxiliaries(*text.allocator(), outline)?;
     put_claims(text, outline, places, claims)?;

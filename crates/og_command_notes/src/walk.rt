@@ -55,7 +55,8 @@ fn add_item<'a>(walk: &mut Walk<'a>, part: Part, item: &'a Item) -> Result<(), A
 
 // Adds a part of the main process, if there is one.
 fn add_main<'a>(walk: &mut Walk<'a>, part: Part, seq: Option<&'a Seq>) -> Result<(), AllocError>
-    ensures { OnOk result (AddsMain walk.old walk.new part (option_map (λ q. sequence q.now) seq.entry)) }
+    ensures { OnOk result (AddsMain walk.old walk.new part
+        (option_map (λ q. sequence q.now) seq.entry)) }
 {
     match seq {
         Some(seq) => add_seq(walk, part, seq),

@@ -68,7 +68,8 @@ fn told_alone<'a>(
     findings: &Findings,
 ) -> Result<Followed<'a>, AllocError>
     requires { AreVerdicts (map seen conditions.now) findings.now }
-    ensures followed { IfOk result (λ f. IsFollowed outline.now (map seen conditions.now) f.shows.told.items f.shows.runs.items f.explored) }
+    ensures followed { IfOk result (λ f. IsFollowed outline.now (map seen conditions.now)
+        f.shows.told.items f.shows.runs.items f.explored) }
     ensures told { IfOk result (λ f. length f.shows.told.items ≡ length conditions.now) }
     ensures runs { IfOk result (λ f. length f.shows.runs.items ≡ length conditions.now) }
 {
@@ -97,7 +98,8 @@ fn gathered<'a>(
     requires verdicts { AreVerdicts (map seen conditions.now) findings.now }
     requires needed { HasFalse (map seen conditions.now) }
     requires lists { HaveLength outline.now.vars (map (λ l. l.items) lists.now) }
-    ensures followed { IfOk result (λ f. IsFollowed outline.now (map seen conditions.now) f.shows.told.items f.shows.runs.items f.explored) }
+    ensures followed { IfOk result (λ f. IsFollowed outline.now (map seen conditions.now)
+        f.shows.told.items f.shows.runs.items f.explored) }
     ensures told { IfOk result (λ f. length f.shows.told.items ≡ length conditions.now) }
     ensures runs { IfOk result (λ f. length f.shows.runs.items ≡ length conditions.now) }
 {
@@ -121,7 +123,8 @@ fn by_findings<'a>(
     limit: u32,
 ) -> Result<Followed<'a>, AllocError>
     requires { AreVerdicts (map seen conditions.now) findings.now }
-    ensures followed { IfOk result (λ f. IsFollowed outline.now (map seen conditions.now) f.shows.told.items f.shows.runs.items f.explored) }
+    ensures followed { IfOk result (λ f. IsFollowed outline.now (map seen conditions.now)
+        f.shows.told.items f.shows.runs.items f.explored) }
     ensures told { IfOk result (λ f. length f.shows.told.items ≡ length conditions.now) }
     ensures runs { IfOk result (λ f. length f.shows.runs.items ≡ length conditions.now) }
 {
@@ -154,7 +157,8 @@ pub fn follow<'a, G: Gate, H: Threads + Wait + Sync>(
     gate: &G,
 ) -> Result<Followed<'a>, PoolFault>
     requires { length conditions.now ≤ condition_limit }
-    ensures followed { IfOk result (λ f. IsFollowed outline.now (map seen conditions.now) f.shows.told.items f.shows.runs.items f.explored) }
+    ensures followed { IfOk result (λ f. IsFollowed outline.now (map seen conditions.now)
+        f.shows.told.items f.shows.runs.items f.explored) }
     ensures told { IfOk result (λ f. length f.shows.told.items ≡ length conditions.now) }
     ensures runs { IfOk result (λ f. length f.shows.runs.items ≡ length conditions.now) }
     ensures spawn { IfErr result (λ e. e ≡ Spawn → 1 < search.workers) }

@@ -45,9 +45,13 @@ fn answer_of(
     requires told { AreTold outline.now (map seen conditions.now) told.now }
     requires each { length told.now ≡ length conditions.now }
     requires targets { length targets.now ≡ length conditions.now }
-    ensures says { IfOk result (Says (page_text outline.now source.now additions.entry.before.now (map (λ t. t.items) additions.entry.beneath.now) (map seen conditions.now) told.now targets.now) (told_status told.now)) }
-    ensures sound { IfOk result (λ a. a.status ≡ 0 → IsSound outline.now × IsSoundErased outline.now) }
-    ensures unblocked { IfOk result (λ a. a.status ≡ 0 → is_unblocked told.now ≡ true → IsNeverStuck outline.now × IsNeverStuck (erased outline.now)) }
+    ensures says { IfOk result (Says (page_text outline.now source.now additions.entry.before.now
+        (map (λ t. t.items) additions.entry.beneath.now) (map seen conditions.now) told.now
+        targets.now) (told_status told.now)) }
+    ensures sound { IfOk result (λ a.
+        a.status ≡ 0 → IsSound outline.now × IsSoundErased outline.now) }
+    ensures unblocked { IfOk result (λ a. a.status ≡ 0 → is_unblocked told.now ≡ true
+        → IsNeverStuck outline.now × IsNeverStuck (erased outline.now)) }
 {
     let text = page(alloc, outline, source, conditions, told, targets, additions)?;
     if !is_safe(told) {
@@ -78,7 +82,8 @@ pub(crate) fn paged(
     requires few { length conditions.now ≤ condition_limit }
     requires told { AreTold outline.now (map seen conditions.now) told.now }
     requires each { length told.now ≡ length conditions.now }
-    ensures { IfOk result (IsPage outline.now source.now told.now additions.entry.before.now (map (λ t. t.items) additions.entry.beneath.now)) }
+    ensures { IfOk result (IsPage outline.now source.now told.now additions.entry.before.now
+        (map (λ t. t.items) additions.entry.beneath.now)) }
 {
     let targets = targets(alloc, outline, conditions)?;
     let answer = answer_of(

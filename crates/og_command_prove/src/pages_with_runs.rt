@@ -34,7 +34,8 @@ fn paged_with_runs(
     requires short { length source.now ≤ 2 ^ 20 }
     requires listed { map seen conditions.now ≡ conditions_of outline.now }
     requires few { length conditions.now ≤ condition_limit }
-    requires followed { IsFollowed outline.now (map seen conditions.now) followed.now.shows.told.items followed.now.shows.runs.items followed.now.explored }
+    requires followed { IsFollowed outline.now (map seen conditions.now)
+        followed.now.shows.told.items followed.now.shows.runs.items followed.now.explored }
     requires each { length followed.now.shows.told.items ≡ length conditions.now }
     requires runs { length followed.now.shows.runs.items ≡ length conditions.now }
     ensures { IfOk result (IsPageWithRuns outline.now source.now) }

@@ -44,7 +44,9 @@ fn printed(
     requires told { length followed.now.shows.told.items ≡ length conditions.now }
     requires runs { length followed.now.shows.runs.items ≡ length conditions.now }
     requires few { length followed.now.shows.told.items < 2 ^ 32 }
-    ensures { IfOk result (λ t. t.items ≡ printed in_json outline.now texts.entry.own.now texts.entry.told.now texts.entry.rows followed.now.explored (map seen conditions.now) followed.now.shows.told.items followed.now.shows.runs.items) }
+    ensures { IfOk result (λ t. t.items ≡ printed in_json outline.now texts.entry.own.now
+        texts.entry.told.now texts.entry.rows followed.now.explored (map seen conditions.now)
+        followed.now.shows.told.items followed.now.shows.runs.items) }
 {
     let explored = followed.explored;
     let told = followed.shows.told.as_slice();
@@ -76,9 +78,14 @@ fn answer_of(
     requires each { length followed.now.shows.told.items ≡ length conditions.now }
     requires runs { length followed.now.shows.runs.items ≡ length conditions.now }
     requires few { length followed.now.shows.told.items < 2 ^ 32 }
-    ensures says { IfOk result (Says (printed in_json outline.now texts.entry.own.now texts.entry.told.now texts.entry.rows followed.now.explored (map seen conditions.now) followed.now.shows.told.items followed.now.shows.runs.items) (told_status followed.now.shows.told.items)) }
-    ensures sound { IfOk result (λ a. a.status ≡ 0 → IsSound outline.now × IsSoundErased outline.now) }
-    ensures unblocked { IfOk result (λ a. a.status ≡ 0 → is_unblocked followed.now.shows.told.items ≡ true → IsNeverStuck outline.now × IsNeverStuck (erased outline.now)) }
+    ensures says { IfOk result (Says (printed in_json outline.now texts.entry.own.now
+        texts.entry.told.now texts.entry.rows followed.now.explored (map seen conditions.now)
+        followed.now.shows.told.items followed.now.shows.runs.items)
+        (told_status followed.now.shows.told.items)) }
+    ensures sound { IfOk result (λ a.
+        a.status ≡ 0 → IsSound outline.now × IsSoundErased outline.now) }
+    ensures unblocked { IfOk result (λ a. a.status ≡ 0 → is_unblocked followed.now.shows.told.items
+        ≡ true → IsNeverStuck outline.now × IsNeverStuck (erased outline.now)) }
 {
     let text = printed(alloc, outline, texts, conditions, followed, in_json)?;
     if !is_safe(&followed.shows.told) {
@@ -107,7 +114,8 @@ fn searched<'a, G: Gate, H: Threads + Wait + Sync>(
     requires short { length texts.told.now ≤ 2 ^ 20 }
     requires listed { map seen conditions.now ≡ conditions_of outline.now }
     requires few { length conditions.now ≤ condition_limit }
-    ensures told { IfOk result (IsShownText search.json outline.now texts.entry.own.now texts.entry.told.now texts.entry.rows) }
+    ensures told { IfOk result (IsShownText search.json outline.now texts.entry.own.now
+        texts.entry.told.now texts.entry.rows) }
     ensures spawn { IfErr result (λ e. e ≡ Spawn → 1 < search.workers) }
 {
     let in_json = search.json;
@@ -129,7 +137,8 @@ fn of_outline<G: Gate, H: Threads + Wait + Sync>(
 ) -> Result<Answer, PoolFault>
     requires own { length texts.own.now ≤ 2 ^ 20 }
     requires short { length texts.told.now ≤ 2 ^ 20 }
-    ensures told { IfOk result (IsShownOf search.json outline.now texts.entry.own.now texts.entry.told.now texts.entry.rows) }
+    ensures told { IfOk result (IsShownOf search.json outline.now texts.entry.own.now
+        texts.entry.told.now texts.entry.rows) }
     ensures spawn { IfErr result (λ e. e ≡ Spawn → 1 < search.workers) }
 {
     match conditions(alloc, outline) {
@@ -161,7 +170,8 @@ pub(crate) fn of_texts<'a, G: Gate, H: Threads + Wait + Sync>(
 ) -> Result<Reply<'a>, PoolFault>
     requires own { length texts.own.now ≤ 2 ^ 20 }
     requires short { length texts.told.now ≤ 2 ^ 20 }
-    ensures reply { IfOk result (IsOfTexts search.json outline.now texts.entry.own.now texts.entry.told.now texts.entry.rows (map (λ w. w.now) words.now)) }
+    ensures reply { IfOk result (IsOfTexts search.json outline.now texts.entry.own.now
+        texts.entry.told.now texts.entry.rows (map (λ w. w.now) words.now)) }
     ensures spawn { IfErr result (λ e. e ≡ Spawn → 1 < search.workers) }
 {
     match given(alloc, outline, words) {

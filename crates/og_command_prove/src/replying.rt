@@ -29,7 +29,8 @@ fn of_source<'a, G: Gate, H: Threads + Wait + Sync>(
     limit: u32,
     gate: &G,
 ) -> Result<Reply<'a>, PoolFault>
-    ensures reply { IfOk result (IsOfTexts search.json source.now.outline source.now.bytes source.now.bytes None (map (λ w. w.now) words.now)) }
+    ensures reply { IfOk result (IsOfTexts search.json source.now.outline source.now.bytes
+        source.now.bytes None (map (λ w. w.now) words.now)) }
     ensures spawn { IfErr result (λ e. e ≡ Spawn → 1 < search.workers) }
 {
     let (outline, bytes) = (source.outline(), source.bytes());
@@ -53,7 +54,8 @@ fn of_outline<'a, G: Gate, H: Threads + Wait + Sync>(
     gate: &G,
 ) -> Result<Reply<'a>, PoolFault>
     ensures reply { IfOk result (IsOfOutline search.json text.now (map (λ w. w.now) words.now)) }
-    ensures sound { IfOk result (OnAnswer (λ a. a.status ≡ 0 → HoldsBy false IsProvenSource text.now)) }
+    ensures sound { IfOk result (OnAnswer
+        (λ a. a.status ≡ 0 → HoldsBy false IsProvenSource text.now)) }
     ensures spawn { IfErr result (λ e. e ≡ Spawn → 1 < search.workers) }
 {
     match Source::read(alloc, text) {
@@ -104,7 +106,8 @@ fn of_split<'a, G: Gate, H: Threads + Wait + Sync>(
     limit: u32,
     gate: &G,
 ) -> Result<Reply<'a>, PoolFault>
-    ensures reply { IfOk result (IsOfSplit search.json text.now (map (λ w. w.now) words.now.constants.items) (map (λ w. w.now) words.now.starts.items)) }
+    ensures reply { IfOk result (IsOfSplit search.json text.now
+        (map (λ w. w.now) words.now.constants.items) (map (λ w. w.now) words.now.starts.items)) }
     ensures spawn { IfErr result (λ e. e ≡ Spawn → 1 < search.workers) }
 {
     let starts = words.starts.as_slice();
@@ -132,7 +135,8 @@ fn of_template<'a, G: Gate, H: Threads + Wait + Sync>(
     gate: &G,
 ) -> Result<Reply<'a>, PoolFault>
     ensures reply { IfOk result (IsOfTemplate search.json text.now (map (λ w. w.now) words.now)) }
-    ensures sound { IfOk result (OnAnswer (λ a. a.status ≡ 0 → HoldsBy true IsProvenSource text.now)) }
+    ensures sound { IfOk result (OnAnswer
+        (λ a. a.status ≡ 0 → HoldsBy true IsProvenSource text.now)) }
     ensures spawn { IfErr result (λ e. e ≡ Spawn → 1 < search.workers) }
 {
     let split = split_words(alloc, text, words)?;

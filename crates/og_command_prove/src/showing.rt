@@ -42,8 +42,10 @@ fn show_one<'a>(
     requires index { index.now ≡ outline.now }
     requires verdict { IfSome verdict (λ v. IsVerdict (seen condition.now) v.now) }
     requires outline { reach.now.moments.at.outline ≡ outline.now }
-    requires all { reach.now.complete ≡ true → (m : Instant) → IsReachedFrom outline.now (map (λ l. l.items) lists.now) m → IsKnown outline.now reach.now.moments.keys m }
-    ensures { IfOk result (λ s. IsShown outline.now (map (λ l. l.items) lists.now) (seen condition.now) s.told s.run) }
+    requires all { reach.now.complete ≡ true → (m : Instant) → IsReachedFrom outline.now
+        (map (λ l. l.items) lists.now) m → IsKnown outline.now reach.now.moments.keys m }
+    ensures { IfOk result (λ s.
+        IsShown outline.now (map (λ l. l.items) lists.now) (seen condition.now) s.told s.run) }
 {
     let told = told_by(alloc, outline, index, condition, verdict)?;
     let shown = show(alloc, outline, index, lists, reach, condition, told)?;
@@ -65,8 +67,10 @@ pub(crate) fn show_all<'a>(
 ) -> Result<Shows<'a>, AllocError>
     requires verdicts { AreVerdicts (map seen conditions.now) findings.now }
     requires outline { reach.now.moments.at.outline ≡ outline.now }
-    requires all { reach.now.complete ≡ true → (m : Instant) → IsReachedFrom outline.now (map (λ l. l.items) lists.now) m → IsKnown outline.now reach.now.moments.keys m }
-    ensures each { IfOk result (λ s. AreShown outline.now (map (λ l. l.items) lists.now) (map seen conditions.now) s.told.items s.runs.items) }
+    requires all { reach.now.complete ≡ true → (m : Instant) → IsReachedFrom outline.now
+        (map (λ l. l.items) lists.now) m → IsKnown outline.now reach.now.moments.keys m }
+    ensures each { IfOk result (λ s. AreShown outline.now (map (λ l. l.items) lists.now)
+        (map seen conditions.now) s.told.items s.runs.items) }
     ensures told { IfOk result (λ s. length s.told.items ≡ length conditions.now) }
     ensures runs { IfOk result (λ s. length s.runs.items ≡ length conditions.now) }
 {

@@ -33,7 +33,8 @@ fn of_expanded<G: Gate, H: Threads + Wait + Sync>(
     requires text { IsOutlineText own.now }
     requires source { IsSource own.now outline.now }
     ensures answer { IfOk result (IsProvingTemplate search.json template.now) }
-    ensures warrants { IfOk result (λ a. WarrantsBy true search.json template.now a.text.items a.status) }
+    ensures warrants { IfOk result (λ a.
+        WarrantsBy true search.json template.now a.text.items a.status) }
     ensures spawn { IfErr result (λ e. e ≡ Spawn → 1 < search.workers) }
 {
     let texts = Texts {

@@ -79,7 +79,8 @@ fn shown_by_run<'a>(
     requires told { IsTold outline.now (seen condition.now) told }
     requires allowed { IsAllowed outline.now told }
     requires run { IsRun outline.now (map (λ l. l.items) lists.now) (seen condition.now) run }
-    ensures { IfOk result (λ s. IsShown outline.now (map (λ l. l.items) lists.now) (seen condition.now) s.told s.run) }
+    ensures { IfOk result (λ s.
+        IsShown outline.now (map (λ l. l.items) lists.now) (seen condition.now) s.told s.run) }
 {
     match run {
         Run::Reached(witness) => shown_by(alloc, outline, index, condition, witness),
@@ -115,8 +116,10 @@ pub(crate) fn show<'a>(
     requires told { IsTold outline.now (seen condition.now) told }
     requires allowed { IsAllowed outline.now told }
     requires outline { reach.now.moments.at.outline ≡ outline.now }
-    requires all { reach.now.complete ≡ true → (m : Instant) → IsReachedFrom outline.now (map (λ l. l.items) lists.now) m → IsKnown outline.now reach.now.moments.keys m }
-    ensures { IfOk result (λ s. IsShown outline.now (map (λ l. l.items) lists.now) (seen condition.now) s.told s.run) }
+    requires all { reach.now.complete ≡ true → (m : Instant) → IsReachedFrom outline.now
+        (map (λ l. l.items) lists.now) m → IsKnown outline.now reach.now.moments.keys m }
+    ensures { IfOk result (λ s.
+        IsShown outline.now (map (λ l. l.items) lists.now) (seen condition.now) s.told s.run) }
 {
     let Told::False(_) = &told else {
         return Ok(Shown {

@@ -130,7 +130,8 @@ pub(crate) fn first_false(
     values: &State,
     history: &[u32],
 ) -> Result<Option<Vec<u8>>, AllocError>
-    ensures { IfOk result (λ note. IsNote source.now.bytes outline.now values.now history.now (option_map (λ line. line.items) note)) }
+    ensures { IfOk result (λ note. IsNote source.now.bytes outline.now values.now history.now
+        (option_map (λ line. line.items) note)) }
 {
     let Some(found) = first_along(alloc, outline, values, history)? else {
         return Ok(None);
@@ -150,8 +151,10 @@ pub(crate) fn note_on(
     values: &State,
     ended: &Result<Outcome, RunError>,
 ) -> Result<Option<Vec<u8>>, AllocError>
-    ensures note { IfOk ended.now (λ r. IfOk result (λ note. IsNote source.now.bytes outline.now values.now r.history.items (option_map (λ line. line.items) note))) }
-    ensures none { IfErr ended.now (λ _. IfOk result (λ note. option_map (λ line. line.items) note ≡ None)) }
+    ensures note { IfOk ended.now (λ r. IfOk result (λ note. IsNote source.now.bytes outline.now
+        values.now r.history.items (option_map (λ line. line.items) note))) }
+    ensures none { IfErr ended.now
+        (λ _. IfOk result (λ note. option_map (λ line. line.items) note ≡ None)) }
 {
     match ended {
         Ok(outcome) => first_false(alloc, source, outline, values, &outcome.history),

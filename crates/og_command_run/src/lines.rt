@@ -54,7 +54,8 @@ fn put_when(text: &mut Vec<u8>, steps: usize) -> Result<(), AllocError>
 
 // The assertion of a process.
 fn put_assertion(text: &mut Vec<u8>, process: u128) -> Result<(), AllocError>
-    ensures { OnOk result (text.new.items ≡ text.old.items ++ (codes "assertion of " ++ process_text process)) }
+    ensures { OnOk result (text.new.items ≡ text.old.items
+        ++ (codes "assertion of " ++ process_text process)) }
 {
     text.extend_from_slice(b"assertion of ")?;
     put_process(text, process)
@@ -123,7 +124,8 @@ fn put_standing(
     words: &[u8],
     place: Option<u32>,
 ) -> Result<(), AllocError>
-    ensures { OnOk result (text.new.items ≡ text.old.items ++ (process_text process ++ (words.now ++ place_text places.now place))) }
+    ensures { OnOk result (text.new.items ≡ text.old.items
+        ++ (process_text process ++ (words.now ++ place_text places.now place))) }
 {
     put_process(text, u128::from(process))?;
     text.extend_from_slice(words)?;
@@ -138,7 +140,8 @@ fn put_hindrance(
     why: Hindrance,
     place: Option<u32>,
 ) -> Result<(), AllocError>
-    ensures { OnOk result (text.new.items ≡ text.old.items ++ hindrance_text places.now process why place) }
+    ensures { OnOk result (text.new.items ≡ text.old.items
+        ++ hindrance_text places.now process why place) }
 {
     match why {
         Hindrance::NoProcess => put_no_process(text, process),

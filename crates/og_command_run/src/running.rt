@@ -46,7 +46,8 @@ pub(crate) fn of_run(
     outline: &Outline,
     ended: Result<Outcome, RunError>,
 ) -> Result<Answer, PoolFault>
-    ensures outcome { IfOk ended (λ r. IfOk result (Says (outcome_text outline.now r) (finish_status r.finish))) }
+    ensures outcome { IfOk ended (λ r.
+        IfOk result (Says (outcome_text outline.now r) (finish_status r.finish))) }
     ensures refused { IfErr ended (λ e. IfOk result (IsFaultTold e)) }
     ensures spawn { (result ≡ Err Spawn) ↔ (ended ≡ Err (errors.Fault faults.Spawn)) }
 {
@@ -97,7 +98,8 @@ struct Runner<'r, G, H> {
 impl<'r, G: Gate, H: Threads + Wait + Sync> Runner<'r, G, H> {
     // Runs an outline.
     fn run(&self, source: &Source, outline: &Outline, values: State) -> Result<Ran, PoolFault>
-        ensures told { IfOk result (Tells source.now.bytes (given outline.now values self.now.limit)) }
+        ensures told { IfOk result (Tells source.now.bytes
+            (given outline.now values self.now.limit)) }
         ensures spawn { IfErr result (λ e. e ≡ Spawn → start_fault outline.now values ≡ None) }
     {
         let kept = copy_of(self.alloc, &values)?;
@@ -116,8 +118,10 @@ impl<'r, G: Gate, H: Threads + Wait + Sync> Runner<'r, G, H> {
         erased: bool,
         values: State,
     ) -> Result<Ran, PoolFault>
-        ensures told { IfOk result (Tells source.now.bytes (given (program_of erased outline.now) values self.now.limit)) }
-        ensures spawn { IfErr result (λ e. e ≡ Spawn → start_fault (program_of erased outline.now) values ≡ None) }
+        ensures told { IfOk result (Tells source.now.bytes
+            (given (program_of erased outline.now) values self.now.limit)) }
+        ensures spawn { IfErr result
+            (λ e. e ≡ Spawn → start_fault (program_of erased outline.now) values ≡ None) }
     {
         if !erased {
             return self.run(source, outline, values);
@@ -133,7 +137,8 @@ impl<'r, G: Gate, H: Threads + Wait + Sync> Runner<'r, G, H> {
         proved: &Proved<'_>,
         values: State,
     ) -> Result<Ran, PoolFault>
-        ensures told { IfOk result (TellsProved source.now.bytes (given proved.now.0 values self.now.limit) proved.now.1) }
+        ensures told { IfOk result (TellsProved source.now.bytes
+            (given proved.now.0 values self.now.limit) proved.now.1) }
         ensures proven { IsProven proved.now.0 }
         ensures spawn { IfErr result (λ e. e ≡ Spawn → start_fault proved.now.0 values ≡ None) }
     {
@@ -153,8 +158,10 @@ impl<'r, G: Gate, H: Threads + Wait + Sync> Runner<'r, G, H> {
         values: State,
     ) -> Result<Ran, PoolFault>
         requires { outline.now ≡ looked_at findings.now }
-        ensures told { IfOk result (TellsJudged source.now.bytes (found_of findings.now) (given outline.now values self.now.limit)) }
-        ensures spawn { IfErr result (λ e. e ≡ Spawn → (is_safe (found_of findings.now) ≡ true) × (start_fault outline.now values ≡ None)) }
+        ensures told { IfOk result (TellsJudged source.now.bytes (found_of findings.now)
+            (given outline.now values self.now.limit)) }
+        ensures spawn { IfErr result (λ e. e ≡ Spawn → (is_safe (found_of findings.now) ≡ true)
+            × (start_fault outline.now values ≡ None)) }
     {
         match findings.proved(outline) {
             Some(proved) => self.run_proved(source, &proved, values),
@@ -164,8 +171,10 @@ impl<'r, G: Gate, H: Threads + Wait + Sync> Runner<'r, G, H> {
 
     // Judges the outline of a source by the certificates, and runs it where it is safe.
     fn run_by_certs(&self, source: &Source, certs: &[u8], values: State) -> Result<Ran, PoolFault>
-        ensures told { IfOk result (IsRefusedOrJudged source.now.bytes certs.now source.now.outline values self.now.limit) }
-        ensures spawn { IfErr result (λ e. e ≡ Spawn → IsSafeBy certs.now source.now.outline × (start_fault source.now.outline values ≡ None)) }
+        ensures told { IfOk result (IsRefusedOrJudged source.now.bytes certs.now source.now.outline
+            values self.now.limit) }
+        ensures spawn { IfErr result (λ e. e ≡ Spawn → IsSafeBy certs.now source.now.outline
+            × (start_fault source.now.outline values ≡ None)) }
     {
         let outline = source.outline();
         match judge_outline(self.rt, self.alloc, outline, certs, Workers::ONE, &OpenGate) {
@@ -184,8 +193,10 @@ impl<'r, G: Gate, H: Threads + Wait + Sync> Runner<'r, G, H> {
         words: &[&'a str],
         erased: bool,
     ) -> Result<Reply<'a>, PoolFault>
-        ensures told { IfOk result (IsRan erased self.now.limit source.now.bytes (map (λ w. w.now) words.now)) }
-        ensures spawn { IfErr result (λ e. e ≡ Spawn → HasStart erased source.now.bytes (map (λ w. w.now) words.now)) }
+        ensures told { IfOk result (IsRan erased self.now.limit source.now.bytes
+            (map (λ w. w.now) words.now)) }
+        ensures spawn { IfErr result
+            (λ e. e ≡ Spawn → HasStart erased source.now.bytes (map (λ w. w.now) words.now)) }
     {
         let outline = source.outline();
         match values(self.alloc, outline, words) {
@@ -206,8 +217,10 @@ impl<'r, G: Gate, H: Threads + Wait + Sync> Runner<'r, G, H> {
         certs: &[u8],
         words: &[&'a str],
     ) -> Result<Reply<'a>, PoolFault>
-        ensures told { IfOk result (IsRanProved self.now.limit source.now.bytes certs.now (map (λ w. w.now) words.now)) }
-        ensures spawn { IfErr result (λ e. e ≡ Spawn → HasProvedStart source.now.bytes certs.now (map (λ w. w.now) words.now)) }
+        ensures told { IfOk result (IsRanProved self.now.limit source.now.bytes certs.now
+            (map (λ w. w.now) words.now)) }
+        ensures spawn { IfErr result (λ e.
+            e ≡ Spawn → HasProvedStart source.now.bytes certs.now (map (λ w. w.now) words.now)) }
     {
         match values(self.alloc, source.outline(), words) {
             Ok(values) => {
@@ -247,7 +260,8 @@ pub fn ran<'a, G: Gate, H: Threads + Wait + Sync>(
     gate: &G,
 ) -> Result<Reply<'a>, PoolFault>
     ensures told { IfOk result (IsRan erased limit source.now (map (λ w. w.now) words.now)) }
-    ensures spawn { IfErr result (λ e. e ≡ Spawn → HasStart erased source.now (map (λ w. w.now) words.now)) }
+    ensures spawn { IfErr result
+        (λ e. e ≡ Spawn → HasStart erased source.now (map (λ w. w.now) words.now)) }
 {
     let runner = Runner {
         rt,
@@ -284,7 +298,8 @@ pub fn ran_proved<'a, G: Gate, H: Threads + Wait + Sync>(
 ) -> Result<Reply<'a>, PoolFault>
     ensures told { IfOk result (IsRanProved limit source.now certs.now (map (λ w. w.now) words.now)) }
     ensures proven { IfOk result (λ reply. IsOfRun reply → IsProvenSource source.now) }
-    ensures spawn { IfErr result (λ e. e ≡ Spawn → HasProvedStart source.now certs.now (map (λ w. w.now) words.now)) }
+    ensures spawn { IfErr result
+        (λ e. e ≡ Spawn → HasProvedStart source.now certs.now (map (λ w. w.now) words.now)) }
 {
     let runner = Runner {
         rt,

@@ -33,7 +33,8 @@ pub(crate) fn steps_of(alloc: Global, word: &str) -> Result<Option<Vec<u32>>, Al
 
 /// The number in calls of the process that is printed so, where there is one.
 pub(crate) fn process_of(outline: &Outline, step: u32) -> Option<u32>
-    ensures some { IfSome result (λ p. (is_printed outline.now step ≡ true) × (p ≡ number_of outline.now step)) }
+    ensures some { IfSome result
+        (λ p. (is_printed outline.now step ≡ true) × (p ≡ number_of outline.now step)) }
     ensures none { IsNone result → is_printed outline.now step ≡ false }
 {
     outline.follows_rule();
@@ -57,7 +58,8 @@ fn make(board: &mut Board<'_>, outline: &Outline, step: u32) -> Option<Hindrance
     requires free { board.old.halted ≡ None }
     requires room { length board.old.history < board.old.given.limit }
     ensures given { board.new.given ≡ board.old.given }
-    ensures made { IfNone result ((board.new.history ≡ board.old.history ++ number_of outline.now step ∷ []) × (board.new.halted ≡ None)) }
+    ensures made { IfNone result ((board.new.history ≡ board.old.history
+        ++ number_of outline.now step ∷ []) × (board.new.halted ≡ None)) }
     ensures history { IfSome result (λ _. board.new.history ≡ board.old.history) }
     ensures hindered { IfSome result (IsHindered board.old.given board.old.history step) }
 {

@@ -53,7 +53,8 @@ fn all_made(
     requires outline { board.given.outline ≡ outline.now }
     requires values { board.given.values ≡ values.now }
     requires full { board.given.limit ≤ length board.history }
-    ensures { IfOk result (EndsAsked (λ outcome. outcome.history.items ≡ board.entry.history) source.now.bytes board.entry.given) }
+    ensures { IfOk result (EndsAsked (λ outcome. outcome.history.items ≡ board.entry.history)
+        source.now.bytes board.entry.given) }
 {
     board.history();
     let outcome = board.outcome(alloc)?;
@@ -86,7 +87,8 @@ fn step_place(
     moment: &Moment,
     process: u32,
 ) -> Result<Option<u32>, AllocError>
-    ensures { IfOk result (λ place. IfSome place (IsStatementPlace outline.now (number_of outline.now process))) }
+    ensures { IfOk result (λ place.
+        IfSome place (IsStatementPlace outline.now (number_of outline.now process))) }
 {
     match process_of(outline, process) {
         Some(p) => next_place(alloc, outline, moment, p),
@@ -104,7 +106,8 @@ fn not_made(
     process: u32,
     why: Hindrance,
 ) -> Result<Vec<u8>, AllocError>
-    ensures { IfOk result (λ line. TellsHindrance source.now.bytes outline.now made process why line.items) }
+    ensures { IfOk result (λ line.
+        TellsHindrance source.now.bytes outline.now made process why line.items) }
 {
     let place = step_place(alloc, outline, moment, process)?;
     let line = not_made_line(alloc, source.bytes(), made, process, why, place)?;
@@ -120,7 +123,8 @@ fn stepped<'a>(
     values: State,
 ) -> Result<Reply<'a>, AllocError>
     requires { length steps.now ≤ 1000000 }
-    ensures { IfOk result (IsStepped source.now.bytes (given outline.now values (length steps.now)) steps.now) }
+    ensures { IfOk result (IsStepped source.now.bytes (given outline.now values (length steps.now))
+        steps.now) }
 {
     let kept = copy_of(alloc, &values)?;
     let mut board = match Board::begin(alloc, outline, values, steps.len() as u32) {
@@ -151,7 +155,8 @@ fn stepped_program<'a>(
     values: State,
 ) -> Result<Reply<'a>, AllocError>
     requires { length steps.now ≤ 1000000 }
-    ensures { IfOk result (IsStepped source.now.bytes (given (program_of erased source.now.outline) values (length steps.now)) steps.now) }
+    ensures { IfOk result (IsStepped source.now.bytes
+        (given (program_of erased source.now.outline) values (length steps.now)) steps.now) }
 {
     let outline = source.outline();
     if !erased {
@@ -169,7 +174,8 @@ fn followed<'a>(
     erased: bool,
     values: State,
 ) -> Result<Reply<'a>, AllocError>
-    ensures { IfOk result (Follows source.now.bytes schedule.now (program_of erased source.now.outline) values) }
+    ensures { IfOk result (Follows source.now.bytes schedule.now
+        (program_of erased source.now.outline) values) }
 {
     let Some(steps) = steps_of(alloc, schedule)? else {
         return Ok(Reply::BadValue(schedule));
@@ -185,7 +191,8 @@ fn scheduled<'a>(
     schedule: &'a str,
     erased: bool,
 ) -> Result<Reply<'a>, AllocError>
-    ensures { IfOk result (IsScheduled erased source.now.bytes (map (λ w. w.now) words.now) schedule.now) }
+    ensures { IfOk result (IsScheduled erased source.now.bytes (map (λ w. w.now) words.now)
+        schedule.now) }
 {
     match values(alloc, source.outline(), words) {
         Ok(values) => followed(alloc, source, schedule, erased, values),

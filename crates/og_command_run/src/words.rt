@@ -87,8 +87,10 @@ fn given<'a>(
     vars: usize,
     words: &[&'a str],
 ) -> Result<Vec<Option<i64>>, WordsError<'a>>
-    ensures given { IfOk result (λ v. Reads names.now (replicate vars None) (map (λ w. w.now) words.now) (Ok v.items)) }
-    ensures bad { IfErr result (IsBadOr (λ w. Reads names.now (replicate vars None) (map (λ w. w.now) words.now) (Err w))) }
+    ensures given { IfOk result (λ v.
+        Reads names.now (replicate vars None) (map (λ w. w.now) words.now) (Ok v.items)) }
+    ensures bad { IfErr result (IsBadOr
+        (λ w. Reads names.now (replicate vars None) (map (λ w. w.now) words.now) (Err w))) }
 {
     let mut given = Vec::from_elem(alloc, None, vars)?;
     for word in words {

@@ -33,7 +33,8 @@ fn add_blocked<'a>(parts: &mut Vec<Vec<Part<'a>>>, items: &[&'a Item]) -> Result
 
 // The awaits of all processes.
 fn all_blocked<'a>(alloc: Global, processes: &'a [Seq]) -> Result<Vec<Vec<Part<'a>>>, AllocError>
-    ensures { IfOk result (λ parts. map parts_of parts.items ≡ flat_map plain.blocked (map sequence processes.now)) }
+    ensures { IfOk result (λ parts.
+        map parts_of parts.items ≡ flat_map plain.blocked (map sequence processes.now)) }
 {
     let mut parts = Vec::new(alloc);
     for process in processes {
@@ -62,7 +63,8 @@ pub(crate) fn blocked_hypotheses<'a>(
     alloc: Global,
     processes: &'a [Seq],
 ) -> Result<Vec<Hypothesis<'a>>, AllocError>
-    ensures { IfOk result (λ hs. map hypothesis_of hs.items ≡ plain.blocked_hypotheses (map sequence processes.now)) }
+    ensures { IfOk result (λ hs.
+        map hypothesis_of hs.items ≡ plain.blocked_hypotheses (map sequence processes.now)) }
 {
     let mut hypotheses = Vec::new(alloc);
     for process in processes {

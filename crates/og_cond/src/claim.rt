@@ -17,7 +17,8 @@ impl<'a> Condition<'a> {
         hypotheses: Vec<Hypothesis<'a>>,
         goal: Goal<'a>,
     ) -> Condition<'a>
-        ensures { seen result ≡ claim kind at variables (map hypothesis_of hypotheses.entry.items) None (goal_of goal.entry) }
+        ensures { seen result ≡ claim kind at variables (map hypothesis_of hypotheses.entry.items)
+            None (goal_of goal.entry) }
     {
         Condition {
             kind,
@@ -39,7 +40,8 @@ impl<'a> Condition<'a> {
         action: Action<'a>,
         goal: Goal<'a>,
     ) -> Condition<'a>
-        ensures { seen result ≡ claim kind at variables (map hypothesis_of hypotheses.entry.items) (Some (action_tree action.entry)) (goal_of goal.entry) }
+        ensures { seen result ≡ claim kind at variables (map hypothesis_of hypotheses.entry.items)
+            (Some (action_tree action.entry)) (goal_of goal.entry) }
     {
         Condition {
             kind,

@@ -127,7 +127,8 @@ fn left_after_all_hits(room: usize, processes: &[Seq], set: &VarSet) -> Option<u
 
 // The actions of the others that may break the assertion.
 fn left_after_note(room: usize, note: &Note, earlier: &[Seq], later: &[Seq]) -> Option<usize>
-    ensures { Leaves room (note_count (map sequence earlier.now ++ map sequence later.now) (noted note.now)) result }
+    ensures { Leaves room (note_count (map sequence earlier.now ++ map sequence later.now)
+        (noted note.now)) result }
 {
     let set = variables_of(&note.assertion);
     let left = left_after_all_hits(room, earlier, &set)?;
@@ -138,7 +139,8 @@ fn left_after_note(room: usize, note: &Note, earlier: &[Seq], later: &[Seq]) -> 
 #[cycle(breaks)]
 #[tactic(auto, using(crate::proofs::Counts::more_breaks, crate::proofs::Counts::whole_breaks, crate::proofs::Counts::no_breaks))]
 fn left_after_seq_breaks(room: usize, seq: &Seq, earlier: &[Seq], later: &[Seq]) -> Option<usize>
-    ensures { Leaves room (seq_breaks (map sequence earlier.now ++ map sequence later.now) (sequence seq.now)) result }
+    ensures { Leaves room (seq_breaks (map sequence earlier.now ++ map sequence later.now)
+        (sequence seq.now)) result }
 {
     let mut left = room;
     for item in &seq.items {
@@ -151,7 +153,8 @@ fn left_after_seq_breaks(room: usize, seq: &Seq, earlier: &[Seq], later: &[Seq])
 // Of the statements in a statement.
 #[cycle(breaks)]
 fn left_after_stmt_breaks(room: usize, stmt: &Stmt, earlier: &[Seq], later: &[Seq]) -> Option<usize>
-    ensures { Leaves room (stmt_breaks (map sequence earlier.now ++ map sequence later.now) (statement stmt.now)) result }
+    ensures { Leaves room (stmt_breaks (map sequence earlier.now ++ map sequence later.now)
+        (statement stmt.now)) result }
 {
     match stmt {
         Stmt::Skip | Stmt::Assign(..) | Stmt::Await(..) => Some(room),
@@ -168,7 +171,8 @@ fn left_after_stmt_breaks(room: usize, stmt: &Stmt, earlier: &[Seq], later: &[Se
 
 // Of each assertion of a process that others may break.
 fn left_after_process(room: usize, process: &Seq, earlier: &[Seq], later: &[Seq]) -> Option<usize>
-    ensures { Leaves room (process_breaks (map sequence earlier.now ++ map sequence later.now) (sequence process.now)) result }
+    ensures { Leaves room (process_breaks (map sequence earlier.now ++ map sequence later.now)
+        (sequence process.now)) result }
 {
     let left = left_after_seq_breaks(room, process, earlier, later)?;
     left_after_note(left, process.last(), earlier, later)

@@ -15,7 +15,8 @@ use std::alloc::{AllocError, Global};
 
 // Whether the action assigns a variable that occurs in the assertion.
 fn may_break(action: &Move, watched: &Watched) -> bool
-    ensures { result ≡ crosses (action_body action.now.action) (formula watched.now.note.now.assertion) }
+    ensures { result ≡ crosses (action_body action.now.action)
+        (formula watched.now.note.now.assertion) }
 {
     action.assigned.meets(&watched.variables)
 }

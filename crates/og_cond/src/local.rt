@@ -119,7 +119,8 @@ struct Block<'a> {
 // The assertion that follows item number `index`.
 fn after<'a>(seq: &'a Seq, index: usize) -> &'a Note
     requires { index < length (out-Seq seq.now).items.items }
-    ensures { noted result.now ≡ first_or (drop (index + 1) (out-Seq seq.now).items.items) (noted (out-Seq seq.now).last) }
+    ensures { noted result.now
+        ≡ first_or (drop (index + 1) (out-Seq seq.now).items.items) (noted (out-Seq seq.now).last) }
 {
     match seq.items.get(index + 1) {
         Some(item) => &item.before,
@@ -135,7 +136,8 @@ pub(crate) fn add_seq<'a>(
     variables: u32,
     seq: &'a Seq,
 ) -> Result<(), AllocError>
-    ensures { OnOk result (Adds conditions.old conditions.new (seq_conditions variables (sequence seq.now))) }
+    ensures { OnOk result (Adds conditions.old conditions.new
+        (seq_conditions variables (sequence seq.now))) }
 {
     for index in 0..seq.items.len() {
         let item = &seq.items[index];

@@ -11,7 +11,8 @@ use std::alloc::{AllocError, Global};
 #[cycle(pieces)]
 #[tactic(auto, using(crate::proofs::PieceItems::more_pieces, crate::proofs::PieceItems::whole_pieces, crate::proofs::PieceItems::no_pieces))]
 fn add_seq<'a>(items: &mut Vec<&'a Item>, seq: &'a Seq) -> Result<(), AllocError>
-    ensures { OnOk result (map piece_of items.new.items ≡ map piece_of items.old.items ++ pieces (sequence seq.now)) }
+    ensures { OnOk result (map piece_of items.new.items ≡ map piece_of items.old.items
+        ++ pieces (sequence seq.now)) }
 {
     for item in &seq.items {
         items.push(item)?;
@@ -23,7 +24,8 @@ fn add_seq<'a>(items: &mut Vec<&'a Item>, seq: &'a Seq) -> Result<(), AllocError
 // The statements in a statement.
 #[cycle(pieces)]
 fn add_stmt<'a>(items: &mut Vec<&'a Item>, stmt: &'a Stmt) -> Result<(), AllocError>
-    ensures { OnOk result (map piece_of items.new.items ≡ map piece_of items.old.items ++ pieces_of_stmt (statement stmt.now)) }
+    ensures { OnOk result (map piece_of items.new.items ≡ map piece_of items.old.items
+        ++ pieces_of_stmt (statement stmt.now)) }
 {
     match stmt {
         Stmt::Skip | Stmt::Assign(..) | Stmt::Await(..) => Ok(()),

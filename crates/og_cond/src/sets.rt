@@ -13,7 +13,8 @@ use og_typed::{Assert, Basic};
 
 // Adds the variables of a form.
 fn add_form(set: &mut VarSet, form: &Form)
-    ensures { (x : ℕ) → has set.new x ≡ (nat_lt x 256 && is_term x form.now.terms || has set.old x) }
+    ensures { (x : ℕ) → has set.new x
+        ≡ (nat_lt x 256 && is_term x form.now.terms || has set.old x) }
 {
     let mut index = 0;
     while let Some((var, _)) = form.term(index) {

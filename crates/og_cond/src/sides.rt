@@ -101,7 +101,8 @@ fn gathered<'a>(alloc: Global, process: &'a Seq) -> Result<Side<'a>, AllocError>
 
 /// The actions and the assertions of each process.
 pub(crate) fn sides_of<'a>(alloc: Global, processes: &'a [Seq]) -> Result<Vec<Side<'a>>, AllocError>
-    ensures { IfOk result (λ sides. map side_seen sides.items ≡ map side_of (map sequence processes.now)) }
+    ensures { IfOk result (λ sides.
+        map side_seen sides.items ≡ map side_of (map sequence processes.now)) }
 {
     let mut sides = Vec::new(alloc);
     for process in processes {

@@ -44,7 +44,8 @@ fn start_hypotheses<'a>(
     alloc: Global,
     outline: &'a Outline,
 ) -> Result<Vec<Hypothesis<'a>>, AllocError>
-    ensures { IfOk result (λ hs. map hypothesis_of hs.items ≡ plain.start_hypotheses outline.now outline.now.prologue) }
+    ensures { IfOk result (λ hs.
+        map hypothesis_of hs.items ≡ plain.start_hypotheses outline.now outline.now.prologue) }
 {
     match outline.prologue() {
         Some(part) => {
@@ -124,7 +125,8 @@ fn last_hypotheses<'a>(
     alloc: Global,
     processes: &'a [Seq],
 ) -> Result<Vec<Hypothesis<'a>>, AllocError>
-    ensures { IfOk result (λ hs. map hypothesis_of hs.items ≡ plain.last_hypotheses (map sequence processes.now)) }
+    ensures { IfOk result (λ hs.
+        map hypothesis_of hs.items ≡ plain.last_hypotheses (map sequence processes.now)) }
 {
     let mut hypotheses = Vec::with_capacity(alloc, processes.len())?;
     for process in processes {
@@ -140,7 +142,8 @@ fn add_end<'a>(
     outline: &'a Outline,
 ) -> Result<(), AllocError>
     requires { variables ≡ length outline.now.names }
-    ensures { OnOk result (Adds conditions.old conditions.new (plain.end_condition outline.now ∷ [])) }
+    ensures { OnOk result (Adds conditions.old conditions.new
+        (plain.end_condition outline.now ∷ [])) }
 {
     let note: &Note = match outline.epilogue() {
         Some(part) => part.first(),
@@ -189,7 +192,8 @@ fn add_blocking<'a>(
     outline: &'a Outline,
 ) -> Result<(), AllocError>
     requires { variables ≡ length outline.now.names }
-    ensures { OnOk result (Adds conditions.old conditions.new (plain.blocking_condition outline.now ∷ [])) }
+    ensures { OnOk result (Adds conditions.old conditions.new
+        (plain.blocking_condition outline.now ∷ [])) }
 {
     let hypotheses = blocked_hypotheses(*conditions.allocator(), outline.processes())?;
     let at = outline.cobegin_at();

@@ -56,7 +56,8 @@ pub(crate) fn assertion(alloc: Global, names: &[Name], a: &Assert) -> Result<Raw
 #[cycle(assertions)]
 fn boxed(alloc: Global, names: &[Name], a: &Assert) -> Result<Box<RawAssert>, AllocError>
     requires { IsUsable (length names.now) (formula a.now) }
-    ensures { IfOk result (λ b. assertion_of b.value ≡ collected.assertion names.now (formula a.now)) }
+    ensures { IfOk result (λ b.
+        assertion_of b.value ≡ collected.assertion names.now (formula a.now)) }
 {
     let a = assertion(alloc, names, a)?;
     Ok(Box::new(alloc, a)?)
@@ -64,7 +65,8 @@ fn boxed(alloc: Global, names: &[Name], a: &Assert) -> Result<Box<RawAssert>, Al
 
 #[cycle(assertions)]
 fn assertions(alloc: Global, names: &[Name], all: &[Assert]) -> Result<Vec<RawAssert>, AllocError>
-    requires { each_form_in (is_usable_form (length names.now)) (formula_list (map formula all.now)) ≡ true }
+    requires { each_form_in (is_usable_form (length names.now)) (formula_list (map formula all.now))
+        ≡ true }
     ensures { IfOk result (λ v. listed (map assertion_of v.items)
         ≡ collected.assertions names.now (formula_list (map formula all.now))) }
 {

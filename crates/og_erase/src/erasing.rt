@@ -12,7 +12,8 @@ use std::alloc::{AllocError, Global};
 
 // The statements of an await that assign no auxiliary.
 fn body(alloc: Global, vars: u32, body: &[Basic]) -> Result<Vec<Basic>, AllocError>
-    ensures { IfOk result (λ v. map plain.simple v.items ≡ filter (erase.is_kept vars) (map plain.simple body.now)) }
+    ensures { IfOk result (λ v.
+        map plain.simple v.items ≡ filter (erase.is_kept vars) (map plain.simple body.now)) }
 {
     let mut kept = Vec::new(alloc);
     for basic in body {
@@ -45,7 +46,8 @@ fn is_aux_assign(vars: u32, stmt: &Stmt) -> bool
 // The sequence without the assignments to auxiliaries, in a box.
 #[cycle(sequences)]
 fn block(alloc: Global, vars: u32, seq: &Seq) -> Result<Box<Seq>, AllocError>
-    ensures { IfOk result (λ b. plain.sequence b.value ≡ erase.erase_seq vars (plain.sequence seq.now)) }
+    ensures { IfOk result (λ b.
+        plain.sequence b.value ≡ erase.erase_seq vars (plain.sequence seq.now)) }
 {
     let seq = sequence(alloc, vars, seq)?;
     Ok(Box::new(alloc, seq)?)
@@ -59,7 +61,8 @@ fn guarded(
     seq: &Seq,
     test: &Assert,
 ) -> Result<(Box<Seq>, Assert), AllocError>
-    ensures seq { IfOk result (λ p. plain.sequence p.0.value ≡ erase.erase_seq vars (plain.sequence seq.now)) }
+    ensures seq { IfOk result (λ p.
+        plain.sequence p.0.value ≡ erase.erase_seq vars (plain.sequence seq.now)) }
     ensures test { IfOk result (λ p. plain.formula p.1 ≡ plain.formula test.now) }
 {
     let block = block(alloc, vars, seq)?;
@@ -69,7 +72,8 @@ fn guarded(
 // The statement without the assignments to auxiliaries inside it.
 #[cycle(sequences)]
 fn statement(alloc: Global, vars: u32, stmt: &Stmt) -> Result<Stmt, AllocError>
-    ensures { IfOk result (λ s. plain.statement s ≡ erase.erase_stmt vars (plain.statement stmt.now)) }
+    ensures { IfOk result (λ s.
+        plain.statement s ≡ erase.erase_stmt vars (plain.statement stmt.now)) }
 {
     match stmt {
         Stmt::Skip => Ok(Stmt::Skip),
@@ -128,7 +132,8 @@ fn part(alloc: Global, vars: u32, whole: Option<&Seq>) -> Result<Option<Seq>, Al
 }
 
 fn processes(alloc: Global, vars: u32, all: &[Seq]) -> Result<Vec<Seq>, AllocError>
-    ensures { IfOk result (λ v. map plain.sequence v.items ≡ map (erase.erase_seq vars) (map plain.sequence all.now)) }
+    ensures { IfOk result (λ v.
+        map plain.sequence v.items ≡ map (erase.erase_seq vars) (map plain.sequence all.now)) }
 {
     let mut processes = Vec::new(alloc);
     for process in all {
@@ -146,9 +151,12 @@ struct Main {
 }
 
 fn main_part(alloc: Global, vars: u32, outline: &Outline) -> Result<Main, AllocError>
-    ensures prologue { IfOk result (λ m. option_map plain.sequence m.prologue ≡ option_map (erase.erase_seq vars) outline.now.prologue) }
-    ensures processes { IfOk result (λ m. map plain.sequence m.processes.items ≡ map (erase.erase_seq vars) outline.now.processes) }
-    ensures epilogue { IfOk result (λ m. option_map plain.sequence m.epilogue ≡ option_map (erase.erase_seq vars) outline.now.epilogue) }
+    ensures prologue { IfOk result (λ m. option_map plain.sequence m.prologue
+        ≡ option_map (erase.erase_seq vars) outline.now.prologue) }
+    ensures processes { IfOk result (λ m.
+        map plain.sequence m.processes.items ≡ map (erase.erase_seq vars) outline.now.processes) }
+    ensures epilogue { IfOk result (λ m. option_map plain.sequence m.epilogue
+        ≡ option_map (erase.erase_seq vars) outline.now.epilogue) }
 {
     let prologue = part(alloc, vars, outline.prologue())?;
     let processes = processes(alloc, vars, outline.processes())?;

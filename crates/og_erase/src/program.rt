@@ -48,7 +48,8 @@ fn declared(alloc: Global, names: &[Name]) -> Result<Vec<RawName>, AllocError>
 
 // A part of the main process, where there is one.
 fn part(alloc: Global, names: &[Name], whole: Option<&Seq>) -> Result<Option<RawSeq>, AllocError>
-    requires { IfSome (option_map (λ seq. plain.sequence seq.now) whole) (IsUsableSequence (length names.now)) }
+    requires { IfSome (option_map (λ seq. plain.sequence seq.now) whole)
+        (IsUsableSequence (length names.now)) }
     ensures { IfOk result (λ q. option_map seq_of q
         ≡ option_map (collected.sequence names.now) (option_map (λ seq. plain.sequence seq.now) whole.entry)) }
 {
@@ -60,7 +61,8 @@ fn part(alloc: Global, names: &[Name], whole: Option<&Seq>) -> Result<Option<Raw
 
 fn sequences(alloc: Global, names: &[Name], all: &[Seq]) -> Result<Vec<RawSeq>, AllocError>
     requires { AllByRecursion (IsUsableSequence (length names.now)) (map plain.sequence all.now) }
-    ensures { IfOk result (λ v. map seq_of v.items ≡ map (collected.sequence names.now) (map plain.sequence all.now)) }
+    ensures { IfOk result (λ v.
+        map seq_of v.items ≡ map (collected.sequence names.now) (map plain.sequence all.now)) }
 {
     let mut sequences = Vec::new(alloc);
     for process in all {
@@ -71,8 +73,10 @@ fn sequences(alloc: Global, names: &[Name], all: &[Seq]) -> Result<Vec<RawSeq>, 
 
 fn processes(alloc: Global, names: &[Name], all: &[Seq]) -> Result<RawProcesses, AllocError>
     requires some { 0 < length all.now }
-    requires usable { AllByRecursion (IsUsableSequence (length names.now)) (map plain.sequence all.now) }
-    ensures { IfOk result (λ p. seqs_of p ≡ map (collected.sequence names.now) (map plain.sequence all.now)) }
+    requires usable { AllByRecursion (IsUsableSequence (length names.now))
+        (map plain.sequence all.now) }
+    ensures { IfOk result (λ p.
+        seqs_of p ≡ map (collected.sequence names.now) (map plain.sequence all.now)) }
 {
     match all {
         [first, others @ ..] => Ok(RawProcesses {

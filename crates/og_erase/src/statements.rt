@@ -63,8 +63,10 @@ fn guarded(
 ) -> Result<(RawSeq, RawAssert), AllocError>
     requires seq { IsUsableSequence (length names.now) (plain.sequence seq.now) }
     requires test { IsUsable (length names.now) (plain.formula test.now) }
-    ensures seq { IfOk result (λ p. seq_of p.0 ≡ collected.sequence names.now (plain.sequence seq.now)) }
-    ensures test { IfOk result (λ p. assertion_of p.1 ≡ collected.assertion names.now (plain.formula test.now)) }
+    ensures seq { IfOk result (λ p.
+        seq_of p.0 ≡ collected.sequence names.now (plain.sequence seq.now)) }
+    ensures test { IfOk result (λ p.
+        assertion_of p.1 ≡ collected.assertion names.now (plain.formula test.now)) }
 {
     let seq = sequence(alloc, names, seq)?;
     Ok((seq, assertion(alloc, names, test)?))
@@ -73,7 +75,8 @@ fn guarded(
 #[cycle(statements)]
 fn statement(alloc: Global, names: &[Name], stmt: &Stmt) -> Result<RawStmt, AllocError>
     requires { IsUsableStatement (length names.now) (plain.statement stmt.now) }
-    ensures { IfOk result (λ s. stmt_of s ≡ collected.statement names.now (plain.statement stmt.now)) }
+    ensures { IfOk result (λ s.
+        stmt_of s ≡ collected.statement names.now (plain.statement stmt.now)) }
 {
     match stmt {
         Stmt::Skip => Ok(RawStmt::Basic(RawBasic::Skip)),

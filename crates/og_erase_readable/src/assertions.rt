@@ -31,7 +31,8 @@ pub(crate) fn assertion(alloc: Global, a: &RawAssert) -> Result<RawAssert, Alloc
 // An assertion, in a box.
 #[cycle(assertions)]
 fn boxed(alloc: Global, a: &RawAssert) -> Result<Box<RawAssert>, AllocError>
-    ensures { IfOk result (λ b. assertion_of b.value ≡ wanted.readable_assertion (assertion_of a.now)) }
+    ensures { IfOk result (λ b.
+        assertion_of b.value ≡ wanted.readable_assertion (assertion_of a.now)) }
 {
     let a = assertion(alloc, a)?;
     Ok(Box::new(alloc, a)?)
@@ -39,7 +40,8 @@ fn boxed(alloc: Global, a: &RawAssert) -> Result<Box<RawAssert>, AllocError>
 
 #[cycle(assertions)]
 fn assertions(alloc: Global, all: &[RawAssert]) -> Result<Vec<RawAssert>, AllocError>
-    ensures { IfOk result (λ v. listed (map assertion_of v.items) ≡ wanted.readable_assertions (listed (map assertion_of all.now))) }
+    ensures { IfOk result (λ v. listed (map assertion_of v.items)
+        ≡ wanted.readable_assertions (listed (map assertion_of all.now))) }
 {
     let mut out = Vec::new(alloc);
     for a in all {

@@ -17,7 +17,8 @@ use std::alloc::{AllocError, Global};
 
 // A part of the main process, where there is one.
 fn part(alloc: Global, whole: &Option<RawSeq>) -> Result<Option<RawSeq>, AllocError>
-    ensures { IfOk result (λ q. option_map seq_of q ≡ option_map wanted.readable_seq (option_map seq_of whole.now)) }
+    ensures { IfOk result (λ q.
+        option_map seq_of q ≡ option_map wanted.readable_seq (option_map seq_of whole.now)) }
 {
     match whole {
         None => Ok(None),
@@ -55,7 +56,8 @@ fn processes(alloc: Global, all: &RawProcesses) -> Result<RawProcesses, AllocErr
 #[tactic(auto, using(crate::proofs::Resolve::same_outline))]
 pub fn readable(alloc: Global, raw: Raw) -> Result<Raw, AllocError>
     ensures made { IfOk result (λ made. tree_of made ≡ wanted.readable (tree_of raw)) }
-    ensures same { (o : typed.Program) → resolved (tree_of raw) ≡ Ok o → IfOk result (λ made. resolved (tree_of made) ≡ Ok o) }
+    ensures same { (o : typed.Program) → resolved (tree_of raw) ≡ Ok o
+        → IfOk result (λ made. resolved (tree_of made) ≡ Ok o) }
 {
     let prologue = part(alloc, &raw.prologue)?;
     let processes = processes(alloc, &raw.processes)?;
@@ -82,8 +84,10 @@ pub fn readable(alloc: Global, raw: Raw) -> Result<Raw, AllocError>
 /// Only where an allocation was refused.
 #[tactic(auto, using(crate::proofs::Resolve::same_outline))]
 pub fn print_readable(alloc: Global, program: &Program) -> Result<Vec<u8>, AllocError>
-    ensures text { IfOk result (λ text. text.items ≡ program_text (wanted.readable (raw_of program.now))) }
-    ensures same { (o : typed.Program) → resolved (raw_of program.now) ≡ Ok o → resolved (wanted.readable (raw_of program.now)) ≡ Ok o }
+    ensures text { IfOk result (λ text.
+        text.items ≡ program_text (wanted.readable (raw_of program.now))) }
+    ensures same { (o : typed.Program) → resolved (raw_of program.now) ≡ Ok o
+        → resolved (wanted.readable (raw_of program.now)) ≡ Ok o }
 {
     let collected = program.raw(alloc)?;
     let made = readable(alloc, collected)?;

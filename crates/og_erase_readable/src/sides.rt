@@ -127,7 +127,8 @@ fn staying(alloc: Global, some: bool, terms: &[RawTerm]) -> Result<Vec<RawTerm>,
 
 // The terms that do not stay, turned.
 fn moving(alloc: Global, some: bool, terms: &[RawTerm]) -> Result<Vec<RawTerm>, AllocError>
-    ensures { IfOk result (λ v. v.items ≡ map wanted.turned (filter (λ t. not (wanted.stays some t)) terms.now)) }
+    ensures { IfOk result (λ v.
+        v.items ≡ map wanted.turned (filter (λ t. not (wanted.stays some t)) terms.now)) }
 {
     let mut out = Vec::new(alloc);
     for term in terms {
@@ -200,7 +201,8 @@ fn parted(
     terms: &[RawTerm],
     right: &RawSum,
 ) -> Result<RawAssert, AllocError>
-    ensures { IfOk result (λ a. assertion_of a ≡ wanted.parted (sum_of left.now) relation terms.now (sum_of right.now)) }
+    ensures { IfOk result (λ a.
+        assertion_of a ≡ wanted.parted (sum_of left.now) relation terms.now (sum_of right.now)) }
 {
     let added = RawSum {
         terms: left_side(alloc, terms)?,
@@ -219,7 +221,8 @@ fn copied(
     relation: Relation,
     right: &RawSum,
 ) -> Result<RawAssert, AllocError>
-    ensures { IfOk result (λ a. assertion_of a ≡ Comparison (sum_of left.now) relation (sum_of right.now)) }
+    ensures { IfOk result (λ a.
+        assertion_of a ≡ Comparison (sum_of left.now) relation (sum_of right.now)) }
 {
     let left = copy_sum(alloc, left)?;
     Ok(RawAssert::Compare(left, relation, copy_sum(alloc, right)?))
@@ -231,7 +234,8 @@ pub(crate) fn comparison(
     relation: Relation,
     right: &RawSum,
 ) -> Result<RawAssert, AllocError>
-    ensures { IfOk result (λ a. assertion_of a ≡ wanted.readable_comparison (sum_of left.now) relation (sum_of right.now)) }
+    ensures { IfOk result (λ a.
+        assertion_of a ≡ wanted.readable_comparison (sum_of left.now) relation (sum_of right.now)) }
 {
     if !is_zero(&right.terms) {
         return copied(alloc, left, relation, right);

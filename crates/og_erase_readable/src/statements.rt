@@ -46,7 +46,8 @@ fn statement(alloc: Global, stmt: &RawStmt) -> Result<RawStmt, AllocError>
 
 #[cycle(sequences)]
 fn items(alloc: Global, all: &[RawItem], last: &RawNote) -> Result<RawSeq, AllocError>
-    ensures { IfOk result (λ q. seq_of q ≡ wanted.readable_seq (items_then (map item_of all.now) (finish (note_of last.now)))) }
+    ensures { IfOk result (λ q. seq_of q
+        ≡ wanted.readable_seq (items_then (map item_of all.now) (finish (note_of last.now)))) }
 {
     let mut items = Vec::new(alloc);
     for item in all {

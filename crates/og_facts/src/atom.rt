@@ -85,7 +85,8 @@ impl<'a> Atom<'a> {
 
     /// The form and 1. Takes no memory.
     pub(crate) fn next(form: &'a Form) -> Result<Atom<'a>, FormError>
-        ensures answer { IsAnswer (λ a. a) faults.TooLarge result (checked (plain.plus_one form.now)) }
+        ensures answer { IsAnswer (λ a. a) faults.TooLarge result
+            (checked (plain.plus_one form.now)) }
         ensures memory { OnMemory result ⊥ }
     {
         form.numbers_fit();
@@ -98,7 +99,8 @@ impl<'a> Atom<'a> {
 
     // The form negated, with this constant.
     fn with_negated(form: &'a Form, constant: i128) -> Result<Atom<'a>, FormError>
-        ensures answer { IsAnswer (λ a. a) faults.TooLarge result (checked (form_value (scale_terms (negsuc 0) form.now.terms) constant)) }
+        ensures answer { IsAnswer (λ a. a) faults.TooLarge result
+            (checked (form_value (scale_terms (negsuc 0) form.now.terms) constant)) }
         ensures memory { OnMemory result ⊥ }
     {
         form.numbers_fit();
@@ -123,7 +125,8 @@ impl<'a> Atom<'a> {
 
     /// 1 less the form. Takes no memory.
     pub(crate) fn beyond(form: &'a Form) -> Result<Atom<'a>, FormError>
-        ensures answer { IsAnswer (λ a. a) faults.TooLarge result (checked (plain.plus_one (plain.negated form.now))) }
+        ensures answer { IsAnswer (λ a. a) faults.TooLarge result
+            (checked (plain.plus_one (plain.negated form.now))) }
         ensures memory { OnMemory result ⊥ }
     {
         let constant = difference(1, form.offset())?;

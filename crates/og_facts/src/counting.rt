@@ -55,7 +55,8 @@ fn left_after_all(room: usize, is_true: bool, all: &[Assert]) -> Option<usize>
 #[cycle(counting)]
 #[tactic(auto, using(crate::proofs::Counted::split_single, crate::proofs::Counted::split_others))]
 fn left_after_some(room: usize, is_true: bool, all: &[Assert]) -> Option<usize>
-    ensures { Leaves room (split_count (counts_each is_true (formula_list (map formula all.now)))) result }
+    ensures { Leaves room (split_count (counts_each is_true (formula_list (map formula all.now))))
+        result }
 {
     if all.len() == 1 {
         left_after_assertion(room, is_true, &all[0])

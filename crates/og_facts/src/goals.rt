@@ -46,7 +46,8 @@ fn part_above<'a>(alloc: Global, bound: &Form) -> Result<Vec<Fact<'a>>, FormErro
 
 // For each value that it is too low, and that it is too high.
 fn parts_of_values<'a>(alloc: Global, values: &[Form]) -> Result<Vec<Vec<Fact<'a>>>, FormError>
-    ensures { IsAnswer (λ parts. map shown parts.items) faults.TooLarge result (walk_values values.now) }
+    ensures { IsAnswer (λ parts. map shown parts.items) faults.TooLarge result
+        (walk_values values.now) }
 {
     let mut parts = Vec::new(alloc);
     for value in values {

@@ -60,7 +60,8 @@ fn add_lists<'a>(facts: &mut Vec<Fact<'a>>, lists: &[Vec<Part<'a>>]) -> Result<(
 
 // The variable less the value.
 fn difference(alloc: Global, var: u32, value: i64) -> Result<Form, FormError>
-    ensures { IsAnswer (λ f. f) faults.TooLarge result (checked (form_value ((var, pos 1) ∷ []) (neg_ℤ value))) }
+    ensures { IsAnswer (λ f. f) faults.TooLarge result
+        (checked (form_value ((var, pos 1) ∷ []) (neg_ℤ value))) }
 {
     let mut form = Form::constant(alloc, -i128::from(value));
     form.add_scaled(1, &Form::variable(alloc, var)?)?;

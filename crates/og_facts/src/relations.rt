@@ -69,7 +69,8 @@ fn same<'a>(alloc: Global, subject: Subject<'_, 'a>) -> Result<Atom<'a>, FormErr
 
 // The form with the other sign.
 fn negated<'a>(alloc: Global, subject: Subject<'_, 'a>) -> Result<Atom<'a>, FormError>
-    ensures { IsAnswer (λ a. a) faults.TooLarge result (checked (plain.negated (form_in subject.entry))) }
+    ensures { IsAnswer (λ a. a) faults.TooLarge result
+        (checked (plain.negated (form_in subject.entry))) }
 {
     match subject {
         Subject::Lent(form) => Atom::negated(form),
@@ -87,7 +88,8 @@ fn own_next<'a>(alloc: Global, form: &Form) -> Result<Atom<'a>, FormError>
 }
 
 fn next<'a>(alloc: Global, subject: Subject<'_, 'a>) -> Result<Atom<'a>, FormError>
-    ensures { IsAnswer (λ a. a) faults.TooLarge result (checked (plain.plus_one (form_in subject.entry))) }
+    ensures { IsAnswer (λ a. a) faults.TooLarge result
+        (checked (plain.plus_one (form_in subject.entry))) }
 {
     match subject {
         Subject::Lent(form) => Atom::next(form),
@@ -97,14 +99,16 @@ fn next<'a>(alloc: Global, subject: Subject<'_, 'a>) -> Result<Atom<'a>, FormErr
 
 // 1 less the form: at most 0 where the form is above 0.
 fn own_beyond<'a>(alloc: Global, form: &Form) -> Result<Atom<'a>, FormError>
-    ensures { IsAnswer (λ a. a) faults.TooLarge result (checked (plain.plus_one (plain.negated form.now))) }
+    ensures { IsAnswer (λ a. a) faults.TooLarge result
+        (checked (plain.plus_one (plain.negated form.now))) }
 {
     let _range = form.offset();
     multiple(alloc, -1, form, 1)
 }
 
 fn beyond<'a>(alloc: Global, subject: Subject<'_, 'a>) -> Result<Atom<'a>, FormError>
-    ensures { IsAnswer (λ a. a) faults.TooLarge result (checked (plain.plus_one (plain.negated (form_in subject.entry)))) }
+    ensures { IsAnswer (λ a. a) faults.TooLarge result
+        (checked (plain.plus_one (plain.negated (form_in subject.entry)))) }
 {
     match subject {
         Subject::Lent(form) => Atom::beyond(form),
@@ -123,7 +127,8 @@ fn part_of<'a>(alloc: Global, atom: Atom<'a>) -> Result<Vec<Fact<'a>>, AllocErro
 
 // The form is below 0, or it is above 0.
 fn apart<'a>(alloc: Global, subject: Subject<'_, 'a>) -> Result<Fact<'a>, FormError>
-    ensures { IsAnswer (λ f. plain_fact f ∷ []) faults.TooLarge result (plain.checked_facts (plain.apart (form_in subject.entry))) }
+    ensures { IsAnswer (λ f. plain_fact f ∷ []) faults.TooLarge result
+        (plain.checked_facts (plain.apart (form_in subject.entry))) }
 {
     let mut parts = Vec::with_capacity(alloc, 2)?;
     parts.push(part_of(alloc, next(alloc, subject)?)?)?;

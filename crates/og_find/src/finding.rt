@@ -246,7 +246,8 @@ pub fn is_verdict(
 ///
 /// `AllocError` where an allocation was refused.
 pub fn find(alloc: Global, condition: &Condition, budget: u64) -> Result<Option<Cert>, AllocError>
-    ensures certified { IfOk result (λ found. IfSome found (λ cert. Certifies (seen condition.now) (plain_cert cert))) }
+    ensures certified { IfOk result (λ found.
+        IfSome found (λ cert. Certifies (seen condition.now) (plain_cert cert))) }
     ensures valid { IfOk result (λ found. OnSome found (IsValid (seen condition.now))) }
 {
     match examine(alloc, condition, budget)? {

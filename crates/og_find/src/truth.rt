@@ -59,7 +59,8 @@ fn is_true(fact: &Fact, values: &Values, depth: u32) -> bool
 
 #[cycle(truth)]
 fn some_true(parts: &[Vec<Fact>], values: &Values, depth: u32) -> bool
-    ensures { IsTrue result → some_part_true values.now (parts_of_list (map shown parts.now)) ≡ true }
+    ensures { IsTrue result → some_part_true values.now (parts_of_list (map shown parts.now))
+        ≡ true }
 {
     for part in parts {
         if all_true(part, values, depth) {

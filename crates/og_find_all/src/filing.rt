@@ -62,7 +62,8 @@ impl<'a> Filing<'a> {
 
     // The number of the first condition that has the verdict at the place.
     fn first(&self, place: usize) -> Option<u32>
-        ensures { IfSome result (λ n. (0 < n) × IsAtPlace self.now.own.now self.now.places.now (n - 1) place) }
+        ensures { IfSome result
+            (λ n. (0 < n) × IsAtPlace self.now.own.now self.now.places.now (n - 1) place) }
     {
         let first = *self.firsts.get(place)?;
         if self.is_at(first, place) {
@@ -98,7 +99,8 @@ impl<'a> Filing<'a> {
         mut verdicts: Vec<Verdict>,
     ) -> Result<(), AllocError>
         requires { AreFiled self.now.own.now self.now.places.now verdicts.items (shown file.old) }
-        ensures { OnOk result (AreFiled self.now.own.now self.now.places.now verdicts.items (shown file.new)) }
+        ensures { OnOk result (AreFiled self.now.own.now self.now.places.now verdicts.items
+            (shown file.new)) }
     {
         while let Some(verdict) = verdicts.pop() {
             self.file_verdict(file, verdict, verdicts.len())?;

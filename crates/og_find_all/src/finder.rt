@@ -43,7 +43,8 @@ impl<'a, 'c, G: Gate> Search<'a, 'c, G> {
     ) -> Result<Gathered, PoolFault>
         requires workers { (0 < self.now.workers) × (self.now.workers ≤ 64) }
         requires few { vec_len leaders < 2 ^ 32 }
-        ensures gathered { IfOk result (λ g. AreKnown (map seen self.now.conditions.now) g.verdicts.items g.known.items) }
+        ensures gathered { IfOk result (λ g.
+            AreKnown (map seen self.now.conditions.now) g.verdicts.items g.known.items) }
         ensures spawn { IfErr result (λ e. e ≡ Spawn → 1 < self.now.workers) }
     {
         let searching = Searching {
@@ -103,8 +104,10 @@ impl<'a, 'c, G: Gate> Search<'a, 'c, G> {
         shapes: Shapes,
     ) -> Result<Gathered, PoolFault>
         requires workers { (0 < self.now.workers) × (self.now.workers ≤ 64) }
-        requires few { vec_len shapes.leaders + vec_len shapes.heirs + vec_len shapes.others < 2 ^ 32 }
-        ensures gathered { IfOk result (λ g. AreKnown (map seen self.now.conditions.now) g.verdicts.items g.known.items) }
+        requires few { vec_len shapes.leaders + vec_len shapes.heirs + vec_len shapes.others <
+            2 ^ 32 }
+        ensures gathered { IfOk result (λ g.
+            AreKnown (map seen self.now.conditions.now) g.verdicts.items g.known.items) }
         ensures spawn { IfErr result (λ e. e ≡ Spawn → 1 < self.now.workers) }
     {
         let Shapes {

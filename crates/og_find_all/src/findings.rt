@@ -46,7 +46,8 @@ impl Findings {
     ///
     /// `AllocError` where an allocation was refused.
     pub fn certificates(self, alloc: Global) -> Result<CertFile, AllocError>
-        ensures { IfOk result (λ file. AreFiled self.own.items self.places.items self.verdicts.items (shown file)) }
+        ensures { IfOk result (λ file.
+            AreFiled self.own.items self.places.items self.verdicts.items (shown file)) }
     {
         let Findings {
             places,

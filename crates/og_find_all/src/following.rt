@@ -25,7 +25,8 @@ pub(crate) struct Trial<'a, 'c> {
 impl<'c> Trial<'_, 'c> {
     // The leader at this place, if it has a certificate.
     fn leader(&self, place: Option<usize>) -> Option<Leader<'_, 'c>>
-        ensures { IfSome result (λ leader. IsSomeAnd place (λ p. slice_get self.now.verdicts.now p ≡ Some (verdicts.True leader.cert.now))) }
+        ensures { IfSome result (λ leader. IsSomeAnd place
+            (λ p. slice_get self.now.verdicts.now p ≡ Some (verdicts.True leader.cert.now))) }
     {
         let number = place?;
         match self.verdicts.get(number)? {
@@ -46,7 +47,8 @@ impl<'c> Trial<'_, 'c> {
         place: Option<usize>,
         leaders: &mut Leaders<'c>,
     ) -> Result<Option<Verdict>, AllocError>
-        ensures { IfOk result (λ own. IsOwnOrLed (seen condition.now) self.now.verdicts.now place own) }
+        ensures { IfOk result (λ own.
+            IsOwnOrLed (seen condition.now) self.now.verdicts.now place own) }
     {
         let Some(leader) = self.leader(place) else {
             return Ok(Some(examine(alloc, condition, self.budget)?));
@@ -64,7 +66,8 @@ impl<'c> Trial<'_, 'c> {
         follower: Follower,
         leaders: &mut Leaders<'c>,
     ) -> Result<Option<Box<Verdict>>, AllocError>
-        ensures { IfOk result (IsTried (map seen self.now.conditions.now) self.now.verdicts.now follower) }
+        ensures { IfOk result (IsTried (map seen self.now.conditions.now) self.now.verdicts.now
+            follower) }
     {
         let Some(condition) = self.conditions.get(follower.index) else {
             return Ok(Some(Box::new(alloc, Verdict::Open)?));

@@ -41,7 +41,8 @@ fn put_led(places: &mut [Option<usize>], followers: &[Follower]) {
 fn write(known: &mut Vec<Option<usize>>, index: usize, place: usize)
     requires { index < length known.old.items }
     ensures here { slice_get known.new.items index ≡ Some (Some place) }
-    ensures others { (i : ℕ) → i ≢ index → slice_get known.new.items i ≡ slice_get known.old.items i }
+    ensures others { (i : ℕ) → i ≢ index → slice_get known.new.items i
+        ≡ slice_get known.old.items i }
 {
     known[index] = Some(place);
 }
@@ -58,7 +59,8 @@ fn note(known: &mut Vec<Option<usize>>, index: usize, place: usize)
 
 // Nothing is noted of this many conditions.
 fn unknown(alloc: Global, count: usize) -> Result<Vec<Option<usize>>, AllocError>
-    ensures { IfOk result (λ known. (cs : List Condition) (verdicts : List Verdict) → AreKnown cs verdicts known.items) }
+    ensures { IfOk result (λ known.
+        (cs : List Condition) (verdicts : List Verdict) → AreKnown cs verdicts known.items) }
 {
     let mut known = Vec::with_capacity(alloc, count)?;
     for _ in 0..count {
@@ -84,7 +86,8 @@ fn known_leaders(
     count: usize,
     leaders: &[usize],
 ) -> Result<Vec<Option<usize>>, AllocError>
-    ensures { IfOk result (λ known. (cs : List Condition) (verdicts : List Verdict) → AreOfFirsts cs leaders.now verdicts → AreKnown cs verdicts known.items) }
+    ensures { IfOk result (λ known. (cs : List Condition) (verdicts : List Verdict)
+        → AreOfFirsts cs leaders.now verdicts → AreKnown cs verdicts known.items) }
 {
     let mut known = unknown(alloc, count)?;
     for place in 0..leaders.len() {
@@ -168,7 +171,8 @@ impl Gathered {
         verdicts: Vec<Verdict>,
         places: Vec<Option<usize>>,
     ) -> Result<Gathered, AllocError>
-        ensures { IfOk result (λ g. (cs : List Condition) → AreOfFirsts cs leaders.items verdicts.items → AreKnown cs g.verdicts.items g.known.items) }
+        ensures { IfOk result (λ g. (cs : List Condition) → AreOfFirsts cs leaders.items
+            verdicts.items → AreKnown cs g.verdicts.items g.known.items) }
     {
         let known = known_leaders(alloc, count, &leaders)?;
         Ok(Gathered {

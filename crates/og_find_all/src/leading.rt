@@ -59,7 +59,8 @@ enum Part {
 
 impl Shapes {
     fn new(alloc: Global, groups: usize) -> Result<Shapes, AllocError>
-        ensures { IfOk result (λ s. (vec_len s.leaders ≡ 0) × (vec_len s.heirs ≡ 0) × (vec_len s.others ≡ 0)) }
+        ensures { IfOk result (λ s.
+            (vec_len s.leaders ≡ 0) × (vec_len s.heirs ≡ 0) × (vec_len s.others ≡ 0)) }
     {
         Ok(Shapes {
             leaders: Vec::new(alloc),
@@ -71,7 +72,9 @@ impl Shapes {
 
     // Adds a group that leads its kind, whose first condition has this index.
     fn add_leader(&mut self, index: usize) -> Result<(), AllocError>
-        ensures { OnOk result (vec_len self.new.leaders + vec_len self.new.heirs + vec_len self.new.others ≡ vec_len self.old.leaders + vec_len self.old.heirs + vec_len self.old.others + 1) }
+        ensures { OnOk result (vec_len self.new.leaders + vec_len self.new.heirs + vec_len
+            self.new.others
+            ≡ vec_len self.old.leaders + vec_len self.old.heirs + vec_len self.old.others + 1) }
     {
         self.places.push(Some(self.leaders.len()))?;
         self.leaders.push(index)?;
@@ -80,7 +83,9 @@ impl Shapes {
 
     // Adds a group that leads a shape, and follows the leader of its kind.
     fn add_heir(&mut self, group: usize, index: usize, leader: usize) -> Result<(), AllocError>
-        ensures { OnOk result (vec_len self.new.leaders + vec_len self.new.heirs + vec_len self.new.others ≡ vec_len self.old.leaders + vec_len self.old.heirs + vec_len self.old.others + 1) }
+        ensures { OnOk result (vec_len self.new.leaders + vec_len self.new.heirs + vec_len
+            self.new.others
+            ≡ vec_len self.old.leaders + vec_len self.old.heirs + vec_len self.old.others + 1) }
     {
         self.heirs.push(Follower {
             index,
@@ -98,7 +103,9 @@ impl Shapes {
         index: usize,
         leader: Option<usize>,
     ) -> Result<(), AllocError>
-        ensures { OnOk result (vec_len self.new.leaders + vec_len self.new.heirs + vec_len self.new.others ≡ vec_len self.old.leaders + vec_len self.old.heirs + vec_len self.old.others + 1) }
+        ensures { OnOk result (vec_len self.new.leaders + vec_len self.new.heirs + vec_len
+            self.new.others
+            ≡ vec_len self.old.leaders + vec_len self.old.heirs + vec_len self.old.others + 1) }
     {
         self.others.push(Waiting {
             index,
@@ -111,7 +118,9 @@ impl Shapes {
 
     // Adds a group whose first condition has this index.
     fn add(&mut self, group: usize, index: usize, part: Part) -> Result<(), AllocError>
-        ensures { OnOk result (vec_len self.new.leaders + vec_len self.new.heirs + vec_len self.new.others ≡ vec_len self.old.leaders + vec_len self.old.heirs + vec_len self.old.others + 1) }
+        ensures { OnOk result (vec_len self.new.leaders + vec_len self.new.heirs + vec_len
+            self.new.others
+            ≡ vec_len self.old.leaders + vec_len self.old.heirs + vec_len self.old.others + 1) }
     {
         match part {
             Part::Leads => self.add_leader(index),
@@ -313,7 +322,8 @@ pub(crate) fn by_shape(
     marks: &[Option<Marks>],
     firsts: &[usize],
 ) -> Result<Shapes, AllocError>
-    ensures { IfOk result (λ s. vec_len s.leaders + vec_len s.heirs + vec_len s.others ≡ length firsts.now) }
+    ensures { IfOk result (λ s.
+        vec_len s.leaders + vec_len s.heirs + vec_len s.others ≡ length firsts.now) }
 {
     let mut numbering = numbered(alloc, marks, firsts)?;
     join_kinds(alloc, &mut numbering, conditions, firsts)?;

@@ -70,7 +70,8 @@ const FIRST_LINE: &[u8] = b"og-cert 1\n";
 
 // Adds the first line of the entry of condition n.
 fn put_start(text: &mut Vec<u8>, n: u32) -> Result<(), AllocError>
-    ensures { OnOk result (text.new.items ≡ text.old.items ++ (line_text (ForCondition n) ++ 10 ∷ [])) }
+    ensures { OnOk result (text.new.items ≡ text.old.items
+        ++ (line_text (ForCondition n) ++ 10 ∷ [])) }
 {
     text.extend_from_slice(b"cond ")?;
     text.extend_from_slice(Buffer::new().format(n).as_bytes())?;
@@ -88,7 +89,8 @@ impl Writing<'_> {
     // The lines of the certificate that the condition at the index shares.
     fn shared(&self, index: usize) -> Option<&[u8]>
         requires { AreLines self.now.findings.now.verdicts.items self.now.lines.now }
-        ensures { IfSome result (λ lines. lines.now ≡ lines_of (certificate_in (verdict_of self.now.findings.now index))) }
+        ensures { IfSome result (λ lines.
+            lines.now ≡ lines_of (certificate_in (verdict_of self.now.findings.now index))) }
     {
         let Some(None) = self.findings.own.get(index) else {
             return None;
@@ -102,7 +104,8 @@ impl Writing<'_> {
     fn put(&self, text: &mut Vec<u8>, index: usize) -> Result<(), AllocError>
         requires lines { AreLines self.now.findings.now.verdicts.items self.now.lines.now }
         requires few { index < 999999999 }
-        ensures { OnOk result (text.new.items ≡ text.old.items ++ entry_lines (index + 1) (certificate_in (verdict_of self.now.findings.now index))) }
+        ensures { OnOk result (text.new.items ≡ text.old.items
+            ++ entry_lines (index + 1) (certificate_in (verdict_of self.now.findings.now index))) }
     {
         let Some(Verdict::True(cert)) = self.findings.verdict(index) else {
             return Ok(());
@@ -123,7 +126,8 @@ impl Writing<'_> {
     ) -> Result<Option<usize>, AllocError>
         requires lines { AreLines self.now.findings.now.verdicts.items self.now.lines.now }
         requires few { index < 999999999 }
-        ensures { IfOk result (Leaves room (length (entry_lines (index + 1) (certificate_in (verdict_of self.now.findings.now index))))) }
+        ensures { IfOk result (Leaves room (length
+            (entry_lines (index + 1) (certificate_in (verdict_of self.now.findings.now index))))) }
     {
         text.clear();
         self.put(text, index)?;
@@ -134,7 +138,8 @@ impl Writing<'_> {
     fn left_after_entries(&self, alloc: Global, room: usize) -> Result<Option<usize>, AllocError>
         requires lines { AreLines self.now.findings.now.verdicts.items self.now.lines.now }
         requires few { vec_len self.now.findings.now.own ≤ 999999999 }
-        ensures { IfOk result (Leaves room (length (lines_from self.now.findings.now 0 (vec_len self.now.findings.now.own)))) }
+        ensures { IfOk result (Leaves room
+            (length (lines_from self.now.findings.now 0 (vec_len self.now.findings.now.own)))) }
     {
         let mut text = Vec::new(alloc);
         let mut left = room;
@@ -151,7 +156,8 @@ impl Writing<'_> {
     fn is_within(&self, alloc: Global, limit: usize) -> Result<bool, AllocError>
         requires lines { AreLines self.now.findings.now.verdicts.items self.now.lines.now }
         requires few { vec_len self.now.findings.now.own ≤ 999999999 }
-        ensures { IfOk result (λ yes. IsTrue yes ↔ (length (file_text (entries_of self.now.findings.now)) ≤ limit)) }
+        ensures { IfOk result (λ yes.
+            IsTrue yes ↔ (length (file_text (entries_of self.now.findings.now)) ≤ limit)) }
     {
         let Some(room) = limit.checked_sub(FIRST_LINE.len()) else {
             return Ok(false);
@@ -199,8 +205,10 @@ impl Writing<'_> {
     fn write<W: Write>(&self, alloc: Global, out: &mut W) -> Result<(), OutputFault>
         requires lines { AreLines self.now.findings.now.verdicts.items self.now.lines.now }
         requires few { vec_len self.now.findings.now.own ≤ 999999999 }
-        ensures written { OnOk result (Appends (W.contents out.old) (W.contents out.new) (file_text (entries_of self.now.findings.now))) }
-        ensures unfinished { IfErr result (λ _. AppendsFront (W.contents out.old) (W.contents out.new) (file_text (entries_of self.now.findings.now))) }
+        ensures written { OnOk result (Appends (W.contents out.old) (W.contents out.new)
+            (file_text (entries_of self.now.findings.now))) }
+        ensures unfinished { IfErr result (λ _. AppendsFront (W.contents out.old)
+            (W.contents out.new) (file_text (entries_of self.now.findings.now))) }
     {
         let mut text = Vec::from_slice(alloc, FIRST_LINE)?;
         self.write_entries(out, &mut text)?;
@@ -218,7 +226,8 @@ impl Certificates {
     /// then.
     pub fn write<W: Write>(&self, alloc: Global, out: &mut W) -> Result<(), OutputFault>
         ensures written { OnOk result (Appends (W.contents out.old) (W.contents out.new) self.now) }
-        ensures unfinished { IfErr result (λ _. AppendsFront (W.contents out.old) (W.contents out.new) self.now) }
+        ensures unfinished { IfErr result
+            (λ _. AppendsFront (W.contents out.old) (W.contents out.new) self.now) }
     {
         let writing = Writing {
             findings: &self.findings,
@@ -258,7 +267,8 @@ impl Findings {
     #[tactic(auto, using(crate::proofs::Texts::lacks_at))]
     fn missing(&self) -> Missing
         requires { vec_len self.now.own ≤ 999999999 }
-        ensures count { result.count ≡ missing_up_to (entries_of self.now) (length self.now.own.items) }
+        ensures count { result.count
+            ≡ missing_up_to (entries_of self.now) (length self.now.own.items) }
         ensures conditions { result.conditions ≡ length self.now.own.items }
     {
         let mut count = 0;
@@ -284,7 +294,8 @@ impl Findings {
         requires few { vec_len self.own ≤ 999999999 }
         requires count { missing.count ≡ missing_up_to (entries_of self) (length self.own.items) }
         requires conditions { missing.conditions ≡ length self.own.items }
-        ensures { IfOk result (λ text. (cs : List Condition) → AreVerdicts cs self → IsText limit cs text) }
+        ensures { IfOk result (λ text.
+            (cs : List Condition) → AreVerdicts cs self → IsText limit cs text) }
     {
         let writing = Writing {
             findings: &self,
@@ -322,7 +333,8 @@ impl Findings {
     ) -> Result<FoundText, PoolFault>
         requires workers { (0 < workers) × (workers ≤ 64) }
         requires few { vec_len self.own ≤ 999999999 }
-        ensures text { IfOk result (λ text. (cs : List Condition) → AreVerdicts cs self → IsText limit cs text) }
+        ensures text { IfOk result (λ text.
+            (cs : List Condition) → AreVerdicts cs self → IsText limit cs text) }
         ensures spawn { IfErr result (λ e. e ≡ Spawn → 1 < workers) }
     {
         let missing = self.missing();

@@ -35,7 +35,8 @@ fn parted(text: &str) -> Option<(&str, &str)>
 /// An allocation was refused.
 pub fn numbers(alloc: Global, word: &str) -> Result<Option<Vec<u32>>, AllocError>
     ensures some { IfOk result (λ r. IfSome r (λ ns. AreNumbers word.now ns.items)) }
-    ensures only { IfOk result (λ r. IfSome r (λ ns. (all : List ℕ) → AreNumbers word.now all → all ≡ ns.items)) }
+    ensures only { IfOk result (λ r.
+        IfSome r (λ ns. (all : List ℕ) → AreNumbers word.now all → all ≡ ns.items)) }
     ensures none { IfOk result (λ r. IsNone r → (all : List ℕ) → AreNumbers word.now all → ⊥) }
 {
     let mut found = Vec::new(alloc);

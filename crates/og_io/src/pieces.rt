@@ -16,8 +16,10 @@ const PIECE: usize = 8_192;
 ///
 /// As `write_text`.
 pub fn write_long<W: Write>(out: &mut W, text: &mut Vec<u8>) -> Result<(), WriteFault>
-    ensures written { OnOk result (Passes (W.contents out.old) (W.contents out.new) text.old.items text.new.items []) }
-    ensures unfinished { IfErr result (λ _. AppendsFront (W.contents out.old) (W.contents out.new) text.old.items) }
+    ensures written { OnOk result (Passes (W.contents out.old) (W.contents out.new) text.old.items
+        text.new.items []) }
+    ensures unfinished { IfErr result
+        (λ _. AppendsFront (W.contents out.old) (W.contents out.new) text.old.items) }
 {
     if text.len() < PIECE {
         return Ok(());

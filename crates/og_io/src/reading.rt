@@ -46,7 +46,8 @@ fn add_read(text: &mut Vec<u8>, chunk: &[u8], read: Result<usize, Error>) -> Res
     requires { IfOk read (λ count. count ≤ length chunk.now) }
     ensures text { OnOk result (text.new.items ≡ text.old.items ++ given read chunk.now) }
     ensures more { IfOk result (λ more. more ≡ false → read ≡ Ok 0) }
-    ensures failed { IsErrOf result Failed → IsErrAnd read (λ e. error_kind e ≢ ErrorKind.Interrupted) }
+    ensures failed { IsErrOf result Failed
+        → IsErrAnd read (λ e. error_kind e ≢ ErrorKind.Interrupted) }
     ensures memory { IsErrOf result Memory → IsOk read }
 {
     match read {
@@ -71,7 +72,8 @@ fn read_once<R: Read>(
     text: &mut Vec<u8>,
 ) -> Result<bool, ReadFault>
     requires { 0 < length chunk.old }
-    ensures takes { OnOk result (Takes (R.remaining reader.old) (R.remaining reader.new) text.old.items text.new.items (length chunk.old)) }
+    ensures takes { OnOk result (Takes (R.remaining reader.old) (R.remaining reader.new)
+        text.old.items text.new.items (length chunk.old)) }
     ensures end { IfOk result (λ more. more ≡ false → IsAtEnd (R.remaining reader.new)) }
 {
     let read = reader.read(chunk);
@@ -93,8 +95,10 @@ fn zeros(alloc: Global, count: usize) -> Result<Vec<u8>, AllocError>
 /// `Failed` where the reader failed, or had not ended after 100,000,000 reads; never where nothing
 /// is to be read. `Memory` where an allocation was refused.
 pub fn read_up_to<R: Read>(alloc: Global, reader: &mut R, most: usize) -> Result<Vec<u8>, ReadFault>
-    ensures text { IfOk result (λ text. IfSome (R.remaining reader.old) (λ input. text.items ≡ take most input)) }
-    ensures consumed { IfOk result (λ text. Consumes (R.remaining reader.old) (R.remaining reader.new) text.items) }
+    ensures text { IfOk result (λ text.
+        IfSome (R.remaining reader.old) (λ input. text.items ≡ take most input)) }
+    ensures consumed { IfOk result (λ text.
+        Consumes (R.remaining reader.old) (R.remaining reader.new) text.items) }
     ensures failed { IsErrOf result Failed → 0 < most }
 {
     let mut chunk = zeros(alloc, CHUNK)?;

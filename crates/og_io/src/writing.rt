@@ -10,7 +10,8 @@ use std::io::{ErrorKind, Write};
 // Writes once. How many bytes went out: none where the write was interrupted.
 fn write_once<W: Write>(out: &mut W, rest: &[u8]) -> Result<usize, WriteFault>
     ensures within { IfOk result (λ count. count ≤ length rest.now) }
-    ensures written { IfOk result (λ count. Appends (W.contents out.old) (W.contents out.new) (take count rest.now)) }
+    ensures written { IfOk result (λ count.
+        Appends (W.contents out.old) (W.contents out.new) (take count rest.now)) }
     ensures kept { IfErr result (λ _. Keeps (W.contents out.old) (W.contents out.new)) }
 {
     match out.write(rest) {
@@ -37,7 +38,8 @@ fn write_once<W: Write>(out: &mut W, rest: &[u8]) -> Result<usize, WriteFault>
 /// The writer failed; a front of the text may have been written then.
 pub fn write_text<W: Write>(out: &mut W, text: &[u8]) -> Result<(), WriteFault>
     ensures written { OnOk result (Appends (W.contents out.old) (W.contents out.new) text.now) }
-    ensures unfinished { IfErr result (λ _. AppendsFront (W.contents out.old) (W.contents out.new) text.now) }
+    ensures unfinished { IfErr result
+        (λ _. AppendsFront (W.contents out.old) (W.contents out.new) text.now) }
 {
     let mut rest = text;
     for _ in 0..u64::MAX {
@@ -57,7 +59,8 @@ pub fn write_text<W: Write>(out: &mut W, text: &[u8]) -> Result<(), WriteFault>
 /// As `write_text`.
 pub fn write_whole<W: Write>(out: &mut W, text: &[u8]) -> Result<(), WriteFault>
     ensures written { OnOk result (Appends (W.contents out.old) (W.contents out.new) text.now) }
-    ensures unfinished { IfErr result (λ _. AppendsFront (W.contents out.old) (W.contents out.new) text.now) }
+    ensures unfinished { IfErr result
+        (λ _. AppendsFront (W.contents out.old) (W.contents out.new) text.now) }
 {
     write_text(out, text)?;
     match out.flush() {

@@ -65,8 +65,10 @@ impl Judgement {
     /// too, with its auxiliaries or without them.
     pub fn unblocked(&self) -> bool
         ensures value { result ≡ is_unblocked (entries_of self.now) }
-        ensures outline { result ≡ true → is_safe (entries_of self.now) ≡ true → IsNeverStuck (outline_of self.now) }
-        ensures program { result ≡ true → is_safe (entries_of self.now) ≡ true → IsNeverStuck (erased (outline_of self.now)) }
+        ensures outline { result ≡ true → is_safe (entries_of self.now) ≡ true
+            → IsNeverStuck (outline_of self.now) }
+        ensures program { result ≡ true → is_safe (entries_of self.now) ≡ true
+            → IsNeverStuck (erased (outline_of self.now)) }
     {
         match self.proved() {
             Some(proved) => proved.unblocked(),
@@ -77,7 +79,8 @@ impl Judgement {
     /// The outline as one that is proved, exactly where it is safe.
     pub fn proved(&self) -> Option<Proved<'_>>
         ensures safe { is_some result ≡ is_safe (entries_of self.now) }
-        ensures proved { IfSome result (λ p. p ≡ (outline_of self.now, is_unblocked (entries_of self.now))) }
+        ensures proved { IfSome result
+            (λ p. p ≡ (outline_of self.now, is_unblocked (entries_of self.now))) }
     {
         self.findings.proved(&self.outline)
     }

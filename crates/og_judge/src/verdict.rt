@@ -34,7 +34,8 @@ impl Model for Verdict {
 
 impl Verdict {
     pub(crate) fn new(outline: &Outline, safe: bool, unblocked: bool) -> Verdict
-        requires { (safe ≡ true → IsSafe outline.now) × (unblocked ≡ true → IsUnblocked outline.now) }
+        requires { (safe ≡ true → IsSafe outline.now)
+            × (unblocked ≡ true → IsUnblocked outline.now) }
         ensures { result ≡ judged outline.now safe unblocked }
     {
         Verdict {

@@ -148,7 +148,8 @@ impl Form {
 
     // The sum of this form and the other one, which is added once.
     fn with(&self, other: &Form) -> Result<Form, FormError>
-        ensures { IsAnswer (λ f. f) faults.TooLarge result (bounded.add_scaled self.now (pos 1) other.now) }
+        ensures { IsAnswer (λ f. f) faults.TooLarge result
+            (bounded.add_scaled self.now (pos 1) other.now) }
     {
         other.numbers_fit();
         if self.terms.len() == 0 {
@@ -182,7 +183,8 @@ impl Form {
     // Adds k times the term, whose variable comes after all others.
     fn push_term(&mut self, k: i128, var: u32, c: i128) -> Result<(), FormError>
         requires last { list_all (λ t. nat_lt t.0 var) self.old.terms ≡ true }
-        ensures answer { IsAnswer (λ _. self.new) faults.TooLarge result (bounded.add_scaled self.old k (form_value ((var, c) ∷ []) (pos 0))) }
+        ensures answer { IsAnswer (λ _. self.new) faults.TooLarge result
+            (bounded.add_scaled self.old k (form_value ((var, c) ∷ []) (pos 0))) }
         ensures unchanged { OnErr result (self.new ≡ self.old) }
     {
         let product = product_of(k, c)?;
@@ -192,7 +194,8 @@ impl Form {
 
     // Adds k times the other form, term by term.
     fn add_terms(&mut self, k: i128, other: &Form) -> Result<(), FormError>
-        ensures answer { IsAnswer (λ _. self.new) faults.TooLarge result (bounded.add_scaled self.old k other.now) }
+        ensures answer { IsAnswer (λ _. self.new) faults.TooLarge result
+            (bounded.add_scaled self.old k other.now) }
         ensures unchanged { OnErr result (self.new ≡ self.old) }
     {
         if k == 1 {
@@ -214,7 +217,8 @@ impl Form {
     /// `TooLarge` where a product of k and a number of the other form, or a sum of such a product
     /// and a number of this form, leaves `i128`. An error leaves the form as it was.
     pub fn add_scaled(&mut self, k: i128, other: &Form) -> Result<(), FormError>
-        ensures answer { IsAnswer (λ _. self.new) faults.TooLarge result (bounded.add_scaled self.old k other.now) }
+        ensures answer { IsAnswer (λ _. self.new) faults.TooLarge result
+            (bounded.add_scaled self.old k other.now) }
         ensures unchanged { OnErr result (self.new ≡ self.old) }
     {
         if let Some((var, c)) = other.only_term() {
@@ -261,7 +265,8 @@ impl Form {
 
     // Adds k times the variable.
     fn add_variable(&mut self, k: i128, var: u32) -> Result<(), FormError>
-        ensures { IsAnswer (λ _. self.new) faults.TooLarge result (bounded.add_scaled self.old k (arith.variable var)) }
+        ensures { IsAnswer (λ _. self.new) faults.TooLarge result
+            (bounded.add_scaled self.old k (arith.variable var)) }
     {
         if self.is_last(var) {
             return self.push_term(k, var, 1);

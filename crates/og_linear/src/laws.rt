@@ -21,7 +21,8 @@ pub fn value_laws()
     ensures constant { (c : ℤ) (s : List ℤ) → val (form_value [] c) s ≡ c }
     ensures variable { (x : ℕ) (s : List ℤ) → val (arith.variable x) s ≡ value_at s x }
     ensures plus { (f g : FormValue) (s : List ℤ) → val (arith.plus f g) s ≡ val f s +ℤ val g s }
-    ensures scaled { (k : ℤ) (f : FormValue) (s : List ℤ) → val (arith.scaled k f) s ≡ k *ℤ val f s }
+    ensures scaled { (k : ℤ) (f : FormValue) (s : List ℤ) → val (arith.scaled k f) s
+        ≡ k *ℤ val f s }
     ensures add_scaled { (f g r : FormValue) (k : ℤ) (s : List ℤ)
         → bounded.add_scaled f k g ≡ Some r
         → val r s ≡ val f s +ℤ k *ℤ val g s }

@@ -72,7 +72,8 @@ pub(crate) fn multiples(
     k: i128,
     terms: &[(u32, i128)],
 ) -> Result<Vec<(u32, i128)>, FormError>
-    ensures { IsAnswer (λ v. v.items) faults.TooLarge result (checked_terms (scale_terms k terms.now)) }
+    ensures { IsAnswer (λ v. v.items) faults.TooLarge result
+        (checked_terms (scale_terms k terms.now)) }
 {
     let mut out = Vec::with_capacity(alloc, terms.len())?;
     for t in terms {

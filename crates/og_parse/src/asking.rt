@@ -45,7 +45,8 @@ fn admitted(
 ) -> Result<Option<TokenKind>, AllocError>
     requires { All HoldsBytes before.old.items }
     ensures kept { OnOk result (before.new.items ≡ before.old.items) }
-    ensures kind { IfOk result (λ admitted. MatchOption admitted (GoesOn before.old.items kind → ⊥) (λ k. (k ≡ kind) × GoesOn before.old.items kind)) }
+    ensures kind { IfOk result (λ admitted. MatchOption admitted (GoesOn before.old.items kind → ⊥)
+        (λ k. (k ≡ kind) × GoesOn before.old.items kind)) }
 {
     before.push(Token { kind, span: TRIED })?;
     let goes_on = is_front(alloc, before.as_slice())?;

@@ -71,7 +71,8 @@ fn in_parens(alloc: Global, depth: u32, cursor: &mut Cursor) -> Result<RawAssert
 }
 
 fn implication(alloc: Global, left: RawAssert, right: RawAssert) -> Result<RawAssert, AllocError>
-    ensures { IfOk result (λ a. assertion_of a ≡ Implication (assertion_of left) (assertion_of right)) }
+    ensures { IfOk result (λ a.
+        assertion_of a ≡ Implication (assertion_of left) (assertion_of right)) }
 {
     let left = Box::new(alloc, left)?;
     Ok(RawAssert::Implies(left, Box::new(alloc, right)?))
@@ -95,7 +96,8 @@ fn implied(
     left: RawAssert,
     cursor: &mut Cursor,
 ) -> Result<RawAssert, Refusal>
-    ensures { IsRead assertion_of result cursor.new ((opens depth).implied (assertion_of left) cursor.old) }
+    ensures { IsRead assertion_of result cursor.new
+        ((opens depth).implied (assertion_of left) cursor.old) }
 {
     if depth == 0 {
         return Err(Refusal::Fault(FaultKind::TooDeep));
@@ -124,7 +126,8 @@ fn unit(alloc: Global, depth: u32, cursor: &mut Cursor) -> Result<RawAssert, Ref
 #[cycle(assertions)]
 #[tactic(auto, unfolding(crate::specs::Reads::units_by))]
 fn units(alloc: Global, depth: u32, cursor: &mut Cursor) -> Result<Vec<RawAssert>, Refusal>
-    ensures { IsRead (λ all. map assertion_of all.items) result cursor.new (units_by (opens depth) cursor.old) }
+    ensures { IsRead (λ all. map assertion_of all.items) result cursor.new
+        (units_by (opens depth) cursor.old) }
 {
     let mut all = Vec::new(alloc);
     all.push(unit(alloc, depth, cursor)?)?;
@@ -145,7 +148,8 @@ fn conjunction(alloc: Global, depth: u32, cursor: &mut Cursor) -> Result<RawAsse
 #[cycle(assertions)]
 #[tactic(auto, unfolding(crate::specs::Reads::conjunctions_by))]
 fn conjunctions(alloc: Global, depth: u32, cursor: &mut Cursor) -> Result<Vec<RawAssert>, Refusal>
-    ensures { IsRead (λ all. map assertion_of all.items) result cursor.new (conjunctions_by (opens depth) cursor.old) }
+    ensures { IsRead (λ all. map assertion_of all.items) result cursor.new
+        (conjunctions_by (opens depth) cursor.old) }
 {
     let mut all = Vec::new(alloc);
     all.push(conjunction(alloc, depth, cursor)?)?;

@@ -36,7 +36,8 @@ fn element(alloc: Global, cursor: &mut Cursor) -> Result<RawElement, Refusal>
 
 #[tactic(auto, unfolding(crate::specs::Reads::separated_elements_at))]
 fn elements(alloc: Global, cursor: &mut Cursor) -> Result<Vec<RawElement>, Refusal>
-    ensures { IsRead (λ all. map element_of all.items) result cursor.new (separated_elements_at cursor.old) }
+    ensures { IsRead (λ all. map element_of all.items) result cursor.new
+        (separated_elements_at cursor.old) }
 {
     let mut all = Vec::new(alloc);
     all.push(element(alloc, cursor)?)?;

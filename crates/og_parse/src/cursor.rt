@@ -40,7 +40,8 @@ impl<'a> Cursor<'a> {
 
     /// The next token's kind, if a token is left.
     pub fn peek(&self) -> Option<&'a TokenKind>
-        ensures { MatchOption result (self.now ≡ []) (λ kind. (token : Token) × (rest : List Token) × (self.now ≡ token ∷ rest) × (kind.now ≡ token.kind)) }
+        ensures { MatchOption result (self.now ≡ []) (λ kind. (token : Token) × (rest : List Token)
+            × (self.now ≡ token ∷ rest) × (kind.now ≡ token.kind)) }
     {
         match self.rest {
             [] => None,
@@ -81,7 +82,8 @@ impl<'a> Cursor<'a> {
     #[tactic(auto, using(crate::proofs::Symbols::symbol_there))]
     pub fn eat(&mut self, kind: &TokenKind) -> bool
         ensures found { result ≡ starts (is_a kind.now) self.old }
-        ensures left { MatchBool result (symbol_at kind.now self.old ≡ Ok (first_place self.old, self.new)) (self.new ≡ self.old) }
+        ensures left { MatchBool result (symbol_at kind.now self.old
+            ≡ Ok (first_place self.old, self.new)) (self.new ≡ self.old) }
     {
         let found = self.is_at(kind);
         if found {

@@ -72,7 +72,8 @@ fn auxes(alloc: Global, cursor: &mut Cursor) -> Result<Vec<RawAux>, Refusal>
 // The variables after `var`, if there is one.
 #[tactic(auto, unfolding(crate::specs::Reads::listed_by))]
 fn var_part(alloc: Global, cursor: &mut Cursor) -> Result<Option<Vec<RawName>>, Refusal>
-    ensures { IsRead (option_map (λ all. all.items)) result cursor.new (if_symbol_at Var (listed_by names_at) cursor.old) }
+    ensures { IsRead (option_map (λ all. all.items)) result cursor.new
+        (if_symbol_at Var (listed_by names_at) cursor.old) }
 {
     if !cursor.eat(&TokenKind::Var) {
         return Ok(None);
@@ -85,7 +86,8 @@ fn var_part(alloc: Global, cursor: &mut Cursor) -> Result<Option<Vec<RawName>>, 
 // The variables after `aux`, if there is one.
 #[tactic(auto, unfolding(crate::specs::Reads::listed_by))]
 fn aux_part(alloc: Global, cursor: &mut Cursor) -> Result<Option<Vec<RawAux>>, Refusal>
-    ensures { IsRead (option_map (λ all. all.items)) result cursor.new (if_symbol_at Aux (listed_by auxes_at) cursor.old) }
+    ensures { IsRead (option_map (λ all. all.items)) result cursor.new
+        (if_symbol_at Aux (listed_by auxes_at) cursor.old) }
 {
     if !cursor.eat(&TokenKind::Aux) {
         return Ok(None);
@@ -145,7 +147,8 @@ fn opening(
     levels: u32,
     cursor: &mut Cursor,
 ) -> Result<(RawNote, Option<RawSeq>), Refusal>
-    ensures { IsRead (λ x. (note_of x.0, option_map seq_of x.1)) result cursor.new (opening_at levels cursor.old) }
+    ensures { IsRead (λ x. (note_of x.0, option_map seq_of x.1)) result cursor.new
+        (opening_at levels cursor.old) }
 {
     let pre = note(alloc, levels, cursor)?;
     let prologue = main_part(alloc, levels, cursor)?;
@@ -184,7 +187,8 @@ fn closing(
     levels: u32,
     cursor: &mut Cursor,
 ) -> Result<(Option<RawSeq>, RawNote), Refusal>
-    ensures { IsRead (λ x. (option_map seq_of x.0, note_of x.1)) result cursor.new (closing_at levels cursor.old) }
+    ensures { IsRead (λ x. (option_map seq_of x.0, note_of x.1)) result cursor.new
+        (closing_at levels cursor.old) }
 {
     let epilogue = main_part(alloc, levels, cursor)?;
     let post = note(alloc, levels, cursor)?;

@@ -54,7 +54,8 @@ fn two_way(
     branch: Box<RawSeq>,
     other: Option<Box<RawSeq>>,
 ) -> Result<Box<RawStmt>, AllocError>
-    ensures { IfOk result (λ x. stmt_of x.value ≡ choice (assertion_of test) (seq_of branch.value) (option_map (λ o. seq_of o.value) other)) }
+    ensures { IfOk result (λ x. stmt_of x.value ≡ choice (assertion_of test) (seq_of branch.value)
+        (option_map (λ o. seq_of o.value) other)) }
 {
     let branch = Box::into_inner(branch);
     let other = other.map(Box::into_inner);
@@ -75,7 +76,9 @@ fn with_step(
     step: RawStep,
 ) -> Result<RawNote, AllocError>
     ensures after { IfOk result (λ after. after ≡ step.after) }
-    ensures items { IfOk result (λ _. map item_of items.new.items ≡ map item_of items.old.items ++ item_of_step (note_of before) (step_of step.span (stmt_of step.stmt.value) (note_of step.after)) ∷ []) }
+    ensures items { IfOk result (λ _. map item_of items.new.items ≡ map item_of items.old.items
+        ++ item_of_step (note_of before)
+        (step_of step.span (stmt_of step.stmt.value) (note_of step.after)) ∷ []) }
 {
     items.push(RawItem {
         before,
@@ -106,7 +109,8 @@ fn tested(
     symbol: &TokenKind,
     cursor: &mut Cursor,
 ) -> Result<(RawAssert, Box<RawSeq>), Refusal>
-    ensures { IsRead (λ x. (assertion_of x.0, seq_of x.1.value)) result cursor.new (tested_by symbol.now levels (seq_at levels awaits depth) cursor.old) }
+    ensures { IsRead (λ x. (assertion_of x.0, seq_of x.1.value)) result cursor.new
+        (tested_by symbol.now levels (seq_at levels awaits depth) cursor.old) }
 {
     let test = test(alloc, levels, symbol, cursor)?;
     let all = block(alloc, levels, awaits, depth, cursor)?;
@@ -122,7 +126,8 @@ fn else_part(
     depth: u32,
     cursor: &mut Cursor,
 ) -> Result<Option<Box<RawSeq>>, Refusal>
-    ensures { IsRead (option_map (λ x. seq_of x.value)) result cursor.new (if_symbol_at Else (block_by (seq_at levels awaits depth)) cursor.old) }
+    ensures { IsRead (option_map (λ x. seq_of x.value)) result cursor.new
+        (if_symbol_at Else (block_by (seq_at levels awaits depth)) cursor.old) }
 {
     if cursor.eat(&TokenKind::Else) {
         return Ok(Some(block(alloc, levels, awaits, depth, cursor)?));
@@ -139,7 +144,8 @@ fn if_stmt(
     depth: u32,
     cursor: &mut Cursor,
 ) -> Result<Box<RawStmt>, Refusal>
-    ensures { IsRead (λ x. stmt_of x.value) result cursor.new (if_by levels (seq_at levels awaits depth) cursor.old) }
+    ensures { IsRead (λ x. stmt_of x.value) result cursor.new
+        (if_by levels (seq_at levels awaits depth) cursor.old) }
 {
     cursor.expect(&TokenKind::If)?;
     let (test, branch) = tested(alloc, levels, awaits, depth, &TokenKind::Then, cursor)?;
@@ -156,7 +162,8 @@ fn while_stmt(
     depth: u32,
     cursor: &mut Cursor,
 ) -> Result<Box<RawStmt>, Refusal>
-    ensures { IsRead (λ x. stmt_of x.value) result cursor.new (while_by levels (seq_at levels awaits depth) cursor.old) }
+    ensures { IsRead (λ x. stmt_of x.value) result cursor.new
+        (while_by levels (seq_at levels awaits depth) cursor.old) }
 {
     cursor.expect(&TokenKind::While)?;
     let (test, body) = tested(alloc, levels, awaits, depth, &TokenKind::Do, cursor)?;
@@ -173,7 +180,8 @@ fn compound(
     depth: u32,
     cursor: &mut Cursor,
 ) -> Result<Box<RawStmt>, Refusal>
-    ensures { IsRead (λ x. stmt_of x.value) result cursor.new (compound_at levels awaits depth cursor.old) }
+    ensures { IsRead (λ x. stmt_of x.value) result cursor.new
+        (compound_at levels awaits depth cursor.old) }
 {
     if depth == 0 {
         return Err(Refusal::Fault(FaultKind::TooDeep));
@@ -193,7 +201,8 @@ fn statement(
     depth: u32,
     cursor: &mut Cursor,
 ) -> Result<Box<RawStmt>, Refusal>
-    ensures { IsRead (λ x. stmt_of x.value) result cursor.new (stmt_by levels awaits (compound_at levels awaits depth) cursor.old) }
+    ensures { IsRead (λ x. stmt_of x.value) result cursor.new
+        (stmt_by levels awaits (compound_at levels awaits depth) cursor.old) }
 {
     if cursor.is_at(&TokenKind::If) || cursor.is_at(&TokenKind::While) {
         return compound(alloc, levels, awaits, depth, cursor);
@@ -214,7 +223,8 @@ fn step(
     depth: u32,
     cursor: &mut Cursor,
 ) -> Result<RawStep, Refusal>
-    ensures { IsRead (λ x. step_of x.span (stmt_of x.stmt.value) (note_of x.after)) result cursor.new (step_by levels awaits (compound_at levels awaits depth) cursor.old) }
+    ensures { IsRead (λ x. step_of x.span (stmt_of x.stmt.value) (note_of x.after)) result
+        cursor.new (step_by levels awaits (compound_at levels awaits depth) cursor.old) }
 {
     let span = cursor.span();
     let stmt = statement(alloc, levels, awaits, depth, cursor)?;
@@ -256,7 +266,8 @@ pub(crate) fn rest_of_block(
     depth: u32,
     cursor: &mut Cursor,
 ) -> Result<RawSeq, Refusal>
-    ensures { IsRead seq_of result cursor.new (rest_of_block_by (seq_at levels awaits depth) cursor.old) }
+    ensures { IsRead seq_of result cursor.new
+        (rest_of_block_by (seq_at levels awaits depth) cursor.old) }
 {
     let all = sequence(alloc, levels, awaits, depth, cursor)?;
     cursor.expect(&TokenKind::End)?;
@@ -273,7 +284,8 @@ fn block(
     depth: u32,
     cursor: &mut Cursor,
 ) -> Result<Box<RawSeq>, Refusal>
-    ensures { IsRead (λ x. seq_of x.value) result cursor.new (block_by (seq_at levels awaits depth) cursor.old) }
+    ensures { IsRead (λ x. seq_of x.value) result cursor.new
+        (block_by (seq_at levels awaits depth) cursor.old) }
 {
     cursor.expect(&TokenKind::Begin)?;
     let all = rest_of_block(alloc, levels, awaits, depth, cursor)?;

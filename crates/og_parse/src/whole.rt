@@ -46,7 +46,8 @@ fn closes_note(kind: &TokenKind) -> bool
 
 // The tokens up to the first statement above the limit, and the place of its first token.
 fn excess(tokens: &[Token], limit: usize) -> Option<(&[Token], Span)>
-    ensures { MatchOption result (statement_count tokens.now ≤ limit) (λ x. IsExcess limit tokens.now x.0.now x.1) }
+    ensures { MatchOption result (statement_count tokens.now ≤ limit)
+        (λ x. IsExcess limit tokens.now x.0.now x.1) }
 {
     let mut count = 0;
     let mut closed = false;
@@ -111,7 +112,8 @@ fn excess_error(refusal: Refusal, rest: &[Token], span: Span) -> ParseError
 
 // Parses tokens whose last one begins a statement too many, at `span`.
 fn parse_excess(alloc: Global, front: &[Token], span: Span) -> ParseError
-    ensures { (tokens : List Token) → IsExcess statement_limit tokens front.now span → IsParsed level_limit statement_limit tokens (Err result) }
+    ensures { (tokens : List Token) → IsExcess statement_limit tokens front.now span
+        → IsParsed level_limit statement_limit tokens (Err result) }
 {
     let mut cursor = Cursor::new(front);
     match whole(alloc, LEVELS, &mut cursor) {
@@ -144,16 +146,21 @@ pub fn parse(alloc: Global, tokens: &[Token]) -> Result<Raw, ParseError>
 
 /// A list of tokens stands for at most one outline.
 pub fn one_tree()
-    ensures { (one other : Outline) (tokens : List Token) → IsAnyOutline one tokens → IsAnyOutline other tokens → one ≡ other }
+    ensures { (one other : Outline) (tokens : List Token) → IsAnyOutline one tokens
+        → IsAnyOutline other tokens → one ≡ other }
 {}
 
 /// Tokens have one answer: those of an outline within limits have no fault, and no tokens have two.
 pub fn one_answer()
-    ensures outline { (levels statements : ℕ) (tokens : List Token) (outline : Outline) (fault : ParseFault) → IsOutline levels outline tokens → statement_count tokens ≤ statements → IsFault levels statements tokens fault → ⊥ }
-    ensures fault { (levels statements : ℕ) (tokens : List Token) (one other : ParseFault) → IsFault levels statements tokens one → IsFault levels statements tokens other → one ≡ other }
+    ensures outline { (levels statements : ℕ) (tokens : List Token) (outline : Outline)
+        (fault : ParseFault) → IsOutline levels outline tokens → statement_count tokens ≤ statements
+        → IsFault levels statements tokens fault → ⊥ }
+    ensures fault { (levels statements : ℕ) (tokens : List Token) (one other : ParseFault) → IsFault
+        levels statements tokens one → IsFault levels statements tokens other → one ≡ other }
 {}
 
 /// The statements of an outline, outside the bodies of awaits, are as many as its tokens begin.
 pub fn one_count()
-    ensures { (outline : Outline) (tokens : List Token) → IsAnyOutline outline tokens → statement_count tokens ≡ outline_count outline }
+    ensures { (outline : Outline) (tokens : List Token) → IsAnyOutline outline tokens
+        → statement_count tokens ≡ outline_count outline }
 {}

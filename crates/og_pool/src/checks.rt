@@ -54,7 +54,8 @@ struct Checks<'a, 'c, G> {
 
 // The status by the certificate's replay.
 fn replayed(alloc: Global, list: &FactList, cert: &Cert) -> Result<Status, AllocError>
-    ensures { IfOk result (λ s. s ≡ by_fault (first_fault list.now.variables list.now.facts (plain_cert cert.now))) }
+    ensures { IfOk result (λ s.
+        s ≡ by_fault (first_fault list.now.variables list.now.facts (plain_cert cert.now))) }
 {
     match replay(alloc, list, cert) {
         Ok(()) => Ok(Status::Proved),
@@ -107,7 +108,8 @@ impl<'a, 'c, G> Checks<'a, 'c, G> {
     ) -> Result<FactList<'c>, FactsError>
         requires within { index < length self.now.conditions.now }
         requires keeps { KeepsMap self.now.conditions.now last.old }
-        ensures facts { (c : _) → slice_get self.now.conditions.now index ≡ Some c → IsFacts (seen c) result }
+        ensures facts { (c : _) → slice_get self.now.conditions.now index ≡ Some c
+            → IsFacts (seen c) result }
         ensures keeps { KeepsMap self.now.conditions.now last.new }
     {
         let condition = &self.conditions[index];
@@ -145,8 +147,10 @@ impl<'a, 'c, G> Checks<'a, 'c, G> {
     ) -> Result<bool, AllocError>
         requires within { (0 < number) × (number ≤ length self.now.conditions.now) }
         requires other { (0 < other) × (other ≤ length self.now.conditions.now) }
-        requires facts { (c : _) → slice_get self.now.conditions.now (number - 1) ≡ Some c → IsFacts (seen c) (Ok list.now) }
-        ensures { IfOk result (λ yes. IsTrue yes → status_of self.now.conditions.now self.now.certs.now other ≡ status_of self.now.conditions.now self.now.certs.now number) }
+        requires facts { (c : _) → slice_get self.now.conditions.now (number - 1) ≡ Some c
+            → IsFacts (seen c) (Ok list.now) }
+        ensures { IfOk result (λ yes. IsTrue yes → status_of self.now.conditions.now
+            self.now.certs.now other ≡ status_of self.now.conditions.now self.now.certs.now number) }
     {
         let places = (self.certs.kept_at(number), self.certs.kept_at(other));
         let (Some(place), Some(of_other)) = places else {
@@ -172,9 +176,11 @@ impl<'a, 'c, G> Checks<'a, 'c, G> {
         replays: &[Replayed],
     ) -> Result<Option<Status>, AllocError>
         requires within { (0 < number) × (number ≤ length self.now.conditions.now) }
-        requires facts { (c : _) → slice_get self.now.conditions.now (number - 1) ≡ Some c → IsFacts (seen c) (Ok list.now) }
+        requires facts { (c : _) → slice_get self.now.conditions.now (number - 1) ≡ Some c
+            → IsFacts (seen c) (Ok list.now) }
         requires keeps { All (IsKnown self.now.conditions.now self.now.certs.now) replays.now }
-        ensures { IfOk result (λ some. IfSome some (λ s. s ≡ status_of self.now.conditions.now self.now.certs.now number)) }
+        ensures { IfOk result (λ some.
+            IfSome some (λ s. s ≡ status_of self.now.conditions.now self.now.certs.now number)) }
     {
         let Some(replayed) = with_mark(replays, mark) else {
             return Ok(None);
@@ -194,8 +200,10 @@ impl<'a, 'c, G> Checks<'a, 'c, G> {
         cert: &Cert,
     ) -> Result<Status, AllocError>
         requires within { (0 < number) × (number ≤ length self.now.conditions.now) }
-        requires facts { (c : _) → slice_get self.now.conditions.now (number - 1) ≡ Some c → IsFacts (seen c) (Ok list.now) }
-        requires cert { certificate_of number (shown self.now.certs.now) ≡ Some (plain_cert cert.now) }
+        requires facts { (c : _) → slice_get self.now.conditions.now (number - 1) ≡ Some c
+            → IsFacts (seen c) (Ok list.now) }
+        requires cert { certificate_of number (shown self.now.certs.now)
+            ≡ Some (plain_cert cert.now) }
         ensures { IfOk result (λ s. s ≡ status_of self.now.conditions.now self.now.certs.now number) }
     {
         replayed(alloc, list, cert)
@@ -212,10 +220,13 @@ impl<'a, 'c, G> Checks<'a, 'c, G> {
         replays: &mut Vec<Replayed>,
     ) -> Result<Status, AllocError>
         requires within { (0 < number) × (number ≤ length self.now.conditions.now) }
-        requires facts { (c : _) → slice_get self.now.conditions.now (number - 1) ≡ Some c → IsFacts (seen c) (Ok list.now) }
-        requires cert { certificate_of number (shown self.now.certs.now) ≡ Some (plain_cert cert.now) }
+        requires facts { (c : _) → slice_get self.now.conditions.now (number - 1) ≡ Some c
+            → IsFacts (seen c) (Ok list.now) }
+        requires cert { certificate_of number (shown self.now.certs.now)
+            ≡ Some (plain_cert cert.now) }
         requires keeps { All (IsKnown self.now.conditions.now self.now.certs.now) replays.old.items }
-        ensures status { IfOk result (λ s. s ≡ status_of self.now.conditions.now self.now.certs.now number) }
+        ensures status { IfOk result (λ s.
+            s ≡ status_of self.now.conditions.now self.now.certs.now number) }
         ensures keeps { All (IsKnown self.now.conditions.now self.now.certs.now) replays.new.items }
     {
         if is_short(cert, list.as_slice().len()) || !self.certs.has_shared() {
@@ -239,7 +250,8 @@ impl<'a, 'c, G> Checks<'a, 'c, G> {
     fn status(&self, alloc: Global, number: u32, kept: &mut Kept) -> Result<Status, AllocError>
         requires within { (0 < number) × (number ≤ length self.now.conditions.now) }
         requires keeps { Keeps self.now.conditions.now self.now.certs.now kept.old }
-        ensures status { IfOk result (λ s. s ≡ status_of self.now.conditions.now self.now.certs.now number) }
+        ensures status { IfOk result (λ s.
+            s ≡ status_of self.now.conditions.now self.now.certs.now number) }
         ensures keeps { Keeps self.now.conditions.now self.now.certs.now kept.new }
     {
         let Some(cert) = self.certs.certificate(number) else {

@@ -49,7 +49,8 @@ impl Draws {
     pub fn new(alloc: Global, count: u32, workers: u32) -> Result<(Draws, Drawer), AllocError>
         requires { (0 < workers) × (workers ≤ 64) }
         ensures draws { IfOk result (λ r. (r.0.count ≡ count) × (r.0.workers ≡ workers)) }
-        ensures drawer { IfOk result (λ r. (r.1.source ≡ r.0) × (r.1.workers ≡ workers) × (r.1.drawn ≡ [])) }
+        ensures drawer { IfOk result (λ r.
+            (r.1.source ≡ r.0) × (r.1.workers ≡ workers) × (r.1.drawn ≡ [])) }
     {
         let plan = Plan { count, workers };
         let (table, seat) = Table::of_words(alloc, &[0], &plan)?;
@@ -67,8 +68,10 @@ impl Draws {
         requires own { drawer.old.source ≡ self.now }
         requires several { 2 ≤ drawer.old.workers }
         requires fresh { drawer.old.drawn ≡ [] }
-        ensures kept { (drawer.new.source ≡ self.now) × (drawer.new.workers + result.workers ≡ drawer.old.workers) × (drawer.new.drawn ≡ []) }
-        ensures given { (result.source ≡ self.now) × (result.workers ≡ drawer.old.workers / 2) × (result.drawn ≡ []) }
+        ensures kept { (drawer.new.source ≡ self.now)
+            × (drawer.new.workers + result.workers ≡ drawer.old.workers) × (drawer.new.drawn ≡ []) }
+        ensures given { (result.source ≡ self.now) × (result.workers ≡ drawer.old.workers / 2)
+            × (result.drawn ≡ []) }
     {
         let seat = self.table.shared.split_seat::<Halves>(&mut drawer.seat);
         Drawer {
@@ -83,7 +86,8 @@ impl Draws {
         requires own { drawer.old.source ≡ self.now }
         requires several { 2 ≤ drawer.old.workers }
         requires fresh { drawer.old.drawn ≡ [] }
-        ensures kept { (drawer.new.source ≡ self.now) × (drawer.new.workers + 1 ≡ drawer.old.workers) × (drawer.new.drawn ≡ []) }
+        ensures kept { (drawer.new.source ≡ self.now)
+            × (drawer.new.workers + 1 ≡ drawer.old.workers) × (drawer.new.drawn ≡ []) }
         ensures given { IsOne self.now result }
     {
         let seat = self.table.shared.split_seat::<OneOff>(&mut drawer.seat);
@@ -119,12 +123,16 @@ impl Draws {
     pub fn draw(&self, drawer: &mut Drawer) -> Option<u32>
         requires { drawer.old.source ≡ self.now }
         ensures kept { (drawer.new.source ≡ self.now) × (drawer.new.workers ≡ drawer.old.workers) }
-        ensures some { IfSome result (λ n. (0 < n) × (n ≤ self.now.count) × (drawer.new.drawn ≡ drawer.old.drawn ++ (n - 1) ∷ []) × (past self.now.count drawer.new.drawn ≡ 0)) }
+        ensures some { IfSome result (λ n. (0 < n) × (n ≤ self.now.count) × (drawer.new.drawn
+            ≡ drawer.old.drawn ++ (n - 1) ∷ []) × (past self.now.count drawer.new.drawn ≡ 0)) }
         ensures rising { IfSome result (λ n. (x : ℕ) → 0 < times x drawer.old.drawn → x + 1 < n) }
         ensures none { IfNone result (0 < past self.now.count drawer.new.drawn) }
-        ensures again { 0 < past self.now.count drawer.old.drawn → drawer.new.drawn ≡ drawer.old.drawn }
-        ensures last { past self.now.count drawer.old.drawn ≡ 0 → IfNone result ((w : ℕ) × (self.now.count ≤ w) × (drawer.new.drawn ≡ drawer.old.drawn ++ w ∷ [])) }
-        ensures seen { IfNone result ((x : ℕ) → x < self.now.count → times x drawer.new.drawn ≡ times x drawer.old.drawn) }
+        ensures again { 0 < past self.now.count drawer.old.drawn → drawer.new.drawn
+            ≡ drawer.old.drawn }
+        ensures last { past self.now.count drawer.old.drawn ≡ 0 → IfNone result
+            ((w : ℕ) × (self.now.count ≤ w) × (drawer.new.drawn ≡ drawer.old.drawn ++ w ∷ [])) }
+        ensures seen { IfNone result
+            ((x : ℕ) → x < self.now.count → times x drawer.new.drawn ≡ times x drawer.old.drawn) }
     {
         if drawer.done {
             return None;
@@ -144,7 +152,8 @@ impl Draws {
     /// Takes a drawer's workers and numbers in.
     pub fn join(&self, drawer: &mut Drawer, other: Drawer)
         requires { (drawer.old.source ≡ self.now) × (other.source ≡ self.now) }
-        ensures { (drawer.new.source ≡ self.now) × (drawer.new.workers ≡ drawer.old.workers + other.workers) × (drawer.new.drawn ≡ drawer.old.drawn ++ other.drawn) }
+        ensures { (drawer.new.source ≡ self.now) × (drawer.new.workers ≡ drawer.old.workers +
+            other.workers) × (drawer.new.drawn ≡ drawer.old.drawn ++ other.drawn) }
     {
         let Drawer {
             seat,
@@ -161,7 +170,8 @@ impl Draws {
     pub fn close(self, drawer: Drawer)
         requires own { drawer.source ≡ self }
         requires all { drawer.workers ≡ self.workers }
-        ensures { 0 < past self.count drawer.drawn → (x : ℕ) → x < self.count → times x drawer.drawn ≡ 1 }
+        ensures { 0 < past self.count drawer.drawn → (x : ℕ) → x < self.count → times x drawer.drawn
+            ≡ 1 }
     {
         let Draws { table, plan: _ } = self;
         let Drawer {

@@ -24,7 +24,8 @@ pub(crate) struct Replayed {
 
 /// The one with this mark.
 pub(crate) fn with_mark(replays: &[Replayed], mark: u64) -> Option<Replayed>
-    ensures { (cs : List Condition) (file : CertFile) → All (IsKnown cs file) replays.now → IfSome result (IsKnown cs file) }
+    ensures { (cs : List Condition) (file : CertFile) → All (IsKnown cs file) replays.now
+        → IfSome result (IsKnown cs file) }
 {
     for replayed in replays {
         if replayed.mark == mark {
@@ -40,7 +41,8 @@ pub(crate) fn with_mark(replays: &[Replayed], mark: u64) -> Option<Replayed>
 ///
 /// An allocation was refused; nothing is remembered then but what was before, or less.
 pub(crate) fn remember(replays: &mut Vec<Replayed>, replayed: Replayed) -> Result<(), AllocError>
-    ensures { (cs : List Condition) (file : CertFile) → IsKnown cs file replayed → All (IsKnown cs file) replays.old.items → All (IsKnown cs file) replays.new.items }
+    ensures { (cs : List Condition) (file : CertFile) → IsKnown cs file replayed
+        → All (IsKnown cs file) replays.old.items → All (IsKnown cs file) replays.new.items }
 {
     if replays.len() >= MOST {
         replays.clear();

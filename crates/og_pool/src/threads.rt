@@ -36,7 +36,8 @@ fn start_all<'s, E, J: Job, R: Threads + Wait + Sync>(
     requires can { All (J.can job.now) parts.items }
     requires empty { handles.old.items ≡ [] }
     requires room { vec_len parts ≤ vec_capacity handles.old }
-    ensures started { OnOk result (AllZip (λ p h. (h.promise.job.value ≡ job.now) × (h.promise.part.value ≡ p)) parts.items handles.new.items) }
+    ensures started { OnOk result (AllZip (λ p h. (h.promise.job.value ≡ job.now)
+        × (h.promise.part.value ≡ p)) parts.items handles.new.items) }
     ensures refused { IfErr result (λ e. (e ≡ Spawn) × (0 < vec_len parts)) }
 {
     for part in parts {
@@ -63,7 +64,8 @@ fn start_all<'s, E, J: Job, R: Threads + Wait + Sync>(
 
 // Adds the gain of one part more.
 fn add<G: Drop>(gains: &mut Vec<G>, gain: Result<G, ThreadFault>) -> Result<(), ThreadFault>
-    ensures gain { OnOk result ((x : G) × (gain ≡ Ok x) × (gains.new.items ≡ gains.old.items ++ x ∷ [])) }
+    ensures gain { OnOk result ((x : G) × (gain ≡ Ok x)
+        × (gains.new.items ≡ gains.old.items ++ x ∷ [])) }
     ensures fault { IfErr result (λ e. (e ≡ Memory) ⊎ (gain ≡ Err e)) }
 {
     gains.push(gain?)?;
@@ -77,7 +79,8 @@ fn join_all<J: Job, R: Threads>(
     gains: &mut Vec<J::Gain>,
 ) -> Result<(), ThreadFault>
     requires { gains.old.items ≡ [] }
-    ensures gains { OnOk result (AllZip (λ h g. J.owes h.promise.job.value h.promise.part.value g) handles.items gains.new.items) }
+    ensures gains { OnOk result (AllZip (λ h g. J.owes h.promise.job.value h.promise.part.value g)
+        handles.items gains.new.items) }
     ensures fault { IfErr result (λ e. (e ≡ Memory) ⊎ J.fails e) }
 {
     let mut outcome = Ok(());
@@ -107,7 +110,8 @@ pub fn in_threads<J: Job, R: Threads + Wait + Sync>(
 ) -> Result<Vec<J::Gain>, ThreadFault>
     requires { All (J.can job.now) parts.items }
     ensures gains { IfOk result (λ gains. AllZip (J.owes job.now) parts.items gains.items) }
-    ensures fault { IfErr result (λ e. (e ≡ Memory) ⊎ ((e ≡ Spawn) × (1 < vec_len parts)) ⊎ J.fails e) }
+    ensures fault { IfErr result
+        (λ e. (e ≡ Memory) ⊎ ((e ≡ Spawn) × (1 < vec_len parts)) ⊎ J.fails e) }
 {
     let mut gains = Vec::with_capacity(alloc, parts.len())?;
     let mut handles = Vec::with_capacity(alloc, parts.len())?;
@@ -118,7 +122,8 @@ pub fn in_threads<J: Job, R: Threads + Wait + Sync>(
         thread::scope_env(),
         rt,
         |scope| -> Result<Vec<J::Gain>, ThreadFault>
-            requires { All (J.can job.now) parts.items × J.can job.now mine × (handles.items ≡ []) × (gains.items ≡ []) × (vec_len parts ≤ vec_capacity handles) }
+            requires { All (J.can job.now) parts.items × J.can job.now mine × (handles.items ≡ [])
+                × (gains.items ≡ []) × (vec_len parts ≤ vec_capacity handles) }
             ensures { IfOk result (λ gains. AllZip (J.owes job.entry.now) (parts.items ++ mine ∷ []) gains.items)
                 × IfErr result (λ e. (e ≡ Memory) ⊎ ((e ≡ Spawn) × (0 < vec_len parts)) ⊎ J.fails e) }
         {

@@ -31,8 +31,10 @@ fn slots<A: Drop>(alloc: Global, count: u32) -> Result<Vec<Option<A>>, AllocErro
 fn place<A: Drop>(slots: &mut Vec<Option<A>>, told: Told<A>)
     requires { 0 < told.number }
     ensures len { length slots.new.items ≡ length slots.old.items }
-    ensures here { told.number ≤ length slots.old.items → slice_get slots.new.items (told.number - 1) ≡ Some (Some told.answer) }
-    ensures others { (i : ℕ) → i ≢ told.number - 1 → slice_get slots.new.items i ≡ slice_get slots.old.items i }
+    ensures here { told.number ≤ length slots.old.items
+        → slice_get slots.new.items (told.number - 1) ≡ Some (Some told.answer) }
+    ensures others { (i : ℕ) → i ≢ told.number - 1 → slice_get slots.new.items i
+        ≡ slice_get slots.old.items i }
 {
     let at = told.number as usize - 1;
     if at < slots.len() {
@@ -50,7 +52,8 @@ fn placed<N: Numbered>(
     requires { All (IsRight (N.may_answer tasks.now)) told.items }
     ensures len { IfOk result (λ v. length v.items ≡ count) }
     ensures right { IfOk result (λ v. AreRight (N.may_answer tasks.now) v.items) }
-    ensures filled { IfOk result (λ v. (n : ℕ) → 0 < n → n ≤ count → Tells told.items n → IsFilled v.items (n - 1)) }
+    ensures filled { IfOk result (λ v.
+        (n : ℕ) → 0 < n → n ≤ count → Tells told.items n → IsFilled v.items (n - 1)) }
 {
     let _ = tasks;
     let mut slots = slots(alloc, count)?;

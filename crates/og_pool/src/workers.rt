@@ -63,8 +63,10 @@ impl<'a, N: Numbered> Workers<'a, N> {
         mut gains: Vec<(Drawer, Vec<Told<N::Answer>>)>,
     ) -> Result<(Drawer, Vec<Told<N::Answer>>), AllocError>
         requires some { 0 < vec_len gains }
-        requires each { All (λ r. PartDone self.now.draws.now 1 (N.may_answer self.now.tasks.now) r.0 r.1.items) gains.items }
-        ensures { IfOk result (λ r. PartDone self.now.draws.now (vec_len gains) (N.may_answer self.now.tasks.now) r.0 r.1.items) }
+        requires each { All (λ r. PartDone self.now.draws.now 1 (N.may_answer self.now.tasks.now)
+            r.0 r.1.items) gains.items }
+        ensures { IfOk result (λ r. PartDone self.now.draws.now (vec_len gains)
+            (N.may_answer self.now.tasks.now) r.0 r.1.items) }
     {
         let Some((mut drawer, mut told)) = gains.pop() else {
             unreachable!()
@@ -85,7 +87,8 @@ impl<'a, N: Numbered> Workers<'a, N> {
         requires some { 0 < vec_len drawers }
         requires each { All (IsOne self.now.draws.now) drawers.items }
         requires count { self.now.draws.now.count ≡ N.count self.now.tasks.now }
-        ensures done { IfOk result (λ r. PartDone self.now.draws.now (vec_len drawers) (N.may_answer self.now.tasks.now) r.0 r.1.items) }
+        ensures done { IfOk result (λ r. PartDone self.now.draws.now (vec_len drawers)
+            (N.may_answer self.now.tasks.now) r.0 r.1.items) }
         ensures spawn { IfErr result (λ e. e ≡ Spawn → 1 < vec_len drawers) }
     {
         let gains = in_threads(rt, self.alloc, self, drawers)?;

@@ -41,7 +41,8 @@ fn put_comparison(
     relation: Relation,
     right: &RawSum,
 ) -> Result<(), AllocError>
-    ensures { OnOk result (text.new.items ≡ text.old.items ++ assertion_in written (Comparison (sum_of left.now) relation (sum_of right.now))) }
+    ensures { OnOk result (text.new.items ≡ text.old.items
+        ++ assertion_in written (Comparison (sum_of left.now) relation (sum_of right.now))) }
 {
     put_sum(text, left)?;
     text.extend_from_slice(b" ")?;
@@ -52,7 +53,8 @@ fn put_comparison(
 
 #[cycle(assertions)]
 pub(crate) fn put_assertion(text: &mut Vec<u8>, a: &RawAssert) -> Result<(), AllocError>
-    ensures { OnOk result (text.new.items ≡ text.old.items ++ assertion_in written (assertion_of a.now)) }
+    ensures { OnOk result (text.new.items ≡ text.old.items
+        ++ assertion_in written (assertion_of a.now)) }
 {
     match a {
         RawAssert::True => text.extend_from_slice(b"true"),
@@ -75,7 +77,8 @@ pub(crate) fn put_assertion(text: &mut Vec<u8>, a: &RawAssert) -> Result<(), All
 // In parentheses, where it binds more loosely than it may.
 #[cycle(assertions)]
 fn put_fitted(text: &mut Vec<u8>, limit: u8, a: &RawAssert) -> Result<(), AllocError>
-    ensures { OnOk result (text.new.items ≡ text.old.items ++ fitted_in written limit (assertion_of a.now) (assertion_in written (assertion_of a.now))) }
+    ensures { OnOk result (text.new.items ≡ text.old.items ++ fitted_in written limit
+        (assertion_of a.now) (assertion_in written (assertion_of a.now))) }
 {
     if looseness(a) <= limit {
         return put_assertion(text, a);
@@ -87,7 +90,8 @@ fn put_fitted(text: &mut Vec<u8>, limit: u8, a: &RawAssert) -> Result<(), AllocE
 
 #[cycle(assertions)]
 fn put_conjunction(text: &mut Vec<u8>, all: &[RawAssert]) -> Result<(), AllocError>
-    ensures { OnOk result (text.new.items ≡ text.old.items ++ joined_in written kinds.And 0 (listed (map assertion_of all.now))) }
+    ensures { OnOk result (text.new.items ≡ text.old.items
+        ++ joined_in written kinds.And 0 (listed (map assertion_of all.now))) }
 {
     let [first, later @ ..] = all else {
         return Ok(());
@@ -102,7 +106,8 @@ fn put_conjunction(text: &mut Vec<u8>, all: &[RawAssert]) -> Result<(), AllocErr
 
 #[cycle(assertions)]
 fn put_disjunction(text: &mut Vec<u8>, all: &[RawAssert]) -> Result<(), AllocError>
-    ensures { OnOk result (text.new.items ≡ text.old.items ++ joined_in written kinds.Or 1 (listed (map assertion_of all.now))) }
+    ensures { OnOk result (text.new.items ≡ text.old.items
+        ++ joined_in written kinds.Or 1 (listed (map assertion_of all.now))) }
 {
     let [first, later @ ..] = all else {
         return Ok(());

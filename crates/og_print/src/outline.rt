@@ -34,7 +34,8 @@ pub fn print_program(alloc: Global, raw: &Raw) -> Result<Vec<u8>, AllocError>
 }
 
 fn put_outline(text: &mut Vec<u8>, notes: bool, raw: &Raw) -> Result<(), AllocError>
-    ensures { OnOk result (text.new.items ≡ text.old.items ++ outline_in written notes (tree_of raw.now)) }
+    ensures { OnOk result (text.new.items ≡ text.old.items
+        ++ outline_in written notes (tree_of raw.now)) }
 {
     put_declarations(text, raw)?;
     put_note(text, notes, b"", &raw.pre)?;
@@ -45,7 +46,8 @@ fn put_outline(text: &mut Vec<u8>, notes: bool, raw: &Raw) -> Result<(), AllocEr
 }
 
 fn put_declarations(text: &mut Vec<u8>, raw: &Raw) -> Result<(), AllocError>
-    ensures { OnOk result (text.new.items ≡ text.old.items ++ (vars_in written raw.now.vars.items ++ auxes_in written raw.now.auxes.items)) }
+    ensures { OnOk result (text.new.items ≡ text.old.items
+        ++ (vars_in written raw.now.vars.items ++ auxes_in written raw.now.auxes.items)) }
 {
     put_vars(text, raw.vars.as_slice())?;
     put_auxes(text, raw.auxes.as_slice())
@@ -92,7 +94,8 @@ fn put_auxes(text: &mut Vec<u8>, auxes: &[RawAux]) -> Result<(), AllocError>
 
 // The statements before or after the processes.
 fn put_main(text: &mut Vec<u8>, notes: bool, main: &Option<RawSeq>) -> Result<(), AllocError>
-    ensures { OnOk result (text.new.items ≡ text.old.items ++ main_in written notes (option_map seq_of main.now)) }
+    ensures { OnOk result (text.new.items ≡ text.old.items
+        ++ main_in written notes (option_map seq_of main.now)) }
 {
     let Some(seq) = main else {
         return Ok(());
@@ -104,7 +107,8 @@ fn put_main(text: &mut Vec<u8>, notes: bool, main: &Option<RawSeq>) -> Result<()
 
 // From `cobegin` to `coend`.
 fn put_cobegin(text: &mut Vec<u8>, notes: bool, processes: &RawProcesses) -> Result<(), AllocError>
-    ensures { OnOk result (text.new.items ≡ text.old.items ++ cobegin_in written notes (seqs_of processes.now)) }
+    ensures { OnOk result (text.new.items ≡ text.old.items
+        ++ cobegin_in written notes (seqs_of processes.now)) }
 {
     text.extend_from_slice(b"cobegin\n")?;
     put_processes(text, notes, processes)?;
@@ -116,7 +120,8 @@ fn put_processes(
     notes: bool,
     processes: &RawProcesses,
 ) -> Result<(), AllocError>
-    ensures { OnOk result (text.new.items ≡ text.old.items ++ processes_in written notes (seqs_of processes.now)) }
+    ensures { OnOk result (text.new.items ≡ text.old.items
+        ++ processes_in written notes (seqs_of processes.now)) }
 {
     put_seq(text, notes, b"  ", &processes.first)?;
     for process in &processes.others {

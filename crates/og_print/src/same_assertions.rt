@@ -10,7 +10,8 @@ use og_parse::{RawAssert, RawNote};
 
 #[cycle(assertions)]
 pub(crate) fn same_assertion(one: &RawAssert, other: &RawAssert) -> bool
-    ensures { result ≡ true → plain_assertion (assertion_of one.now) ≡ plain_assertion (assertion_of other.now) }
+    ensures { result ≡ true → plain_assertion (assertion_of one.now)
+        ≡ plain_assertion (assertion_of other.now) }
 {
     match (one, other) {
         (RawAssert::True, RawAssert::True) => true,
@@ -30,7 +31,8 @@ pub(crate) fn same_assertion(one: &RawAssert, other: &RawAssert) -> bool
 
 #[cycle(assertions)]
 fn same_assertions(one: &[RawAssert], other: &[RawAssert]) -> bool
-    ensures { result ≡ true → plain_assertions (listed (map assertion_of one.now)) ≡ plain_assertions (listed (map assertion_of other.now)) }
+    ensures { result ≡ true → plain_assertions (listed (map assertion_of one.now))
+        ≡ plain_assertions (listed (map assertion_of other.now)) }
 {
     if one.len() != other.len() {
         return false;

@@ -20,7 +20,8 @@ fn same_basic(one: &RawBasic, other: &RawBasic) -> bool
 }
 
 fn same_elements(one: &[RawElement], other: &[RawElement]) -> bool
-    ensures { result ≡ true → map (placed plain_basic) (map element_of one.now) ≡ map (placed plain_basic) (map element_of other.now) }
+    ensures { result ≡ true → map (placed plain_basic) (map element_of one.now)
+        ≡ map (placed plain_basic) (map element_of other.now) }
 {
     if one.len() != other.len() {
         return false;
@@ -54,8 +55,10 @@ fn same_statement(one: &RawStmt, other: &RawStmt) -> bool
 // A statement, and the assertion before it.
 #[cycle(sequences)]
 fn same_item(one: &RawItem, other: &RawItem) -> bool
-    ensures before { result ≡ true → plain_note (item_of one.now).before ≡ plain_note (item_of other.now).before }
-    ensures stmt { result ≡ true → plain_stmt (item_of one.now).stmt ≡ plain_stmt (item_of other.now).stmt }
+    ensures before { result ≡ true → plain_note (item_of one.now).before
+        ≡ plain_note (item_of other.now).before }
+    ensures stmt { result ≡ true → plain_stmt (item_of one.now).stmt
+        ≡ plain_stmt (item_of other.now).stmt }
 {
     same_note(&one.before, &other.before) && same_statement(&one.stmt, &other.stmt)
 }
@@ -63,7 +66,9 @@ fn same_item(one: &RawItem, other: &RawItem) -> bool
 // Sequences of these statements and these last assertions.
 #[cycle(sequences)]
 fn same_items(one: &[RawItem], last: &RawNote, other: &[RawItem], other_last: &RawNote) -> bool
-    ensures { result ≡ true → plain_seq (items_then (map item_of one.now) (finish (note_of last.now))) ≡ plain_seq (items_then (map item_of other.now) (finish (note_of other_last.now))) }
+    ensures { result ≡ true → plain_seq (items_then (map item_of one.now)
+        (finish (note_of last.now)))
+        ≡ plain_seq (items_then (map item_of other.now) (finish (note_of other_last.now))) }
 {
     if one.len() != other.len() {
         return false;

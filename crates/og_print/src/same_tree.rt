@@ -46,7 +46,8 @@ fn same_auxiliaries(one: &[RawAux], other: &[RawAux]) -> bool
 }
 
 fn same_main(one: &Option<RawSeq>, other: &Option<RawSeq>) -> bool
-    ensures { result ≡ true → option_map plain_seq (option_map seq_of one.now) ≡ option_map plain_seq (option_map seq_of other.now) }
+    ensures { result ≡ true → option_map plain_seq (option_map seq_of one.now)
+        ≡ option_map plain_seq (option_map seq_of other.now) }
 {
     match (one, other) {
         (None, None) => true,
@@ -56,7 +57,8 @@ fn same_main(one: &Option<RawSeq>, other: &Option<RawSeq>) -> bool
 }
 
 fn same_sequences(one: &[RawSeq], other: &[RawSeq]) -> bool
-    ensures { result ≡ true → map plain_seq (map seq_of one.now) ≡ map plain_seq (map seq_of other.now) }
+    ensures { result ≡ true → map plain_seq (map seq_of one.now)
+        ≡ map plain_seq (map seq_of other.now) }
 {
     if one.len() != other.len() {
         return false;

@@ -25,7 +25,8 @@ fn put_basic(text: &mut Vec<u8>, basic: &RawBasic) -> Result<(), AllocError>
 
 // The body of an await.
 fn put_body(text: &mut Vec<u8>, body: &[RawElement]) -> Result<(), AllocError>
-    ensures { OnOk result (text.new.items ≡ text.old.items ++ body_in written (map element_of body.now)) }
+    ensures { OnOk result (text.new.items ≡ text.old.items
+        ++ body_in written (map element_of body.now)) }
 {
     let [first, later @ ..] = body else {
         return text.extend_from_slice(b"begin end");
@@ -49,7 +50,8 @@ pub(crate) fn put_note(
     indent: &[u8],
     note: &RawNote,
 ) -> Result<(), AllocError>
-    ensures { OnOk result (text.new.items ≡ text.old.items ++ note_in written notes indent.now (note_of note.now)) }
+    ensures { OnOk result (text.new.items ≡ text.old.items
+        ++ note_in written notes indent.now (note_of note.now)) }
 {
     if !notes {
         return Ok(());
@@ -68,7 +70,8 @@ fn put_opening(
     test: &RawAssert,
     opener: &[u8],
 ) -> Result<(), AllocError>
-    ensures { OnOk result (text.new.items ≡ text.old.items ++ written.line indent.now (word.now ++ (assertion_in written (assertion_of test.now) ++ opener.now))) }
+    ensures { OnOk result (text.new.items ≡ text.old.items ++ written.line indent.now
+        (word.now ++ (assertion_in written (assertion_of test.now) ++ opener.now))) }
 {
     text.extend_from_slice(indent)?;
     text.extend_from_slice(word)?;
@@ -102,7 +105,8 @@ fn put_simple(
     basic: &RawBasic,
     ending: &[u8],
 ) -> Result<(), AllocError>
-    ensures { OnOk result (text.new.items ≡ text.old.items ++ stmt_in written true indent.now (Simple (basic_of basic.now)) ending.now) }
+    ensures { OnOk result (text.new.items ≡ text.old.items
+        ++ stmt_in written true indent.now (Simple (basic_of basic.now)) ending.now) }
 {
     text.extend_from_slice(indent)?;
     put_basic(text, basic)?;
@@ -117,7 +121,8 @@ fn put_await(
     body: &[RawElement],
     ending: &[u8],
 ) -> Result<(), AllocError>
-    ensures { OnOk result (text.new.items ≡ text.old.items ++ stmt_in written true indent.now (Await (assertion_of guard.now) (map element_of body.now)) ending.now) }
+    ensures { OnOk result (text.new.items ≡ text.old.items ++ stmt_in written true indent.now
+        (Await (assertion_of guard.now) (map element_of body.now)) ending.now) }
 {
     text.extend_from_slice(indent)?;
     text.extend_from_slice(b"await ")?;
@@ -136,7 +141,8 @@ fn put_stmt(
     stmt: &RawStmt,
     ending: &[u8],
 ) -> Result<(), AllocError>
-    ensures { OnOk result (text.new.items ≡ text.old.items ++ stmt_in written notes indent.now (stmt_of stmt.now) ending.now) }
+    ensures { OnOk result (text.new.items ≡ text.old.items
+        ++ stmt_in written notes indent.now (stmt_of stmt.now) ending.now) }
 {
     match stmt {
         RawStmt::Basic(basic) => put_simple(text, indent, basic, ending),
@@ -159,7 +165,8 @@ fn put_stmt(
 }
 
 fn put_end(text: &mut Vec<u8>, indent: &[u8], ending: &[u8]) -> Result<(), AllocError>
-    ensures { OnOk result (text.new.items ≡ text.old.items ++ written.line indent.now (codes "end" ++ ending.now)) }
+    ensures { OnOk result (text.new.items ≡ text.old.items
+        ++ written.line indent.now (codes "end" ++ ending.now)) }
 {
     text.extend_from_slice(indent)?;
     text.extend_from_slice(b"end")?;
@@ -177,7 +184,8 @@ fn ending(notes: bool, is_last: bool) -> &'static [u8]
 // The sequence two blanks deeper.
 #[cycle(sequences)]
 fn put_block(text: &mut Vec<u8>, notes: bool, indent: &[u8], seq: &RawSeq) -> Result<(), AllocError>
-    ensures { OnOk result (text.new.items ≡ text.old.items ++ seq_in written notes (written.deeper indent.now) (seq_of seq.now)) }
+    ensures { OnOk result (text.new.items ≡ text.old.items
+        ++ seq_in written notes (written.deeper indent.now) (seq_of seq.now)) }
 {
     let blanks = deeper(*text.allocator(), indent)?;
     put_seq(text, notes, blanks.as_slice(), seq)
@@ -190,7 +198,8 @@ pub(crate) fn put_seq(
     indent: &[u8],
     seq: &RawSeq,
 ) -> Result<(), AllocError>
-    ensures { OnOk result (text.new.items ≡ text.old.items ++ seq_in written notes indent.now (seq_of seq.now)) }
+    ensures { OnOk result (text.new.items ≡ text.old.items
+        ++ seq_in written notes indent.now (seq_of seq.now)) }
 {
     put_items(text, notes, indent, seq.items.as_slice(), &seq.last)
 }
@@ -204,7 +213,8 @@ fn put_items(
     items: &[RawItem],
     last: &RawNote,
 ) -> Result<(), AllocError>
-    ensures { OnOk result (text.new.items ≡ text.old.items ++ seq_in written notes indent.now (items_then (map item_of items.now) (finish (note_of last.now)))) }
+    ensures { OnOk result (text.new.items ≡ text.old.items ++ seq_in written notes indent.now
+        (items_then (map item_of items.now) (finish (note_of last.now)))) }
 {
     for (i, item) in items.iter().enumerate() {
         put_note(text, notes, indent, &item.before)?;

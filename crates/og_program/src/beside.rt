@@ -137,7 +137,8 @@ pub(crate) fn beside_check<H: Threads + Wait + Sync>(
     answer: Answer,
 ) -> Told
     ensures answer { result.answer ≡ answer }
-    ensures remark { RemarksBoth (IsCheckRemark names.entry.source.now names.entry.certs.now source.now certs.now) (IsMissingRemark names.entry.source.now source.now certs.now) result }
+    ensures remark { RemarksBoth (IsCheckRemark names.entry.source.now names.entry.certs.now
+        source.now certs.now) (IsMissingRemark names.entry.source.now source.now certs.now) result }
 {
     let note = match answer.status {
         REFUSED => check_remark(rt, alloc, names, source, certs),
@@ -202,7 +203,8 @@ fn bad_word<'a>(
     word: &'a str,
 ) -> BadValue<'a>
     ensures word { result.word ≡ word.entry }
-    ensures why { IfSome result.why (λ line. IsWordRemark source.now schedule.entry word.now line.items) }
+    ensures why { IfSome result.why
+        (λ line. IsWordRemark source.now schedule.entry word.now line.items) }
 {
     let Some(schedule) = schedule else {
         return bad_value(alloc, Gives::Values, source, word);
@@ -238,7 +240,8 @@ pub(crate) fn beside_run<'a>(
     schedule: Option<&str>,
     reply: Reply<'a>,
 ) -> Outcome<'a>
-    ensures { Follows (IsRunRemark name.now source.now (map (λ w. w.now) words.now)) (IsWordRemark source.now schedule.entry) reply.entry result }
+    ensures { Follows (IsRunRemark name.now source.now (map (λ w. w.now) words.now))
+        (IsWordRemark source.now schedule.entry) reply.entry result }
 {
     match reply {
         Reply::Told(ran) => Outcome::Told(beside_ran(alloc, name, source, words, ran)),
@@ -259,7 +262,8 @@ fn beside_proved_ran<H: Threads + Wait + Sync>(
     words: &[&str],
     ran: Ran,
 ) -> Told
-    ensures { TellsRan (IsProvedRunRemark names.entry.source.now names.entry.certs.now source.now certs.now (map (λ w. w.now) words.now)) ran result }
+    ensures { TellsRan (IsProvedRunRemark names.entry.source.now names.entry.certs.now source.now
+        certs.now (map (λ w. w.now) words.now)) ran result }
 {
     let Ran { answer, note } = ran;
     let note = if answer.status == REFUSED {
@@ -280,7 +284,8 @@ pub(crate) fn beside_proved_run<'a, H: Threads + Wait + Sync>(
     words: &[&str],
     reply: Reply<'a>,
 ) -> Outcome<'a>
-    ensures { Follows (IsProvedRunRemark names.entry.source.now names.entry.certs.now source.now certs.now (map (λ w. w.now) words.now)) (IsWordRemark source.now None) reply.entry result }
+    ensures { Follows (IsProvedRunRemark names.entry.source.now names.entry.certs.now source.now
+        certs.now (map (λ w. w.now) words.now)) (IsWordRemark source.now None) reply.entry result }
 {
     match reply {
         Reply::Told(ran) => {
@@ -307,7 +312,8 @@ pub(crate) fn beside_page<'a>(
     source: &[u8],
     reply: Explored<'a>,
 ) -> Outcome<'a>
-    ensures { FollowsExploring (IsConditionsRemark name.now source.now) (IsValueRemark gives.Ranges source.now) reply.entry result }
+    ensures { FollowsExploring (IsConditionsRemark name.now source.now)
+        (IsValueRemark gives.Ranges source.now) reply.entry result }
 {
     match reply {
         Explored::Answer(answer) => Outcome::Told(beside_conditions(alloc, name, source, answer)),
@@ -322,7 +328,8 @@ pub(crate) fn beside_exploration<'a>(
     source: &[u8],
     reply: Explored<'a>,
 ) -> Outcome<'a>
-    ensures { FollowsExploring (IsSourceRemark name.now source.now) (IsValueRemark gives.Ranges source.now) reply.entry result }
+    ensures { FollowsExploring (IsSourceRemark name.now source.now)
+        (IsValueRemark gives.Ranges source.now) reply.entry result }
 {
     match reply {
         Explored::Answer(answer) => Outcome::Told(beside_source(alloc, name, source, answer)),

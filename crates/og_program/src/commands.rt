@@ -26,7 +26,8 @@ pub(crate) fn notes<'a, F: Files, I: Read>(
     budget: Budget,
     input: &mut I,
 ) -> Result<Outcome<'a>, Fault<'a>>
-    ensures came { IfOk result (OfSource (F.contents files.now) (I.remaining input.old) name.now (λ s. OnTold (NotesOn name.now s))) }
+    ensures came { IfOk result (OfSource (F.contents files.now) (I.remaining input.old) name.now
+        (λ s. OnTold (NotesOn name.now s))) }
     ensures fault { IfErr result (IsReading name.now) }
     ensures missing { lacks_bytes (F.is_missing files.now) name.now ≡ true → IsUnread result }
     ensures kept { is_file name.now ≡ true → I.remaining input.new ≡ I.remaining input.old }
@@ -58,7 +59,8 @@ pub(crate) fn conditions<'a, F: Files, I: Read>(
     only: Option<&'a str>,
     input: &mut I,
 ) -> Result<Outcome<'a>, Fault<'a>>
-    ensures came { IfOk result (OfSource (F.contents files.now) (I.remaining input.old) name.now (Lists form only.entry name.now)) }
+    ensures came { IfOk result (OfSource (F.contents files.now) (I.remaining input.old) name.now
+        (Lists form only.entry name.now)) }
     ensures fault { IfErr result (IsReading name.now) }
     ensures missing { lacks_bytes (F.is_missing files.now) name.now ≡ true → IsUnread result }
     ensures kept { is_file name.now ≡ true → I.remaining input.new ≡ I.remaining input.old }
@@ -76,7 +78,8 @@ pub(crate) fn erase<'a, F: Files, I: Read>(
     is_readable: bool,
     input: &mut I,
 ) -> Result<Outcome<'a>, Fault<'a>>
-    ensures came { IfOk result (OfSource (F.contents files.now) (I.remaining input.old) name.now (λ s. OnTold (Erases is_readable name.now s))) }
+    ensures came { IfOk result (OfSource (F.contents files.now) (I.remaining input.old) name.now
+        (λ s. OnTold (Erases is_readable name.now s))) }
     ensures fault { IfErr result (IsReading name.now) }
     ensures missing { lacks_bytes (F.is_missing files.now) name.now ≡ true → IsUnread result }
     ensures kept { is_file name.now ≡ true → I.remaining input.new ≡ I.remaining input.old }
@@ -93,7 +96,8 @@ pub(crate) fn migrate<'a, F: Files, I: Read>(
     name: &'a str,
     input: &mut I,
 ) -> Result<Outcome<'a>, Fault<'a>>
-    ensures came { IfOk result (λ o. Reads certs_of (bytes_in (F.contents files.now) (I.remaining input.old) name.now) (λ c. OnTold (Migrates name.now c) o)) }
+    ensures came { IfOk result (λ o. Reads certs_of (bytes_in (F.contents files.now)
+        (I.remaining input.old) name.now) (λ c. OnTold (Migrates name.now c) o)) }
     ensures fault { IfErr result (IsReading name.now) }
     ensures missing { lacks_bytes (F.is_missing files.now) name.now ≡ true → IsUnread result }
     ensures kept { is_file name.now ≡ true → I.remaining input.new ≡ I.remaining input.old }

@@ -23,7 +23,8 @@ pub(crate) fn explore<'a, F: Files, I: Read>(
     request: Request,
     input: &mut I,
 ) -> Result<Outcome<'a>, Fault<'a>>
-    ensures came { IfOk result (OfSource (F.contents files.now) (I.remaining input.old) name.now (Explores request.erased request.json (map (λ w. w.now) words.now) name.now)) }
+    ensures came { IfOk result (OfSource (F.contents files.now) (I.remaining input.old) name.now
+        (Explores request.erased request.json (map (λ w. w.now) words.now) name.now)) }
     ensures fault { IfErr result (IsReading name.now) }
     ensures missing { lacks_bytes (F.is_missing files.now) name.now ≡ true → IsUnread result }
     ensures kept { is_file name.now ≡ true → I.remaining input.new ≡ I.remaining input.old }

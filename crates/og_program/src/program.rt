@@ -38,7 +38,8 @@ impl<'r, F: Files, G: Gate, H: Threads + Wait + Sync> Program<'r, F, G, H> {
         certs: &[u8],
         options: Options,
     ) -> Result<Told, PoolFault>
-        ensures told { IfOk result (Checks options.json names.entry.source.now names.entry.certs.now source.now certs.now) }
+        ensures told { IfOk result (Checks options.json names.entry.source.now names.entry.certs.now
+            source.now certs.now) }
         ensures spawn { IfErr result (λ e. e ≡ Spawn → 1 < options.workers) }
     {
         let (rt, alloc) = (self.rt, self.alloc);
@@ -72,10 +73,16 @@ impl<'r, F: Files, G: Gate, H: Threads + Wait + Sync> Program<'r, F, G, H> {
         options: Options,
         input: &mut I,
     ) -> Result<Outcome<'a>, Fault<'a>>
-        ensures came { IfOk result (OfBoth (F.contents self.now.files.now) (I.remaining input.old) names.entry.source.now names.entry.certs.now (λ s c. OnTold (Checks options.json names.entry.source.now names.entry.certs.now s c))) }
-        ensures fault { IfErr result (IsFault (λ n. (n ≡ names.entry.source.now) ⊎ (n ≡ names.entry.certs.now)) ⊥ (1 < options.workers)) }
-        ensures missing { (lacks_bytes (F.is_missing self.now.files.now) names.entry.source.now || lacks_certs (F.is_missing self.now.files.now) names.entry.source.now names.entry.certs.now) ≡ true → IsUnread result }
-        ensures kept { is_file names.entry.source.now ≡ true → is_file names.entry.certs.now ≡ true → I.remaining input.new ≡ I.remaining input.old }
+        ensures came { IfOk result (OfBoth (F.contents self.now.files.now) (I.remaining input.old)
+            names.entry.source.now names.entry.certs.now (λ s c.
+            OnTold (Checks options.json names.entry.source.now names.entry.certs.now s c))) }
+        ensures fault { IfErr result (IsFault (λ n.
+            (n ≡ names.entry.source.now) ⊎ (n ≡ names.entry.certs.now)) ⊥ (1 < options.workers)) }
+        ensures missing { (lacks_bytes (F.is_missing self.now.files.now) names.entry.source.now ||
+            lacks_certs (F.is_missing self.now.files.now) names.entry.source.now
+            names.entry.certs.now) ≡ true → IsUnread result }
+        ensures kept { is_file names.entry.source.now ≡ true → is_file names.entry.certs.now ≡ true
+            → I.remaining input.new ≡ I.remaining input.old }
     {
         let (source, certs) = both_bytes(self.alloc, self.files, names, input)?;
         let told = self.check_bytes(names, &source, &certs, options)?;

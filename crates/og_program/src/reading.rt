@@ -45,7 +45,8 @@ fn source_from<'a, R: Read>(
     name: &'a str,
     reader: &mut R,
 ) -> Result<Vec<u8>, Fault<'a>>
-    ensures text { IfOk result (λ text. IfSome (R.remaining reader.old) (λ s. text.items ≡ source_of s)) }
+    ensures text { IfOk result (λ text.
+        IfSome (R.remaining reader.old) (λ s. text.items ≡ source_of s)) }
     ensures fault { IfErr result (IsReading name.now) }
 {
     match read_source(alloc, reader) {
@@ -60,7 +61,8 @@ fn certificates_from<'a, R: Read>(
     name: &'a str,
     reader: &mut R,
 ) -> Result<Vec<u8>, Fault<'a>>
-    ensures text { IfOk result (λ text. IfSome (R.remaining reader.old) (λ c. text.items ≡ certs_of c)) }
+    ensures text { IfOk result (λ text.
+        IfSome (R.remaining reader.old) (λ c. text.items ≡ certs_of c)) }
     ensures fault { IfErr result (IsReading name.now) }
 {
     match read_certificates(alloc, reader) {
@@ -75,7 +77,8 @@ pub(crate) fn joined_from<'a, R: Read>(
     name: &'a str,
     reader: &mut R,
 ) -> Result<Vec<u8>, Fault<'a>>
-    ensures text { IfOk result (λ text. IfSome (R.remaining reader.old) (λ i. text.items ≡ joined_of i)) }
+    ensures text { IfOk result (λ text.
+        IfSome (R.remaining reader.old) (λ i. text.items ≡ joined_of i)) }
     ensures fault { IfErr result (IsReading name.now) }
 {
     match read_joined(alloc, reader) {
@@ -91,7 +94,8 @@ pub(crate) fn source_bytes<'a, F: Files, I: Read>(
     name: &'a str,
     input: &mut I,
 ) -> Result<Vec<u8>, Fault<'a>>
-    ensures text { IfOk result (λ text. IfSome (bytes_in (F.contents files.now) (I.remaining input.old) name.now) (λ s. text.items ≡ source_of s)) }
+    ensures text { IfOk result (λ text. IfSome (bytes_in (F.contents files.now)
+        (I.remaining input.old) name.now) (λ s. text.items ≡ source_of s)) }
     ensures fault { IfErr result (IsReading name.now) }
     ensures missing { lacks_bytes (F.is_missing files.now) name.now ≡ true → IsUnread result }
     ensures kept { is_file name.now ≡ true → I.remaining input.new ≡ I.remaining input.old }
@@ -110,7 +114,8 @@ pub(crate) fn certificate_bytes<'a, F: Files, I: Read>(
     name: &'a str,
     input: &mut I,
 ) -> Result<Vec<u8>, Fault<'a>>
-    ensures text { IfOk result (λ text. IfSome (bytes_in (F.contents files.now) (I.remaining input.old) name.now) (λ c. text.items ≡ certs_of c)) }
+    ensures text { IfOk result (λ text. IfSome (bytes_in (F.contents files.now)
+        (I.remaining input.old) name.now) (λ c. text.items ≡ certs_of c)) }
     ensures fault { IfErr result (IsReading name.now) }
     ensures missing { lacks_bytes (F.is_missing files.now) name.now ≡ true → IsUnread result }
     ensures kept { is_file name.now ≡ true → I.remaining input.new ≡ I.remaining input.old }
@@ -129,8 +134,10 @@ fn both_from<'a, S: Read, C: Read>(
     source: &mut S,
     certs: &mut C,
 ) -> Result<(Vec<u8>, Vec<u8>), Fault<'a>>
-    ensures source { IfOk result (λ texts. IfSome (S.remaining source.old) (λ s. texts.0.items ≡ source_of s)) }
-    ensures certs { IfOk result (λ texts. IfSome (C.remaining certs.old) (λ c. texts.1.items ≡ certs_of c)) }
+    ensures source { IfOk result (λ texts.
+        IfSome (S.remaining source.old) (λ s. texts.0.items ≡ source_of s)) }
+    ensures certs { IfOk result (λ texts.
+        IfSome (C.remaining certs.old) (λ c. texts.1.items ≡ certs_of c)) }
     ensures fault { IfErr result (IsReadingBoth names.entry.source.now names.entry.certs.now) }
 {
     let text = source_from(alloc, names.source, source)?;
@@ -145,11 +152,17 @@ pub(crate) fn both_bytes<'a, F: Files, I: Read>(
     names: Names<'a>,
     input: &mut I,
 ) -> Result<(Vec<u8>, Vec<u8>), Fault<'a>>
-    ensures source { IfOk result (λ texts. IfSome (bytes_in (F.contents files.now) (I.remaining input.old) names.entry.source.now) (λ s. texts.0.items ≡ source_of s)) }
-    ensures certs { IfOk result (λ texts. IfSome (certs_in (F.contents files.now) (I.remaining input.old) names.entry.source.now names.entry.certs.now) (λ c. texts.1.items ≡ certs_of c)) }
+    ensures source { IfOk result (λ texts. IfSome (bytes_in (F.contents files.now)
+        (I.remaining input.old) names.entry.source.now) (λ s. texts.0.items ≡ source_of s)) }
+    ensures certs { IfOk result (λ texts. IfSome (certs_in (F.contents files.now)
+        (I.remaining input.old) names.entry.source.now names.entry.certs.now)
+        (λ c. texts.1.items ≡ certs_of c)) }
     ensures fault { IfErr result (IsReadingBoth names.entry.source.now names.entry.certs.now) }
-    ensures missing { (lacks_bytes (F.is_missing files.now) names.entry.source.now || lacks_certs (F.is_missing files.now) names.entry.source.now names.entry.certs.now) ≡ true → IsUnread result }
-    ensures kept { is_file names.entry.source.now ≡ true → is_file names.entry.certs.now ≡ true → I.remaining input.new ≡ I.remaining input.old }
+    ensures missing { (lacks_bytes (F.is_missing files.now) names.entry.source.now || lacks_certs
+        (F.is_missing files.now) names.entry.source.now names.entry.certs.now) ≡ true
+        → IsUnread result }
+    ensures kept { is_file names.entry.source.now ≡ true → is_file names.entry.certs.now ≡ true
+        → I.remaining input.new ≡ I.remaining input.old }
 {
     if names.source == INPUT {
         let mut certs = open(files, names.certs)?;

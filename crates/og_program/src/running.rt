@@ -43,9 +43,14 @@ impl<'r, F: Files, G: Gate, H: Threads + Wait + Sync> Program<'r, F, G, H> {
         erased: bool,
         input: &mut I,
     ) -> Result<Outcome<'a>, Fault<'a>>
-        ensures came { IfOk result (OfSource (F.contents self.now.files.now) (I.remaining input.old) source.now (λ s. Runs (IsRan erased limit s (map (λ w. w.now) words.now)) (IsRunRemark source.now s (map (λ w. w.now) words.now)) (IsWordRemark s None))) }
-        ensures fault { IfErr result (IsFault (λ n. n ≡ source.now) ⊥ (StartsAs (F.contents self.now.files.now) (I.remaining input.old) source.now erased None None (map (λ w. w.now) words.now))) }
-        ensures missing { lacks_bytes (F.is_missing self.now.files.now) source.now ≡ true → IsUnread result }
+        ensures came { IfOk result (OfSource (F.contents self.now.files.now) (I.remaining input.old)
+            source.now (λ s. Runs (IsRan erased limit s (map (λ w. w.now) words.now))
+            (IsRunRemark source.now s (map (λ w. w.now) words.now)) (IsWordRemark s None))) }
+        ensures fault { IfErr result (IsFault (λ n. n ≡ source.now) ⊥
+            (StartsAs (F.contents self.now.files.now) (I.remaining input.old) source.now erased None
+            None (map (λ w. w.now) words.now))) }
+        ensures missing { lacks_bytes (F.is_missing self.now.files.now) source.now ≡ true
+            → IsUnread result }
         ensures kept { is_file source.now ≡ true → I.remaining input.new ≡ I.remaining input.old }
     {
         let (rt, alloc) = (self.rt, self.alloc);
@@ -64,10 +69,20 @@ impl<'r, F: Files, G: Gate, H: Threads + Wait + Sync> Program<'r, F, G, H> {
         limit: RunLimit,
         input: &mut I,
     ) -> Result<Outcome<'a>, Fault<'a>>
-        ensures came { IfOk result (OfBoth (F.contents self.now.files.now) (I.remaining input.old) names.entry.source.now names.entry.certs.now (λ s c. Runs (IsRanProved limit s c (map (λ w. w.now) words.now)) (IsProvedRunRemark names.entry.source.now names.entry.certs.now s c (map (λ w. w.now) words.now)) (IsWordRemark s None))) }
-        ensures fault { IfErr result (IsFault (λ n. (n ≡ names.entry.source.now) ⊎ (n ≡ names.entry.certs.now)) ⊥ (StartsProved (F.contents self.now.files.now) (I.remaining input.old) names.entry.source.now names.entry.certs.now (map (λ w. w.now) words.now))) }
-        ensures missing { (lacks_bytes (F.is_missing self.now.files.now) names.entry.source.now || lacks_certs (F.is_missing self.now.files.now) names.entry.source.now names.entry.certs.now) ≡ true → IsUnread result }
-        ensures kept { is_file names.entry.source.now ≡ true → is_file names.entry.certs.now ≡ true → I.remaining input.new ≡ I.remaining input.old }
+        ensures came { IfOk result (OfBoth (F.contents self.now.files.now) (I.remaining input.old)
+            names.entry.source.now names.entry.certs.now (λ s c.
+            Runs (IsRanProved limit s c (map (λ w. w.now) words.now))
+            (IsProvedRunRemark names.entry.source.now names.entry.certs.now s c
+            (map (λ w. w.now) words.now)) (IsWordRemark s None))) }
+        ensures fault { IfErr result (IsFault (λ n. (n ≡ names.entry.source.now)
+            ⊎ (n ≡ names.entry.certs.now)) ⊥ (StartsProved (F.contents self.now.files.now)
+            (I.remaining input.old) names.entry.source.now names.entry.certs.now
+            (map (λ w. w.now) words.now))) }
+        ensures missing { (lacks_bytes (F.is_missing self.now.files.now) names.entry.source.now ||
+            lacks_certs (F.is_missing self.now.files.now) names.entry.source.now
+            names.entry.certs.now) ≡ true → IsUnread result }
+        ensures kept { is_file names.entry.source.now ≡ true → is_file names.entry.certs.now ≡ true
+            → I.remaining input.new ≡ I.remaining input.old }
     {
         let (rt, alloc) = (self.rt, self.alloc);
         let (source, certs) = both_bytes(alloc, self.files, names, input)?;
@@ -86,9 +101,13 @@ impl<'r, F: Files, G: Gate, H: Threads + Wait + Sync> Program<'r, F, G, H> {
         erased: bool,
         input: &mut I,
     ) -> Result<Outcome<'a>, Fault<'a>>
-        ensures came { IfOk result (OfSource (F.contents self.now.files.now) (I.remaining input.old) source.now (λ s. Runs (IsScheduled erased s (map (λ w. w.now) words.now) schedule.now) (IsRunRemark source.now s (map (λ w. w.now) words.now)) (IsWordRemark s (Some schedule.entry)))) }
+        ensures came { IfOk result (OfSource (F.contents self.now.files.now) (I.remaining input.old)
+            source.now (λ s. Runs (IsScheduled erased s (map (λ w. w.now) words.now) schedule.now)
+            (IsRunRemark source.now s (map (λ w. w.now) words.now))
+            (IsWordRemark s (Some schedule.entry)))) }
         ensures fault { IfErr result (IsReading source.now) }
-        ensures missing { lacks_bytes (F.is_missing self.now.files.now) source.now ≡ true → IsUnread result }
+        ensures missing { lacks_bytes (F.is_missing self.now.files.now) source.now ≡ true
+            → IsUnread result }
         ensures kept { is_file source.now ≡ true → I.remaining input.new ≡ I.remaining input.old }
     {
         let bytes = source_bytes(self.alloc, self.files, source, input)?;
@@ -104,9 +123,14 @@ impl<'r, F: Files, G: Gate, H: Threads + Wait + Sync> Program<'r, F, G, H> {
         way: &Way<'a>,
         input: &mut I,
     ) -> Result<Outcome<'a>, Fault<'a>>
-        ensures came { IfOk result (OfRun (F.contents self.now.files.now) (I.remaining input.old) source.now way.now.limit way.now.erased None way.now.schedule (map (λ w. w.now) words.now)) }
-        ensures fault { IfErr result (IsFault (λ n. n ≡ source.now) ⊥ (StartsAs (F.contents self.now.files.now) (I.remaining input.old) source.now way.now.erased None way.now.schedule (map (λ w. w.now) words.now))) }
-        ensures missing { lacks_bytes (F.is_missing self.now.files.now) source.now ≡ true → IsUnread result }
+        ensures came { IfOk result (OfRun (F.contents self.now.files.now) (I.remaining input.old)
+            source.now way.now.limit way.now.erased None way.now.schedule
+            (map (λ w. w.now) words.now)) }
+        ensures fault { IfErr result (IsFault (λ n. n ≡ source.now) ⊥
+            (StartsAs (F.contents self.now.files.now) (I.remaining input.old) source.now
+            way.now.erased None way.now.schedule (map (λ w. w.now) words.now))) }
+        ensures missing { lacks_bytes (F.is_missing self.now.files.now) source.now ≡ true
+            → IsUnread result }
         ensures kept { is_file source.now ≡ true → I.remaining input.new ≡ I.remaining input.old }
     {
         match way.schedule {
@@ -124,10 +148,16 @@ impl<'r, F: Files, G: Gate, H: Threads + Wait + Sync> Program<'r, F, G, H> {
         way: &Way<'a>,
         input: &mut I,
     ) -> Result<Outcome<'a>, Fault<'a>>
-        ensures came { IfOk result (OfRun (F.contents self.now.files.now) (I.remaining input.old) source.now way.now.limit way.now.erased certs.entry way.now.schedule (map (λ w. w.now) words.now)) }
-        ensures fault { IfErr result (IsFault (λ n. (n ≡ source.now) ⊎ IfSome certs.entry (λ c. n ≡ c.now)) ⊥ (StartsAs (F.contents self.now.files.now) (I.remaining input.old) source.now way.now.erased certs.entry way.now.schedule (map (λ w. w.now) words.now))) }
-        ensures missing { (lacks_bytes (F.is_missing self.now.files.now) source.now || lacks_given (F.is_missing self.now.files.now) source.now certs.entry) ≡ true → IsUnread result }
-        ensures kept { is_file source.now ≡ true → reads_given certs.entry ≡ false → I.remaining input.new ≡ I.remaining input.old }
+        ensures came { IfOk result (OfRun (F.contents self.now.files.now) (I.remaining input.old)
+            source.now way.now.limit way.now.erased certs.entry way.now.schedule
+            (map (λ w. w.now) words.now)) }
+        ensures fault { IfErr result (IsFault (λ n. (n ≡ source.now) ⊎ IfSome certs.entry (λ c.
+            n ≡ c.now)) ⊥ (StartsAs (F.contents self.now.files.now) (I.remaining input.old)
+            source.now way.now.erased certs.entry way.now.schedule (map (λ w. w.now) words.now))) }
+        ensures missing { (lacks_bytes (F.is_missing self.now.files.now) source.now || lacks_given
+            (F.is_missing self.now.files.now) source.now certs.entry) ≡ true → IsUnread result }
+        ensures kept { is_file source.now ≡ true → reads_given certs.entry ≡ false
+            → I.remaining input.new ≡ I.remaining input.old }
     {
         match certs {
             None => self.run_free(source, words, way, input),

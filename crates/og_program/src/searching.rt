@@ -29,9 +29,11 @@ impl<'r, F: Files, G: Gate, H: Threads + Wait + Sync> Program<'r, F, G, H> {
         search: Search,
         input: &mut I,
     ) -> Result<Outcome<'a>, Fault<'a>>
-        ensures came { IfOk result (OfSource (F.contents self.now.files.now) (I.remaining input.old) source.now (Proves search.json (map (λ w. w.now) words.now) source.now)) }
+        ensures came { IfOk result (OfSource (F.contents self.now.files.now) (I.remaining input.old)
+            source.now (Proves search.json (map (λ w. w.now) words.now) source.now)) }
         ensures fault { IfErr result (IsFault (λ n. n ≡ source.now) ⊥ (1 < search.workers)) }
-        ensures missing { lacks_bytes (F.is_missing self.now.files.now) source.now ≡ true → IsUnread result }
+        ensures missing { lacks_bytes (F.is_missing self.now.files.now) source.now ≡ true
+            → IsUnread result }
         ensures kept { is_file source.now ≡ true → I.remaining input.new ≡ I.remaining input.old }
     {
         let bytes = source_bytes(self.alloc, self.files, source, input)?;
@@ -49,9 +51,11 @@ impl<'r, F: Files, G: Gate, H: Threads + Wait + Sync> Program<'r, F, G, H> {
         limit: MomentLimit,
         input: &mut I,
     ) -> Result<Outcome<'a>, Fault<'a>>
-        ensures came { IfOk result (OfSource (F.contents self.now.files.now) (I.remaining input.old) source.now (ProvesRuns search.json (map (λ w. w.now) words.now) source.now)) }
+        ensures came { IfOk result (OfSource (F.contents self.now.files.now) (I.remaining input.old)
+            source.now (ProvesRuns search.json (map (λ w. w.now) words.now) source.now)) }
         ensures fault { IfErr result (IsFault (λ n. n ≡ source.now) ⊥ (1 < search.workers)) }
-        ensures missing { lacks_bytes (F.is_missing self.now.files.now) source.now ≡ true → IsUnread result }
+        ensures missing { lacks_bytes (F.is_missing self.now.files.now) source.now ≡ true
+            → IsUnread result }
         ensures kept { is_file source.now ≡ true → I.remaining input.new ≡ I.remaining input.old }
     {
         let bytes = source_bytes(self.alloc, self.files, source, input)?;
@@ -68,9 +72,11 @@ impl<'r, F: Files, G: Gate, H: Threads + Wait + Sync> Program<'r, F, G, H> {
         workers: Workers,
         input: &mut I,
     ) -> Result<Outcome<'a>, Fault<'a>>
-        ensures came { IfOk result (OfSource (F.contents self.now.files.now) (I.remaining input.old) source.now (λ s. OnTold (Shows source.now s))) }
+        ensures came { IfOk result (OfSource (F.contents self.now.files.now) (I.remaining input.old)
+            source.now (λ s. OnTold (Shows source.now s))) }
         ensures fault { IfErr result (IsFault (λ n. n ≡ source.now) ⊥ (1 < workers)) }
-        ensures missing { lacks_bytes (F.is_missing self.now.files.now) source.now ≡ true → IsUnread result }
+        ensures missing { lacks_bytes (F.is_missing self.now.files.now) source.now ≡ true
+            → IsUnread result }
         ensures kept { is_file source.now ≡ true → I.remaining input.new ≡ I.remaining input.old }
     {
         let bytes = source_bytes(self.alloc, self.files, source, input)?;
@@ -89,9 +95,11 @@ impl<'r, F: Files, G: Gate, H: Threads + Wait + Sync> Program<'r, F, G, H> {
         limit: MomentLimit,
         input: &mut I,
     ) -> Result<Outcome<'a>, Fault<'a>>
-        ensures came { IfOk result (OfSource (F.contents self.now.files.now) (I.remaining input.old) source.now (ShowsRuns (map (λ w. w.now) words.now) source.now)) }
+        ensures came { IfOk result (OfSource (F.contents self.now.files.now) (I.remaining input.old)
+            source.now (ShowsRuns (map (λ w. w.now) words.now) source.now)) }
         ensures fault { IfErr result (IsFault (λ n. n ≡ source.now) ⊥ (1 < search.workers)) }
-        ensures missing { lacks_bytes (F.is_missing self.now.files.now) source.now ≡ true → IsUnread result }
+        ensures missing { lacks_bytes (F.is_missing self.now.files.now) source.now ≡ true
+            → IsUnread result }
         ensures kept { is_file source.now ≡ true → I.remaining input.new ≡ I.remaining input.old }
     {
         let bytes = source_bytes(self.alloc, self.files, source, input)?;
@@ -109,9 +117,11 @@ impl<'r, F: Files, G: Gate, H: Threads + Wait + Sync> Program<'r, F, G, H> {
         version: CertVersion,
         input: &mut I,
     ) -> Result<Outcome<'a>, Fault<'a>>
-        ensures came { IfOk result (OfSource (F.contents self.now.files.now) (I.remaining input.old) source.now (Finds version source.now)) }
+        ensures came { IfOk result (OfSource (F.contents self.now.files.now) (I.remaining input.old)
+            source.now (Finds version source.now)) }
         ensures fault { IfErr result (IsFault (λ n. n ≡ source.now) ⊥ (1 < workers)) }
-        ensures missing { lacks_bytes (F.is_missing self.now.files.now) source.now ≡ true → IsUnread result }
+        ensures missing { lacks_bytes (F.is_missing self.now.files.now) source.now ≡ true
+            → IsUnread result }
         ensures kept { is_file source.now ≡ true → I.remaining input.new ≡ I.remaining input.old }
     {
         let bytes = source_bytes(self.alloc, self.files, source, input)?;

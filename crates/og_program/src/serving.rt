@@ -28,8 +28,10 @@ use std::thread::Threads;
 impl<'r, F: Files, G: Gate, H: Threads + Wait + Sync> Program<'r, F, G, H> {
     // What a job comes to.
     fn outcome<'a, I: Read>(&self, job: &Job<'a>, input: &mut I) -> Result<Outcome<'a>, Fault<'a>>
-        ensures came { IfOk result (Comes (F.contents self.now.files.now) (I.remaining input.old) job.now) }
-        ensures fault { IfErr result (IsFault (Opens job.now) ⊥ (StartsThreads (F.contents self.now.files.now) (I.remaining input.old) job.now)) }
+        ensures came { IfOk result (Comes (F.contents self.now.files.now) (I.remaining input.old)
+            job.now) }
+        ensures fault { IfErr result (IsFault (Opens job.now) ⊥
+            (StartsThreads (F.contents self.now.files.now) (I.remaining input.old) job.now)) }
         ensures missing { lacks (F.is_missing self.now.files.now) job.now ≡ true → IsUnread result }
         ensures kept { reads_input job.now ≡ false → I.remaining input.new ≡ I.remaining input.old }
     {
@@ -161,8 +163,12 @@ impl<'r, F: Files, G: Gate, H: Threads + Wait + Sync> Program<'r, F, G, H> {
         out: &mut O,
         err: &mut E,
     ) -> Ended
-        ensures ended { EndsJob (F.contents self.now.files.now) (I.remaining input.old) job.now (O.contents out.old) (O.contents out.new) (E.contents err.old) (E.contents err.new) result }
-        ensures lacking { lacks (F.is_missing self.now.files.now) job.now ≡ true → FailsToRead job.now (O.contents out.old) (O.contents out.new) (E.contents err.old) (E.contents err.new) result }
+        ensures ended { EndsJob (F.contents self.now.files.now) (I.remaining input.old) job.now
+            (O.contents out.old) (O.contents out.new) (E.contents err.old) (E.contents err.new)
+            result }
+        ensures lacking { lacks (F.is_missing self.now.files.now) job.now ≡ true → FailsToRead
+            job.now (O.contents out.old) (O.contents out.new) (E.contents err.old)
+            (E.contents err.new) result }
         ensures kept { reads_input job.now ≡ false → I.remaining input.new ≡ I.remaining input.old }
     {
         let outcome = self.outcome(job, input);
@@ -172,7 +178,8 @@ impl<'r, F: Files, G: Gate, H: Threads + Wait + Sync> Program<'r, F, G, H> {
 
 // Tells why there is no job.
 fn explain<O: Write, E: Write>(alloc: Global, usage: Usage, out: &mut O, err: &mut E) -> Ended
-    ensures { EndsUsage usage (O.contents out.old) (O.contents out.new) (E.contents err.old) (E.contents err.new) result }
+    ensures { EndsUsage usage (O.contents out.old) (O.contents out.new) (E.contents err.old)
+        (E.contents err.new) result }
 {
     match usage {
         Usage::Asked(text) => {
@@ -219,11 +226,17 @@ pub fn serve<F: Files, I: Read, O: Write, E: Write, G: Gate, H: Threads + Wait +
     out: &mut O,
     err: &mut E,
 ) -> Ended
-    ensures ended { Ends (F.contents files.now) (I.remaining input.old) asked.entry (O.contents out.old) (O.contents out.new) (E.contents err.old) (E.contents err.new) result }
-    ensures sound { IfOk asked.entry (λ job. result.status ≡ 0 → IsProvenIn (F.contents files.now) (I.remaining input.old) job) }
-    ensures lacking { IfOk asked.entry (λ job. lacks (F.is_missing files.now) job ≡ true → FailsToRead job (O.contents out.old) (O.contents out.new) (E.contents err.old) (E.contents err.new) result) }
-    ensures unblocked { IfOk asked.entry (λ job. result.status ≡ 0 → IsNeverStuckIn (F.contents files.now) (I.remaining input.old) (O.contents out.old) (O.contents out.new) job) }
-    ensures kept { IfOk asked.entry (λ job. reads_input job ≡ false → I.remaining input.new ≡ I.remaining input.old) }
+    ensures ended { Ends (F.contents files.now) (I.remaining input.old) asked.entry
+        (O.contents out.old) (O.contents out.new) (E.contents err.old) (E.contents err.new) result }
+    ensures sound { IfOk asked.entry
+        (λ job. result.status ≡ 0 → IsProvenIn (F.contents files.now) (I.remaining input.old) job) }
+    ensures lacking { IfOk asked.entry (λ job. lacks (F.is_missing files.now) job ≡ true
+        → FailsToRead job (O.contents out.old) (O.contents out.new) (E.contents err.old)
+        (E.contents err.new) result) }
+    ensures unblocked { IfOk asked.entry (λ job. result.status ≡ 0 → IsNeverStuckIn (F.contents
+        files.now) (I.remaining input.old) (O.contents out.old) (O.contents out.new) job) }
+    ensures kept { IfOk asked.entry
+        (λ job. reads_input job ≡ false → I.remaining input.new ≡ I.remaining input.old) }
     ensures unread { IfErr asked.entry (λ _. I.remaining input.new ≡ I.remaining input.old) }
 {
     match asked {
@@ -251,8 +264,12 @@ pub fn serve_words<F: Files, I: Read, O: Write, E: Write, G: Gate, H: Threads + 
     out: &mut O,
     err: &mut E,
 ) -> Ended
-    ensures words { IfOk words (λ w. EndsWords (map (λ s. string_bytes s) w.items) (F.contents files.now) (F.is_missing files.now) (I.remaining input.old) (I.remaining input.new) (O.contents out.old) (O.contents out.new) (E.contents err.old) (E.contents err.new) result) }
-    ensures none { IfErr words (λ usage. EndsUsage usage (O.contents out.old) (O.contents out.new) (E.contents err.old) (E.contents err.new) result) }
+    ensures words { IfOk words (λ w. EndsWords (map (λ s. string_bytes s) w.items)
+        (F.contents files.now) (F.is_missing files.now) (I.remaining input.old)
+        (I.remaining input.new) (O.contents out.old) (O.contents out.new) (E.contents err.old)
+        (E.contents err.new) result) }
+    ensures none { IfErr words (λ usage. EndsUsage usage (O.contents out.old) (O.contents out.new)
+        (E.contents err.old) (E.contents err.new) result) }
     ensures unread { IfErr words (λ _. I.remaining input.new ≡ I.remaining input.old) }
 {
     match words {

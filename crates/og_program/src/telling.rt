@@ -64,7 +64,8 @@ fn not_read_text(alloc: Global, name: &str, why: Why) -> Result<Vec<u8>, AllocEr
 
 // Ends with a file that was not read.
 fn fail_to_read<E: Write>(alloc: Global, name: &str, why: Why, err: &mut E) -> Ended
-    ensures { Says (fault_text (Fault.NotRead name.entry why)) 4 (E.contents err.old) (E.contents err.new) result }
+    ensures { Says (fault_text (Fault.NotRead name.entry why)) 4 (E.contents err.old)
+        (E.contents err.new) result }
 {
     match not_read_text(alloc, name, why) {
         Ok(text) => complain(&text, FAULT, err),
@@ -104,7 +105,8 @@ pub(crate) fn print<O: Write, E: Write>(
     out: &mut O,
     err: &mut E,
 ) -> Ended
-    ensures { TellsAnswer told.now (O.contents out.old) (O.contents out.new) (E.contents err.old) (E.contents err.new) result }
+    ensures { TellsAnswer told.now (O.contents out.old) (O.contents out.new) (E.contents err.old)
+        (E.contents err.new) result }
 {
     match write_answer(out, &told.answer) {
         Ok(status) => note(&told.note, status, err),
@@ -145,7 +147,8 @@ fn refuse_value<E: Write>(alloc: Global, bad: &BadValue<'_>, err: &mut E) -> End
 
 // Writes a listing as it is made, or tells why it is not written whole.
 fn list<O: Write, E: Write>(alloc: Global, listing: &Listing, out: &mut O, err: &mut E) -> Ended
-    ensures { TellsListing listing.now (O.contents out.old) (O.contents out.new) (E.contents err.old) (E.contents err.new) result }
+    ensures { TellsListing listing.now (O.contents out.old) (O.contents out.new)
+        (E.contents err.old) (E.contents err.new) result }
 {
     match listing.write(alloc, out) {
         Ok(status) => Ended { status, told: true },
@@ -161,7 +164,8 @@ fn print_found<O: Write, E: Write>(
     out: &mut O,
     err: &mut E,
 ) -> Ended
-    ensures { TellsFound certificates.now (O.contents out.old) (O.contents out.new) (E.contents err.old) (E.contents err.new) result }
+    ensures { TellsFound certificates.now (O.contents out.old) (O.contents out.new)
+        (E.contents err.old) (E.contents err.new) result }
 {
     match certificates.found.write(alloc, out) {
         Ok(status) => note(&certificates.note, status, err),
@@ -176,7 +180,8 @@ fn tell_outcome<O: Write, E: Write>(
     out: &mut O,
     err: &mut E,
 ) -> Ended
-    ensures { TellsOutcome outcome.now (O.contents out.old) (O.contents out.new) (E.contents err.old) (E.contents err.new) result }
+    ensures { TellsOutcome outcome.now (O.contents out.old) (O.contents out.new)
+        (E.contents err.old) (E.contents err.new) result }
 {
     match outcome {
         Outcome::Told(told) => print(alloc, told, out, err),
@@ -194,8 +199,10 @@ pub(crate) fn tell<O: Write, E: Write>(
     out: &mut O,
     err: &mut E,
 ) -> Ended
-    ensures ok { IfOk outcome.entry (λ o. TellsOutcome o (O.contents out.old) (O.contents out.new) (E.contents err.old) (E.contents err.new) result) }
-    ensures err { IfErr outcome.entry (λ fault. Fails fault (O.contents out.old) (O.contents out.new) (E.contents err.old) (E.contents err.new) result) }
+    ensures ok { IfOk outcome.entry (λ o. TellsOutcome o (O.contents out.old) (O.contents out.new)
+        (E.contents err.old) (E.contents err.new) result) }
+    ensures err { IfErr outcome.entry (λ fault. Fails fault (O.contents out.old)
+        (O.contents out.new) (E.contents err.old) (E.contents err.new) result) }
 {
     match outcome {
         Ok(outcome) => tell_outcome(alloc, &outcome, out, err),

@@ -63,7 +63,8 @@ fn put_entry(
     entry: &Entry,
 ) -> Result<(), AllocError>
     requires { members.old.entries ≡ [] }
-    ensures { OnOk result (object (members_view members.new.entries) ≡ entry_data places.now number entry.now) }
+    ensures { OnOk result (object (members_view members.new.entries)
+        ≡ entry_data places.now number entry.now) }
 {
     put_common(members, alloc, places, number, entry)?;
     if let Some(at) = entry.action_at {
@@ -166,7 +167,8 @@ fn judgement_value(
 pub fn json(alloc: Global, judgement: &Judgement, source: &[u8]) -> Result<Vec<u8>, AllocError>
     requires { length source.now ≤ 2 ^ 20 }
     ensures report { IfOk result (λ t. t.items ≡ json_text source.now (entries_of judgement.now)) }
-    ensures unblocked { IfOk result (λ t. SaysUnblocked true (t.items ++ 10 ∷ []) → is_unblocked (entries_of judgement.now) ≡ true) }
+    ensures unblocked { IfOk result (λ t.
+        SaysUnblocked true (t.items ++ 10 ∷ []) → is_unblocked (entries_of judgement.now) ≡ true) }
 {
     let places = Places::new(alloc, source)?;
     let value = judgement_value(alloc, judgement, &places)?;

@@ -46,7 +46,8 @@ fn put_numbered(
     number: u128,
     entry: &Entry,
 ) -> Result<(), AllocError>
-    ensures { OnOk result (text.new.items ≡ text.old.items ++ numbered_text places.now number entry.now) }
+    ensures { OnOk result (text.new.items ≡ text.old.items
+        ++ numbered_text places.now number entry.now) }
 {
     text.extend_from_slice(b": condition ")?;
     put_number(text, number)?;
@@ -69,7 +70,8 @@ fn put_line(
 
 // The lines of the conditions that are not proved, numbered from 1.
 fn put_unproved(text: &mut Vec<u8>, places: &Places, entries: &[Entry]) -> Result<(), AllocError>
-    ensures { OnOk result (text.new.items ≡ text.old.items ++ unproved_lines places.now 1 entries.now) }
+    ensures { OnOk result (text.new.items ≡ text.old.items
+        ++ unproved_lines places.now 1 entries.now) }
 {
     let mut number = 1;
     for entry in entries {
@@ -107,7 +109,8 @@ pub(crate) fn count_proved(entries: &[Entry]) -> usize
 
 // The lines at the end of a report.
 fn put_totals(text: &mut Vec<u8>, judgement: &Judgement) -> Result<(), AllocError>
-    ensures { OnOk result (text.new.items ≡ text.old.items ++ totals_text (entries_of judgement.now)) }
+    ensures { OnOk result (text.new.items ≡ text.old.items
+        ++ totals_text (entries_of judgement.now)) }
 {
     let entries = judgement.entries();
     put_count(text, b"conditions: ", entries.len())?;
@@ -127,7 +130,8 @@ fn put_totals(text: &mut Vec<u8>, judgement: &Judgement) -> Result<(), AllocErro
 pub fn text(alloc: Global, judgement: &Judgement, source: &[u8]) -> Result<Vec<u8>, AllocError>
     requires { length source.now ≤ 2 ^ 20 }
     ensures report { IfOk result (λ t. t.items ≡ report_text source.now (entries_of judgement.now)) }
-    ensures unblocked { IfOk result (λ t. SaysUnblocked false t.items → is_unblocked (entries_of judgement.now) ≡ true) }
+    ensures unblocked { IfOk result (λ t.
+        SaysUnblocked false t.items → is_unblocked (entries_of judgement.now) ≡ true) }
 {
     let places = Places::new(alloc, source)?;
     let mut text = Vec::new(alloc);

@@ -129,7 +129,8 @@ fn of_numbers<'a>(
     numbers: Vec<u32>,
     source: Source<'_>,
 ) -> Result<Reply<'a>, AllocError>
-    ensures { IfOk result (IsReplyOf form word.entry numbers.items source.entry.outline source.entry.bytes) }
+    ensures { IfOk result (IsReplyOf form word.entry numbers.items source.entry.outline
+        source.entry.bytes) }
 {
     match count(alloc, source.outline()) {
         Ok(count) => match first_other(count, &numbers) {

@@ -19,7 +19,8 @@ fn put_compared(
     form: &Form,
     closing: &[u8],
 ) -> Result<(), AllocError>
-    ensures { OnOk result (text.new.items ≡ text.old.items ++ (opening.now ++ (form_text names.now form.now ++ closing.now))) }
+    ensures { OnOk result (text.new.items ≡ text.old.items
+        ++ (opening.now ++ (form_text names.now form.now ++ closing.now))) }
 {
     text.extend_from_slice(opening)?;
     put_form(text, names, form)?;
@@ -34,7 +35,8 @@ pub(crate) fn put_formula(
     names: &[Name],
     assert: &Assert,
 ) -> Result<(), AllocError>
-    ensures { OnOk result (text.new.items ≡ text.old.items ++ formula_text names.now (formula assert.now)) }
+    ensures { OnOk result (text.new.items ≡ text.old.items
+        ++ formula_text names.now (formula assert.now)) }
 {
     match assert {
         Assert::True => text.extend_from_slice(b"true"),
@@ -67,7 +69,8 @@ fn put_listed(
     word: &[u8],
     all: &[Assert],
 ) -> Result<(), AllocError>
-    ensures { OnOk result (text.new.items ≡ text.old.items ++ (word.now ++ (formulas_text names.now (formula_list (map formula all.now)) ++ codes ")"))) }
+    ensures { OnOk result (text.new.items ≡ text.old.items ++
+        (word.now ++ (formulas_text names.now (formula_list (map formula all.now)) ++ codes ")"))) }
 {
     text.extend_from_slice(word)?;
     put_formulas(text, names, all)?;
@@ -76,7 +79,8 @@ fn put_listed(
 
 #[cycle(formulas)]
 fn put_formulas(text: &mut Vec<u8>, names: &[Name], all: &[Assert]) -> Result<(), AllocError>
-    ensures { OnOk result (text.new.items ≡ text.old.items ++ formulas_text names.now (formula_list (map formula all.now))) }
+    ensures { OnOk result (text.new.items ≡ text.old.items
+        ++ formulas_text names.now (formula_list (map formula all.now))) }
 {
     for assert in all {
         text.extend_from_slice(b" ")?;

@@ -55,7 +55,8 @@ fn put_after(
     body: &[Basic],
     assert: &Assert,
 ) -> Result<(), AllocError>
-    ensures { OnOk result (text.new.items ≡ text.old.items ++ after_text names.now (map simple body.now) (formula_text names.now (formula assert.now))) }
+    ensures { OnOk result (text.new.items ≡ text.old.items ++ after_text names.now
+        (map simple body.now) (formula_text names.now (formula assert.now))) }
 {
     match body {
         [] => put_formula(text, names, assert),
@@ -70,7 +71,8 @@ fn put_after(
 
 // That each value of these assignments is an `i64`.
 fn put_fits(text: &mut Vec<u8>, names: &[Name], body: &[Basic]) -> Result<(), AllocError>
-    ensures { OnOk result (text.new.items ≡ text.old.items ++ fits_text names.now (map simple body.now)) }
+    ensures { OnOk result (text.new.items ≡ text.old.items
+        ++ fits_text names.now (map simple body.now)) }
 {
     match body {
         [] => text.extend_from_slice(b"true"),
@@ -90,7 +92,8 @@ fn put_assigned(
     form: &Form,
     goal: &Goal,
 ) -> Result<(), AllocError>
-    ensures { OnOk result (text.new.items ≡ text.old.items ++ goal_text names.now (Set var form.now ∷ []) (goal_of goal.now)) }
+    ensures { OnOk result (text.new.items ≡ text.old.items
+        ++ goal_text names.now (Set var form.now ∷ []) (goal_of goal.now)) }
 {
     match goal {
         Goal::Holds(a) => {
@@ -112,7 +115,8 @@ fn put_awaited(
     body: &[Basic],
     goal: &Goal,
 ) -> Result<(), AllocError>
-    ensures { OnOk result (text.new.items ≡ text.old.items ++ goal_text names.now (map simple body.now) (goal_of goal.now)) }
+    ensures { OnOk result (text.new.items ≡ text.old.items
+        ++ goal_text names.now (map simple body.now) (goal_of goal.now)) }
 {
     match goal {
         Goal::Holds(a) => put_after(text, names, body, a),
@@ -128,7 +132,8 @@ pub(crate) fn put_goal(
     action: &Option<Action>,
     goal: &Goal,
 ) -> Result<(), AllocError>
-    ensures { OnOk result (text.new.items ≡ text.old.items ++ goal_text names.now (assignments (option_map action_tree action.now)) (goal_of goal.now)) }
+    ensures { OnOk result (text.new.items ≡ text.old.items ++ goal_text names.now
+        (assignments (option_map action_tree action.now)) (goal_of goal.now)) }
 {
     match action {
         None => put_awaited(text, names, &[], goal),

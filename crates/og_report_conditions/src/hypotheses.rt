@@ -12,7 +12,8 @@ use og_text::Name;
 use std::alloc::AllocError;
 
 fn put_part(text: &mut Vec<u8>, names: &[Name], part: &Part) -> Result<(), AllocError>
-    ensures { OnOk result (text.new.items ≡ text.old.items ++ part_text names.now (part_of part.now)) }
+    ensures { OnOk result (text.new.items ≡ text.old.items
+        ++ part_text names.now (part_of part.now)) }
 {
     match part {
         Part::Yes(a) => put_formula(text, names, a),
@@ -25,7 +26,8 @@ fn put_part(text: &mut Vec<u8>, names: &[Name], part: &Part) -> Result<(), Alloc
 }
 
 fn put_parts(text: &mut Vec<u8>, names: &[Name], parts: &[Part]) -> Result<(), AllocError>
-    ensures { OnOk result (text.new.items ≡ text.old.items ++ parts_text names.now (map part_of parts.now)) }
+    ensures { OnOk result (text.new.items ≡ text.old.items
+        ++ parts_text names.now (map part_of parts.now)) }
 {
     for part in parts {
         text.extend_from_slice(b" ")?;
@@ -35,7 +37,8 @@ fn put_parts(text: &mut Vec<u8>, names: &[Name], parts: &[Part]) -> Result<(), A
 }
 
 fn put_choices(text: &mut Vec<u8>, names: &[Name], choices: &[Vec<Part>]) -> Result<(), AllocError>
-    ensures { OnOk result (text.new.items ≡ text.old.items ++ choices_text names.now (map parts_of choices.now)) }
+    ensures { OnOk result (text.new.items ≡ text.old.items
+        ++ choices_text names.now (map parts_of choices.now)) }
 {
     for choice in choices {
         text.extend_from_slice(b" (and true true")?;
@@ -46,7 +49,8 @@ fn put_choices(text: &mut Vec<u8>, names: &[Name], choices: &[Vec<Part>]) -> Res
 }
 
 fn put_start(text: &mut Vec<u8>, names: &[Name], var: u32, value: i64) -> Result<(), AllocError>
-    ensures { OnOk result (text.new.items ≡ text.old.items ++ hypothesis_text names.now (Starts var value)) }
+    ensures { OnOk result (text.new.items ≡ text.old.items
+        ++ hypothesis_text names.now (Starts var value)) }
 {
     text.extend_from_slice(b"(= ")?;
     put_variable(text, names, var)?;
@@ -60,7 +64,8 @@ fn put_hypothesis(
     names: &[Name],
     hypothesis: &Hypothesis,
 ) -> Result<(), AllocError>
-    ensures { OnOk result (text.new.items ≡ text.old.items ++ hypothesis_text names.now (hypothesis_of hypothesis.now)) }
+    ensures { OnOk result (text.new.items ≡ text.old.items
+        ++ hypothesis_text names.now (hypothesis_of hypothesis.now)) }
 {
     match hypothesis {
         Hypothesis::Is(part) => put_part(text, names, part),
@@ -79,7 +84,8 @@ pub(crate) fn put_hypotheses(
     names: &[Name],
     hypotheses: &[Hypothesis],
 ) -> Result<(), AllocError>
-    ensures { OnOk result (text.new.items ≡ text.old.items ++ hypotheses_lines names.now (map hypothesis_of hypotheses.now)) }
+    ensures { OnOk result (text.new.items ≡ text.old.items
+        ++ hypotheses_lines names.now (map hypothesis_of hypotheses.now)) }
 {
     for hypothesis in hypotheses {
         text.extend_from_slice(b"(assert ")?;

@@ -10,5 +10,6 @@ ghost use Rattle.og_report_conditions.specs.declared.form.Form.TheVariants as fo
 /// The listing of all conditions with their facts is the text that `conditions_text` makes. Does
 /// nothing.
 pub fn all_with_facts()
-    ensures { (o : Program) (source : List ℕ) → listing_text forms.Facts None o source ≡ conditions_lines o.names source 1 (conditions o) }
+    ensures { (o : Program) (source : List ℕ) → listing_text forms.Facts None o source
+        ≡ conditions_lines o.names source 1 (conditions o) }
 {}

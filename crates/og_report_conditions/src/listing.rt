@@ -53,9 +53,11 @@ fn write_conditions<W: Write>(
 ) -> Result<u8, OutputFault>
     requires source { length source.now ≤ 2 ^ 20 }
     requires few { length (conditions outline.now) ≤ condition_limit }
-    ensures written { OnOk result (Appends (W.contents out.old) (W.contents out.new) (listing_text form (numbers_in only.entry) outline.now source.now)) }
+    ensures written { OnOk result (Appends (W.contents out.old) (W.contents out.new)
+        (listing_text form (numbers_in only.entry) outline.now source.now)) }
     ensures status { IfOk result (λ status. status ≡ 0) }
-    ensures unfinished { IfErr result (λ _. AppendsFront (W.contents out.old) (W.contents out.new) (listing_text form (numbers_in only.entry) outline.now source.now)) }
+    ensures unfinished { IfErr result (λ _. AppendsFront (W.contents out.old) (W.contents out.new)
+        (listing_text form (numbers_in only.entry) outline.now source.now)) }
 {
     outline.follows_rule();
     let mut groups = match Groups::new(alloc, outline) {
@@ -86,7 +88,8 @@ impl Listing {
         source: Source<'_>,
     ) -> Result<Listing, AllocError>
         requires { length (conditions source.outline) ≤ condition_limit }
-        ensures { IfOk result (λ listing. listing ≡ listing_text form (numbers_of only) source.entry.outline source.entry.bytes) }
+        ensures { IfOk result (λ listing.
+            listing ≡ listing_text form (numbers_of only) source.entry.outline source.entry.bytes) }
     {
         let bytes = Vec::from_slice(alloc, source.bytes())?;
         Ok(Listing {
@@ -106,7 +109,8 @@ impl Listing {
     pub fn write<W: Write>(&self, alloc: Global, out: &mut W) -> Result<u8, OutputFault>
         ensures written { OnOk result (Appends (W.contents out.old) (W.contents out.new) self.now) }
         ensures status { IfOk result (λ status. status ≡ 0) }
-        ensures unfinished { IfErr result (λ _. AppendsFront (W.contents out.old) (W.contents out.new) self.now) }
+        ensures unfinished { IfErr result
+            (λ _. AppendsFront (W.contents out.old) (W.contents out.new) self.now) }
     {
         write_conditions(
             alloc,

@@ -10,7 +10,8 @@ use og_text::Name;
 use std::alloc::AllocError;
 
 fn put_part(text: &mut Vec<u8>, names: &[Name], least: u8, part: &Part) -> Result<(), AllocError>
-    ensures { OnOk result (text.new.items ≡ text.old.items ++ part_text names.now least (part_of part.now)) }
+    ensures { OnOk result (text.new.items ≡ text.old.items
+        ++ part_text names.now least (part_of part.now)) }
 {
     match part {
         Part::Yes(a) => put_operand(text, names, least, a),
@@ -22,7 +23,8 @@ fn put_part(text: &mut Vec<u8>, names: &[Name], least: u8, part: &Part) -> Resul
 }
 
 fn put_parts(text: &mut Vec<u8>, names: &[Name], parts: &[Part]) -> Result<(), AllocError>
-    ensures { OnOk result (text.new.items ≡ text.old.items ++ parts_text names.now [] (map part_of parts.now)) }
+    ensures { OnOk result (text.new.items ≡ text.old.items
+        ++ parts_text names.now [] (map part_of parts.now)) }
 {
     let mut between: &[u8] = b"";
     for part in parts {
@@ -34,7 +36,8 @@ fn put_parts(text: &mut Vec<u8>, names: &[Name], parts: &[Part]) -> Result<(), A
 }
 
 fn put_choices(text: &mut Vec<u8>, names: &[Name], choices: &[Vec<Part>]) -> Result<(), AllocError>
-    ensures { OnOk result (text.new.items ≡ text.old.items ++ choices_text names.now [] (map parts_of choices.now)) }
+    ensures { OnOk result (text.new.items ≡ text.old.items
+        ++ choices_text names.now [] (map parts_of choices.now)) }
 {
     let mut between: &[u8] = b"";
     for choice in choices {
@@ -46,7 +49,8 @@ fn put_choices(text: &mut Vec<u8>, names: &[Name], choices: &[Vec<Part>]) -> Res
 }
 
 fn put_one_of(text: &mut Vec<u8>, names: &[Name], choices: &[Vec<Part>]) -> Result<(), AllocError>
-    ensures { OnOk result (text.new.items ≡ text.old.items ++ one_of_text names.now (map parts_of choices.now)) }
+    ensures { OnOk result (text.new.items ≡ text.old.items
+        ++ one_of_text names.now (map parts_of choices.now)) }
 {
     if choices.is_empty() {
         return text.extend_from_slice(b"false");
@@ -64,7 +68,8 @@ pub(crate) fn put_hypothesis(
     least: u8,
     hypothesis: &Hypothesis,
 ) -> Result<(), AllocError>
-    ensures { OnOk result (text.new.items ≡ text.old.items ++ hypothesis_text names.now least (hypothesis_of hypothesis.now)) }
+    ensures { OnOk result (text.new.items ≡ text.old.items
+        ++ hypothesis_text names.now least (hypothesis_of hypothesis.now)) }
 {
     match hypothesis {
         Hypothesis::Is(part) => put_part(text, names, least, part),
@@ -79,7 +84,8 @@ fn put_hypotheses(
     least: u8,
     hypotheses: &[Hypothesis],
 ) -> Result<(), AllocError>
-    ensures { OnOk result (text.new.items ≡ text.old.items ++ hypotheses_text names.now least [] (map hypothesis_of hypotheses.now)) }
+    ensures { OnOk result (text.new.items ≡ text.old.items
+        ++ hypotheses_text names.now least [] (map hypothesis_of hypotheses.now)) }
 {
     let mut between: &[u8] = b"";
     for hypothesis in hypotheses {
@@ -102,7 +108,8 @@ pub(crate) fn put_before(
     names: &[Name],
     hypotheses: &[Hypothesis],
 ) -> Result<(), AllocError>
-    ensures { OnOk result (text.new.items ≡ text.old.items ++ before_text names.now (map hypothesis_of hypotheses.now)) }
+    ensures { OnOk result (text.new.items ≡ text.old.items
+        ++ before_text names.now (map hypothesis_of hypotheses.now)) }
 {
     text.extend_from_slice(b"  {")?;
     put_hypotheses(text, names, least_of(hypotheses), hypotheses)?;

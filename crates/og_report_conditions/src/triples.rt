@@ -18,7 +18,8 @@ fn own_hypotheses<'s, 'a>(
     action: &Option<Action>,
     hypotheses: &'s [Hypothesis<'a>],
 ) -> &'s [Hypothesis<'a>]
-    ensures { map hypothesis_of result.now ≡ own_hypotheses (option_map action_tree action.now) (map hypothesis_of hypotheses.now) }
+    ensures { map hypothesis_of result.now
+        ≡ own_hypotheses (option_map action_tree action.now) (map hypothesis_of hypotheses.now) }
 {
     match action {
         Some(Action::Await(_)) => &hypotheses[..hypotheses.len().saturating_sub(1)],
@@ -27,7 +28,8 @@ fn own_hypotheses<'s, 'a>(
 }
 
 fn put_goal(text: &mut Vec<u8>, names: &[Name], goal: &Goal) -> Result<(), AllocError>
-    ensures { OnOk result (text.new.items ≡ text.old.items ++ goal_text names.now (goal_of goal.now)) }
+    ensures { OnOk result (text.new.items ≡ text.old.items
+        ++ goal_text names.now (goal_of goal.now)) }
 {
     match goal {
         Goal::Holds(a) => {
@@ -42,7 +44,8 @@ fn put_goal(text: &mut Vec<u8>, names: &[Name], goal: &Goal) -> Result<(), Alloc
 
 // The three lines of a condition.
 fn put_lines(text: &mut Vec<u8>, names: &[Name], condition: &Condition) -> Result<(), AllocError>
-    ensures { OnOk result (text.new.items ≡ text.old.items ++ lines_text names.now (seen condition.now)) }
+    ensures { OnOk result (text.new.items ≡ text.old.items
+        ++ lines_text names.now (seen condition.now)) }
 {
     let hypotheses = condition.hypotheses.as_slice();
     put_before(text, names, own_hypotheses(&condition.action, hypotheses))?;
@@ -66,7 +69,8 @@ pub fn put_triple(
     number: u32,
     condition: &Condition,
 ) -> Result<(), AllocError>
-    ensures { OnOk result (text.new.items ≡ text.old.items ++ triple_text names.now places.now number (seen condition.now)) }
+    ensures { OnOk result (text.new.items ≡ text.old.items
+        ++ triple_text names.now places.now number (seen condition.now)) }
 {
     put_heading(text, places, u128::from(number), condition)?;
     put_lines(text, names, condition)

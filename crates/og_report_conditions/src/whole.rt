@@ -32,7 +32,8 @@ fn put_ending(text: &mut Vec<u8>) -> Result<(), AllocError>
 
 // That the goal is false, and the question.
 fn put_asked(text: &mut Vec<u8>, names: &[Name], condition: &Condition) -> Result<(), AllocError>
-    ensures { OnOk result (text.new.items ≡ text.old.items ++ asked_lines names.now (seen condition.now)) }
+    ensures { OnOk result (text.new.items ≡ text.old.items
+        ++ asked_lines names.now (seen condition.now)) }
 {
     text.extend_from_slice(b"(assert (not ")?;
     put_goal(text, names, &condition.action, &condition.goal)?;
@@ -54,7 +55,8 @@ pub fn put_condition(
     number: u128,
     condition: &Condition,
 ) -> Result<(), AllocError>
-    ensures { OnOk result (text.new.items ≡ text.old.items ++ condition_lines names.now places.now number (seen condition.now)) }
+    ensures { OnOk result (text.new.items ≡ text.old.items
+        ++ condition_lines names.now places.now number (seen condition.now)) }
 {
     text.extend_from_slice(b"(push 1)\n; ")?;
     put_heading(text, places, number, condition)?;

@@ -103,7 +103,8 @@ fn test_of<'a>(
 
 // The statement there, where it is this action.
 fn same_action<'a>(index: &Index<'a>, at: u32, action: &Action) -> Option<StatementSite<'a>>
-    ensures { IfSome result (λ site. IsOneAction index.now (action_tree action.now) (statement_of site)) }
+    ensures { IfSome result
+        (λ site. IsOneAction index.now (action_tree action.now) (statement_of site)) }
 {
     let site = index.statement(at)?;
     let found = Action::of(&site.item.stmt)?;
@@ -119,7 +120,8 @@ fn action_of<'a>(
     index: &Index<'a>,
     condition: &Condition,
 ) -> Result<Option<StatementSite<'a>>, Unexplained>
-    ensures { IfOk result (λ found. IfSome found (λ site. IsAction index.now (seen condition.now) (statement_of site))) }
+    ensures { IfOk result (λ found.
+        IfSome found (λ site. IsAction index.now (seen condition.now) (statement_of site))) }
 {
     let (Some(action), Some(at)) = (&condition.action, action_at(condition)) else {
         return Ok(None);

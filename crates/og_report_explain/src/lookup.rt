@@ -61,7 +61,8 @@ pub fn test_of(stmt: &Stmt) -> Option<&Assert>
 /// The statement at the byte offset `at`, where its test or guard has this truth; none also where a
 /// value leaves 128 bits. Takes no memory.
 pub fn tested<'a>(index: &Index<'a>, at: u32, holds: bool, values: &Values) -> Option<Test<'a>>
-    ensures { IfSome result (λ t. (t.holds ≡ holds) × IsTested index.now values.now holds (statement_of t.site)) }
+    ensures { IfSome result
+        (λ t. (t.holds ≡ holds) × IsTested index.now values.now holds (statement_of t.site)) }
 {
     let site = index.statement(at)?;
     let test = test_of(&site.item.stmt)?;

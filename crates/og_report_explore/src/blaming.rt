@@ -122,7 +122,8 @@ fn is_blamed(
     before: &State,
     last: &State,
 ) -> Result<Option<bool>, AllocError>
-    ensures { IfOk result (λ found. IfSome found (λ side. IsFalseAt (seen condition.now) (if side then before.now else last.now))) }
+    ensures { IfOk result (λ found. IfSome found
+        (λ side. IsFalseAt (seen condition.now) (if side then before.now else last.now))) }
 {
     let Some(side) = scene.looks_at(condition, way) else {
         return Ok(None);
@@ -144,7 +145,8 @@ fn first_false(
     before: &State,
     last: &State,
 ) -> Result<Option<Blame>, AllocError>
-    ensures { IfOk result (λ found. IfSome found (IsBlame (map seen conditions.now) before.now last.now)) }
+    ensures { IfOk result (λ found.
+        IfSome found (IsBlame (map seen conditions.now) before.now last.now)) }
 {
     for index in 0..conditions.len() {
         let condition = &conditions[index];
@@ -174,7 +176,8 @@ pub(crate) fn blame(
     before: &State,
     last: &State,
 ) -> Result<Option<Blame>, AllocError>
-    ensures { IfOk result (λ found. IfSome found (IsBlame (map seen conditions.now) before.now last.now)) }
+    ensures { IfOk result (λ found.
+        IfSome found (IsBlame (map seen conditions.now) before.now last.now)) }
 {
     let found = first_false(alloc, scene, Way::Place, conditions, before, last)?;
     if found.is_some() {

@@ -31,7 +31,8 @@ fn note_at<'a>(outline: &'a Outline, moment: &Moment<'a>, p: u32) -> &'a Note
 
 // The first value that the statement assigns and that is no `i64`.
 fn too_large(alloc: Global, stmt: &Stmt, values: &Values) -> Result<Option<(u32, i128)>, AllocError>
-    ensures { IfOk result (λ found. IfSome found (λ p. first_large (assignments_of (statement stmt.now)) values.now ≡ Some p)) }
+    ensures { IfOk result (λ found.
+        IfSome found (λ p. first_large (assignments_of (statement stmt.now)) values.now ≡ Some p)) }
 {
     match Action::of(stmt) {
         Some(action) => values.first_large(alloc, &action),

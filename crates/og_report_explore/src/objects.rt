@@ -100,7 +100,8 @@ fn put_last(
 ) -> Result<(), AllocError>
     requires few { length page.names.now ≤ 256 }
     requires none { members.old.entries ≡ [] }
-    ensures { OnOk result (members_view members.new.entries ≡ last_members page.entry.names.now page.entry.places.now page.entry.main page.entry.cobegin_at finding.now) }
+    ensures { OnOk result (members_view members.new.entries ≡ last_members page.entry.names.now
+        page.entry.places.now page.entry.main page.entry.cobegin_at finding.now) }
 {
     let state = state_value(alloc, page.names, &finding.state)?;
     put(members, alloc, "state", state)?;
@@ -125,8 +126,11 @@ fn put_first(
     page: Page,
     finding: &Finding,
 ) -> Result<(), AllocError>
-    requires { members_view members.old.entries ≡ last_members page.names.now page.places.now page.main page.cobegin_at finding.now }
-    ensures { OnOk result (object (members_view members.new.entries) ≡ finding_data page.entry.names.now page.entry.places.now page.entry.main page.entry.cobegin_at finding.now) }
+    requires { members_view members.old.entries
+        ≡ last_members page.names.now page.places.now page.main page.cobegin_at finding.now }
+    ensures { OnOk result (object (members_view members.new.entries) ≡ finding_data
+        page.entry.names.now page.entry.places.now page.entry.main page.entry.cobegin_at
+        finding.now) }
 {
     set_text(members, alloc, "kind", kind_word(&finding.fault))?;
     let history = list_value(history_values(alloc, page.main, &finding.rows)?);
@@ -142,7 +146,8 @@ fn put_first(
 // The value of a finding.
 fn finding_value(alloc: Global, page: Page, finding: &Finding) -> Result<Value, AllocError>
     requires { length page.names.now ≤ 256 }
-    ensures { IfOk result (λ v. view v ≡ finding_data page.entry.names.now page.entry.places.now page.entry.main page.entry.cobegin_at finding.now) }
+    ensures { IfOk result (λ v. view v ≡ finding_data page.entry.names.now page.entry.places.now
+        page.entry.main page.entry.cobegin_at finding.now) }
 {
     let mut members = Map::new(alloc);
     put_last(&mut members, alloc, page, finding)?;
@@ -157,7 +162,8 @@ pub(crate) fn finding_values(
     findings: &[Finding],
 ) -> Result<Vec<Value>, AllocError>
     requires { length page.names.now ≤ 256 }
-    ensures { IfOk result (λ values. map view values.items ≡ map (finding_data page.entry.names.now page.entry.places.now page.entry.main page.entry.cobegin_at) findings.now) }
+    ensures { IfOk result (λ values. map view values.items ≡ map (finding_data page.entry.names.now
+        page.entry.places.now page.entry.main page.entry.cobegin_at) findings.now) }
 {
     let mut values = Vec::new(alloc);
     for finding in findings {

@@ -49,7 +49,8 @@ fn report_value(
     findings: &[Finding],
 ) -> Result<Value, AllocError>
     requires { length page.names.now ≤ 256 }
-    ensures { IfOk result (λ v. view v ≡ report_data page.entry.names.now page.entry.places.now page.entry.main page.entry.cobegin_at totals.now findings.now) }
+    ensures { IfOk result (λ v. view v ≡ report_data page.entry.names.now page.entry.places.now
+        page.entry.main page.entry.cobegin_at totals.now findings.now) }
 {
     let values = finding_values(alloc, page, findings)?;
     totals_value(alloc, totals, findings, list_value(values))
@@ -72,7 +73,8 @@ pub fn json(
     findings: &[Finding],
 ) -> Result<Vec<u8>, AllocError>
     requires { length source.now ≤ 2 ^ 20 }
-    ensures { IfOk result (λ text. text.items ≡ json_text outline.now.names source.now (length outline.now.processes) outline.now.cobegin_at totals.now findings.now) }
+    ensures { IfOk result (λ text. text.items ≡ json_text outline.now.names source.now
+        (length outline.now.processes) outline.now.cobegin_at totals.now findings.now) }
 {
     outline.follows_rule();
     let places = Places::new(alloc, source)?;

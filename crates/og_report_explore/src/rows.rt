@@ -59,7 +59,8 @@ fn assigned_by(
     stmt: &Stmt,
     state: &State,
 ) -> Result<Vec<(u32, i64)>, AllocError>
-    ensures { IfOk result (λ v. v.items ≡ assigned_below (length outline.now.names) (assignments_of (statement stmt.now)) state.now) }
+    ensures { IfOk result (λ v. v.items ≡ assigned_below (length outline.now.names)
+        (assignments_of (statement stmt.now)) state.now) }
 {
     outline.follows_rule();
     match Action::of(stmt) {
@@ -88,7 +89,8 @@ pub(crate) fn row<'a>(
     moment: &mut Moment<'a>,
     p: u32,
 ) -> Result<Option<Row<'a>>, AllocError>
-    ensures { IfOk result (λ found. IfSome found (λ row. (moment.new.outline ≡ moment.old.outline) × IsRow outline.now moment.old.moment moment.new.moment p row)) }
+    ensures { IfOk result (λ found. IfSome found (λ row. (moment.new.outline ≡ moment.old.outline)
+        × IsRow outline.now moment.old.moment moment.new.moment p row)) }
 {
     let Some(item) = moment.head(p) else {
         return Ok(None);

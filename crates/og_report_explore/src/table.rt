@@ -134,7 +134,8 @@ fn put_cell(
     row: &Row,
 ) -> Result<(), AllocError>
     requires { page.places.now ≡ page.source.now }
-    ensures { OnOk result (text.new.items ≡ text.old.items ++ cell_text page.entry.names.now page.entry.source.now page.entry.main column number row.now) }
+    ensures { OnOk result (text.new.items ≡ text.old.items ++ cell_text page.entry.names.now
+        page.entry.source.now page.entry.main column number row.now) }
 {
     match column {
         Column::Step => put_number(text, number),
@@ -153,7 +154,8 @@ fn cell(
     row: &Row,
 ) -> Result<Vec<u8>, AllocError>
     requires { page.places.now ≡ page.source.now }
-    ensures { IfOk result (λ cell. cell.items ≡ cell_text page.entry.names.now page.entry.source.now page.entry.main column number row.now) }
+    ensures { IfOk result (λ cell. cell.items ≡ cell_text page.entry.names.now page.entry.source.now
+        page.entry.main column number row.now) }
 {
     let mut cell = Vec::new(alloc);
     put_cell(&mut cell, page, column, number, row)?;
@@ -163,7 +165,8 @@ fn cell(
 // How wide the column is.
 fn width(alloc: Global, page: Page, column: Column, rows: &[Row]) -> Result<usize, AllocError>
     requires { page.places.now ≡ page.source.now }
-    ensures { IfOk result (λ width. width ≡ width_of page.entry.names.now page.entry.source.now page.entry.main rows.now column) }
+    ensures { IfOk result (λ width. width
+        ≡ width_of page.entry.names.now page.entry.source.now page.entry.main rows.now column) }
 {
     let mut width = column.heading().len();
     for index in 0..rows.len() {
@@ -177,7 +180,8 @@ impl Widths {
     // How wide each column is.
     fn of(alloc: Global, page: Page, rows: &[Row]) -> Result<Widths, AllocError>
         requires { page.places.now ≡ page.source.now }
-        ensures { IfOk result (λ widths. widths ≡ widths_of page.entry.names.now page.entry.source.now page.entry.main rows.now) }
+        ensures { IfOk result (λ widths. widths
+            ≡ widths_of page.entry.names.now page.entry.source.now page.entry.main rows.now) }
     {
         Ok(Widths {
             step: width(alloc, page, Column::Step, rows)?,
@@ -209,7 +213,8 @@ fn put_wide(
     row: &Row,
 ) -> Result<(), AllocError>
     requires { page.places.now ≡ page.source.now }
-    ensures { OnOk result (text.new.items ≡ text.old.items ++ padded width (cell_text page.entry.names.now page.entry.source.now page.entry.main column number row.now)) }
+    ensures { OnOk result (text.new.items ≡ text.old.items ++ padded width (cell_text
+        page.entry.names.now page.entry.source.now page.entry.main column number row.now)) }
 {
     let cell = cell(*text.allocator(), page, column, number, row)?;
     put_padded(text, width, &cell)
@@ -224,7 +229,8 @@ fn put_row(
     row: &Row,
 ) -> Result<(), AllocError>
     requires { page.places.now ≡ page.source.now }
-    ensures { OnOk result (text.new.items ≡ text.old.items ++ row_line page.entry.names.now page.entry.source.now page.entry.main widths number row.now) }
+    ensures { OnOk result (text.new.items ≡ text.old.items ++ row_line page.entry.names.now
+        page.entry.source.now page.entry.main widths number row.now) }
 {
     put_wide(text, page, Column::Step, widths.step, number, row)?;
     put_wide(text, page, Column::Process, widths.process, number, row)?;
@@ -238,7 +244,8 @@ fn put_row(
 // The rows, numbered from 1.
 fn put_rows(text: &mut Vec<u8>, page: Page, widths: Widths, rows: &[Row]) -> Result<(), AllocError>
     requires { page.places.now ≡ page.source.now }
-    ensures { OnOk result (text.new.items ≡ text.old.items ++ row_lines page.entry.names.now page.entry.source.now page.entry.main widths 1 rows.now) }
+    ensures { OnOk result (text.new.items ≡ text.old.items
+        ++ row_lines page.entry.names.now page.entry.source.now page.entry.main widths 1 rows.now) }
 {
     for index in 0..rows.len() {
         put_row(text, page, widths, index as u128 + 1, &rows[index])?;
@@ -253,7 +260,8 @@ fn put_rows(text: &mut Vec<u8>, page: Page, widths: Widths, rows: &[Row]) -> Res
 /// An allocation was refused; the text has what it had, and perhaps a part of this.
 pub(crate) fn put_table(text: &mut Vec<u8>, page: Page, rows: &[Row]) -> Result<(), AllocError>
     requires { page.places.now ≡ page.source.now }
-    ensures { OnOk result (text.new.items ≡ text.old.items ++ table_text page.entry.names.now page.entry.source.now page.entry.main rows.now) }
+    ensures { OnOk result (text.new.items ≡ text.old.items
+        ++ table_text page.entry.names.now page.entry.source.now page.entry.main rows.now) }
 {
     if rows.is_empty() {
         return Ok(());

@@ -33,7 +33,8 @@ fn begun<'a>(
     outline: &'a Outline,
     values: &State,
 ) -> Result<Option<Moment<'a>>, AllocError>
-    ensures { IfOk result (λ found. IfSome found (λ m. m ≡ record { outline = outline.now; moment = start_of outline.now values.now })) }
+    ensures { IfOk result (λ found. IfSome found
+        (λ m. m ≡ record { outline = outline.now; moment = start_of outline.now values.now })) }
 {
     let copy = copy_of(alloc, values)?;
     match start(alloc, outline, copy) {
@@ -57,9 +58,12 @@ fn steps_of<'a>(
     moment: &mut Moment<'a>,
     history: &[u32],
 ) -> Result<Option<Steps<'a>>, AllocError>
-    ensures outline { IfOk result (λ found. IfSome found (λ steps. moment.new.outline ≡ moment.old.outline)) }
-    ensures rows { IfOk result (λ found. IfSome found (λ steps. AreRows outline.now moment.old.moment history.now steps.rows.items moment.new.moment)) }
-    ensures before { IfOk result (λ found. IfSome found (λ steps. IsBefore moment.old.moment history.now steps.before)) }
+    ensures outline { IfOk result (λ found.
+        IfSome found (λ steps. moment.new.outline ≡ moment.old.outline)) }
+    ensures rows { IfOk result (λ found. IfSome found (λ steps.
+        AreRows outline.now moment.old.moment history.now steps.rows.items moment.new.moment)) }
+    ensures before { IfOk result (λ found.
+        IfSome found (λ steps. IsBefore moment.old.moment history.now steps.before)) }
 {
     let mut before = copy_of(alloc, moment.state())?;
     let mut rows = Vec::new(alloc);
@@ -86,7 +90,8 @@ pub fn rows_of<'a>(
     values: &State,
     history: &[u32],
 ) -> Result<Option<Vec<Row<'a>>>, AllocError>
-    ensures { IfOk result (λ found. IfSome found (λ rows. AreRowsOf outline.now values.now history.now rows.items)) }
+    ensures { IfOk result (λ found.
+        IfSome found (λ rows. AreRowsOf outline.now values.now history.now rows.items)) }
 {
     let Some(mut moment) = begun(alloc, outline, values)? else {
         return Ok(None);
@@ -123,7 +128,8 @@ pub fn tell<'a>(
     violation: &Violation,
 ) -> Result<Option<Finding<'a>>, AllocError>
     requires { IsViolation outline.now violation.now }
-    ensures { IfOk result (λ found. IfSome found (IsFinding outline.now (map seen conditions.now) violation.now)) }
+    ensures { IfOk result (λ found.
+        IfSome found (IsFinding outline.now (map seen conditions.now) violation.now)) }
 {
     let Some(mut moment) = begun(alloc, outline, &violation.values)? else {
         return Ok(None);

@@ -154,7 +154,8 @@ fn put_stand(
     stand: Option<&Item>,
 ) -> Result<(), AllocError>
     requires { places.now ≡ source.now }
-    ensures { OnOk result (text.new.items ≡ text.old.items ++ stand_line source.now number stand.entry) }
+    ensures { OnOk result (text.new.items ≡ text.old.items
+        ++ stand_line source.now number stand.entry) }
 {
     match stand {
         None => put_ended(text, number),
@@ -213,7 +214,8 @@ fn put_all_line(
     values: &Values,
 ) -> Result<(), AllocError>
     requires { length names.now ≤ 256 }
-    ensures { OnOk result (text.new.items ≡ text.old.items ++ all_line names.now word.now values.now) }
+    ensures { OnOk result (text.new.items ≡ text.old.items
+        ++ all_line names.now word.now values.now) }
 {
     text.extend_from_slice(b"  ")?;
     text.extend_from_slice(word)?;
@@ -231,7 +233,8 @@ fn put_overflow(
     value: i128,
 ) -> Result<(), AllocError>
     requires { page.places.now ≡ page.source.now }
-    ensures { OnOk result (text.new.items ≡ text.old.items ++ overflow_lines page.entry.names.now page.entry.source.now at var value) }
+    ensures { OnOk result (text.new.items ≡ text.old.items
+        ++ overflow_lines page.entry.names.now page.entry.source.now at var value) }
 {
     let origins = Origins::own(page.source, page.places);
     put_quoted(text, b"next", &origins, at)?;
@@ -246,7 +249,8 @@ fn put_false_at(
     found: &[&Assert],
 ) -> Result<(), AllocError>
     requires { page.places.now ≡ page.source.now }
-    ensures { OnOk result (text.new.items ≡ text.old.items ++ false_lines page.entry.names.now page.entry.source.now None at found.now) }
+    ensures { OnOk result (text.new.items ≡ text.old.items
+        ++ false_lines page.entry.names.now page.entry.source.now None at found.now) }
 {
     let origins = Origins::own(page.source, page.places);
     put_false(text, page.names, &origins, at, found)
@@ -255,7 +259,8 @@ fn put_false_at(
 // What makes it wrong.
 fn put_fault(text: &mut Vec<u8>, page: Page, fault: &Fault) -> Result<(), AllocError>
     requires { page.places.now ≡ page.source.now }
-    ensures { OnOk result (text.new.items ≡ text.old.items ++ fault_lines page.entry.names.now page.entry.source.now fault.now) }
+    ensures { OnOk result (text.new.items ≡ text.old.items
+        ++ fault_lines page.entry.names.now page.entry.source.now fault.now) }
 {
     match fault {
         Fault::Assertion(_, note, all) => put_false_at(text, page, note.at, all),
@@ -273,7 +278,8 @@ fn put_head(
     finding: &Finding,
 ) -> Result<(), AllocError>
     requires { page.places.now ≡ page.source.now }
-    ensures { OnOk result (text.new.items ≡ text.old.items ++ head_line page.entry.source.now page.entry.main cobegin_at finding.now) }
+    ensures { OnOk result (text.new.items ≡ text.old.items
+        ++ head_line page.entry.source.now page.entry.main cobegin_at finding.now) }
 {
     let at = place_of(cobegin_at, &finding.fault);
     put_position(text, page.places.position(at))?;
@@ -286,7 +292,8 @@ fn put_head(
 fn put_run(text: &mut Vec<u8>, page: Page, finding: &Finding) -> Result<(), AllocError>
     requires places { page.places.now ≡ page.source.now }
     requires few { length page.names.now ≤ 256 }
-    ensures { OnOk result (text.new.items ≡ text.old.items ++ run_lines page.entry.names.now page.entry.source.now page.entry.main finding.now) }
+    ensures { OnOk result (text.new.items ≡ text.old.items
+        ++ run_lines page.entry.names.now page.entry.source.now page.entry.main finding.now) }
 {
     put_all_line(text, page.names, b"start", &finding.start)?;
     put_table(text, page, &finding.rows)?;
@@ -302,7 +309,8 @@ fn put_finding(
 ) -> Result<(), AllocError>
     requires places { page.places.now ≡ page.source.now }
     requires few { length page.names.now ≤ 256 }
-    ensures { OnOk result (text.new.items ≡ text.old.items ++ finding_text page.entry.names.now page.entry.source.now page.entry.main cobegin_at finding.now) }
+    ensures { OnOk result (text.new.items ≡ text.old.items ++ finding_text page.entry.names.now
+        page.entry.source.now page.entry.main cobegin_at finding.now) }
 {
     put_head(text, page, cobegin_at, finding)?;
     put_run(text, page, finding)?;
@@ -319,7 +327,8 @@ fn put_findings(
 ) -> Result<(), AllocError>
     requires places { page.places.now ≡ page.source.now }
     requires few { length page.names.now ≤ 256 }
-    ensures { OnOk result (text.new.items ≡ text.old.items ++ findings_text page.entry.names.now page.entry.source.now page.entry.main cobegin_at findings.now) }
+    ensures { OnOk result (text.new.items ≡ text.old.items ++ findings_text page.entry.names.now
+        page.entry.source.now page.entry.main cobegin_at findings.now) }
 {
     for index in 0..findings.len() {
         put_finding(text, page, cobegin_at, &findings[index])?;
@@ -343,7 +352,8 @@ pub fn report(
 ) -> Result<Vec<u8>, AllocError>
     requires short { length source.now ≤ 2 ^ 20 }
     requires given { length totals.now.given.items ≤ 256 }
-    ensures { IfOk result (λ text. text.items ≡ report_text outline.now.names source.now (length outline.now.processes) outline.now.cobegin_at totals.now findings.now) }
+    ensures { IfOk result (λ text. text.items ≡ report_text outline.now.names source.now
+        (length outline.now.processes) outline.now.cobegin_at totals.now findings.now) }
 {
     outline.follows_rule();
     let places = Places::new(alloc, source)?;

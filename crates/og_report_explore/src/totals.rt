@@ -195,7 +195,8 @@ fn put_starts(
     given: &[(i64, i64)],
 ) -> Result<(), AllocError>
     requires { length given.now ≤ 256 }
-    ensures { OnOk result (text.new.items ≡ text.old.items ++ starts_line names.now starts given.now) }
+    ensures { OnOk result (text.new.items ≡ text.old.items
+        ++ starts_line names.now starts given.now) }
 {
     text.extend_from_slice(b"starts: ")?;
     put_number(text, u128::from(starts))?;
@@ -225,7 +226,8 @@ pub(crate) fn put_totals(
     findings: &[Finding],
 ) -> Result<(), AllocError>
     requires { length totals.now.given.items ≤ 256 }
-    ensures { OnOk result (text.new.items ≡ text.old.items ++ totals_text names.now totals.now findings.now) }
+    ensures { OnOk result (text.new.items ≡ text.old.items
+        ++ totals_text names.now totals.now findings.now) }
 {
     put_starts(text, names, totals.starts, &totals.given)?;
     put_moments(text, totals.moments)?;

@@ -69,7 +69,8 @@ fn put_links(
     told: &Told,
     target: &Target,
 ) -> Result<(), AllocError>
-    ensures { OnOk result (text.new.items ≡ text.old.items ++ links_text places.now (seen condition.now) told.now target.now) }
+    ensures { OnOk result (text.new.items ≡ text.old.items
+        ++ links_text places.now (seen condition.now) told.now target.now) }
 {
     let told = places.position(told_place(condition, told, target)).line;
     let step = places
@@ -101,7 +102,8 @@ fn put_article_end(
     told: &Told,
     target: &Target,
 ) -> Result<(), AllocError>
-    ensures { OnOk result (text.new.items ≡ text.old.items ++ article_end beneath.now (links_text places.now (seen condition.now) told.now target.now)) }
+    ensures { OnOk result (text.new.items ≡ text.old.items ++ article_end beneath.now
+        (links_text places.now (seen condition.now) told.now target.now)) }
 {
     text.extend_from_slice(b"</pre>\n")?;
     text.extend_from_slice(beneath)?;
@@ -120,7 +122,9 @@ fn printed(
     told: &Told,
 ) -> Result<Vec<u8>, AllocError>
     requires { page.origins.now.places.now ≡ page.origins.now.source.now }
-    ensures text { IfOk result (λ t. t.items ≡ printed page.entry.names.now page.entry.origins.now.source.now page.entry.origins.now.rows (λ t. number_of t firsts.old) number (seen condition.now) told.now) }
+    ensures text { IfOk result (λ t. t.items ≡ printed page.entry.names.now
+        page.entry.origins.now.source.now page.entry.origins.now.rows (λ t. number_of t firsts.old)
+        number (seen condition.now) told.now) }
     ensures firsts { IfOk result (λ r. (t : List ℕ) → number_of t firsts.new
         ≡ after_told page.entry.names.now page.entry.origins.now.source.now page.entry.origins.now.rows told.now t number (number_of t firsts.old)) }
 {
@@ -141,7 +145,10 @@ fn put_block(
     finding: Finding,
 ) -> Result<(), AllocError>
     requires { frame.page.origins.now.places.now ≡ frame.page.origins.now.source.now }
-    ensures text { OnOk result (text.new.items ≡ text.old.items ++ article_of frame.entry.utf8 (map (λ t. t.items) frame.entry.beneath.now) frame.entry.page.names.now frame.entry.page.origins.now.source.now frame.entry.page.origins.now.rows (λ t. number_of t firsts.old) (index + 1) (seen condition.now) told.now target.now (Some finding)) }
+    ensures text { OnOk result (text.new.items ≡ text.old.items ++ article_of frame.entry.utf8
+        (map (λ t. t.items) frame.entry.beneath.now) frame.entry.page.names.now
+        frame.entry.page.origins.now.source.now frame.entry.page.origins.now.rows (λ t. number_of t
+        firsts.old) (index + 1) (seen condition.now) told.now target.now (Some finding)) }
     ensures firsts { OnOk result ((t : List ℕ) → number_of t firsts.new
         ≡ after_told frame.entry.page.names.now frame.entry.page.origins.now.source.now frame.entry.page.origins.now.rows told.now t (index + 1) (number_of t firsts.old)) }
 {
@@ -172,7 +179,10 @@ fn put_article(
     target: &Target,
 ) -> Result<(), AllocError>
     requires { frame.page.origins.now.places.now ≡ frame.page.origins.now.source.now }
-    ensures text { OnOk result (text.new.items ≡ text.old.items ++ article_text frame.entry.utf8 (map (λ t. t.items) frame.entry.beneath.now) frame.entry.page.names.now frame.entry.page.origins.now.source.now frame.entry.page.origins.now.rows (λ t. number_of t firsts.old) (index + 1) (seen condition.now) told.now target.now) }
+    ensures text { OnOk result (text.new.items ≡ text.old.items ++ article_text frame.entry.utf8
+        (map (λ t. t.items) frame.entry.beneath.now) frame.entry.page.names.now
+        frame.entry.page.origins.now.source.now frame.entry.page.origins.now.rows
+        (λ t. number_of t firsts.old) (index + 1) (seen condition.now) told.now target.now) }
     ensures firsts { OnOk result ((t : List ℕ) → number_of t firsts.new
         ≡ after_told frame.entry.page.names.now frame.entry.page.origins.now.source.now frame.entry.page.origins.now.rows told.now t (index + 1) (number_of t firsts.old)) }
 {
@@ -193,7 +203,10 @@ pub(crate) fn put_articles(
     requires places { frame.page.origins.now.places.now ≡ frame.page.origins.now.source.now }
     requires each { length told.now ≡ length conditions.now }
     requires targets { length targets.now ≡ length conditions.now }
-    ensures { OnOk result (text.new.items ≡ text.old.items ++ articles_text frame.entry.utf8 (map (λ t. t.items) frame.entry.beneath.now) frame.entry.page.names.now frame.entry.page.origins.now.source.now frame.entry.page.origins.now.rows [] (map seen conditions.now) told.now targets.now) }
+    ensures { OnOk result (text.new.items ≡ text.old.items ++ articles_text frame.entry.utf8
+        (map (λ t. t.items) frame.entry.beneath.now) frame.entry.page.names.now
+        frame.entry.page.origins.now.source.now frame.entry.page.origins.now.rows []
+        (map seen conditions.now) told.now targets.now) }
 {
     let mut firsts = Firsts::new(*text.allocator());
     for index in 0..conditions.len() {

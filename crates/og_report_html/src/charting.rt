@@ -36,7 +36,8 @@ fn put_start_row(
     outline: &Outline,
     values: &State,
 ) -> Result<(), AllocError>
-    ensures { OnOk result (text.new.items ≡ text.old.items ++ start_row frame.entry.utf8 frame.entry.names.now frame.entry.source.now frame.entry.lanes outline.now values.now) }
+    ensures { OnOk result (text.new.items ≡ text.old.items ++ start_row frame.entry.utf8
+        frame.entry.names.now frame.entry.source.now frame.entry.lanes outline.now values.now) }
 {
     let alloc = *text.allocator();
     let mut begins = Vec::new(alloc);
@@ -48,7 +49,8 @@ fn put_start_row(
 
 // The steps.
 fn put_body(text: &mut Vec<u8>, frame: Frame, rows: &[Row]) -> Result<(), AllocError>
-    ensures { OnOk result (text.new.items ≡ text.old.items ++ body_rows frame.entry.utf8 frame.entry.names.now frame.entry.source.now frame.entry.lanes rows.now) }
+    ensures { OnOk result (text.new.items ≡ text.old.items ++ body_rows frame.entry.utf8
+        frame.entry.names.now frame.entry.source.now frame.entry.lanes rows.now) }
 {
     let skipped = rows.len().saturating_sub(MOST_STEPS);
     put_skipped(text, frame.lanes, skipped)?;
@@ -64,7 +66,9 @@ fn put_all(
     values: &State,
     rows: &[Row],
 ) -> Result<(), AllocError>
-    ensures { OnOk result (text.new.items ≡ text.old.items ++ all_rows frame.entry.utf8 frame.entry.names.now frame.entry.source.now frame.entry.lanes outline.now condition values.now rows.now) }
+    ensures { OnOk result (text.new.items ≡ text.old.items ++ all_rows frame.entry.utf8
+        frame.entry.names.now frame.entry.source.now frame.entry.lanes outline.now condition
+        values.now rows.now) }
 {
     put_start_row(text, frame, outline, values)?;
     put_body(text, frame, rows)?;
@@ -80,7 +84,8 @@ fn chart_of(
     values: &State,
     rows: &[Row],
 ) -> Result<Vec<u8>, AllocError>
-    ensures { IfOk result (λ text. text.items ≡ chart_text outline.now source.now condition values.now rows.now) }
+    ensures { IfOk result (λ text.
+        text.items ≡ chart_text outline.now source.now condition values.now rows.now) }
 {
     outline.follows_rule();
     let (processes, main) = (outline.processes().len(), has_main(outline));

@@ -107,7 +107,8 @@ pub(crate) fn put_skipped(text: &mut Vec<u8>, lanes: usize, count: usize) -> Res
 
 // What the step's statement says.
 fn put_step_cell(text: &mut Vec<u8>, frame: Frame, row: &Row) -> Result<(), AllocError>
-    ensures { OnOk result (text.new.items ≡ text.old.items ++ step_cell frame.entry.utf8 frame.entry.names.now frame.entry.source.now frame.entry.lanes row.now) }
+    ensures { OnOk result (text.new.items ≡ text.old.items ++ step_cell frame.entry.utf8
+        frame.entry.names.now frame.entry.source.now frame.entry.lanes row.now) }
 {
     let mut quote = Vec::new(*text.allocator());
     put_quote(&mut quote, STATEMENT_LIMIT, frame.source, row.item.at)?;
@@ -117,7 +118,8 @@ fn put_step_cell(text: &mut Vec<u8>, frame: Frame, row: &Row) -> Result<(), Allo
 
 // In the lane of its process.
 fn put_lane_cells(text: &mut Vec<u8>, frame: Frame, row: &Row) -> Result<(), AllocError>
-    ensures { OnOk result (text.new.items ≡ text.old.items ++ lane_cells frame.entry.utf8 frame.entry.names.now frame.entry.source.now frame.entry.lanes row.now) }
+    ensures { OnOk result (text.new.items ≡ text.old.items ++ lane_cells frame.entry.utf8
+        frame.entry.names.now frame.entry.source.now frame.entry.lanes row.now) }
 {
     let before = row.process as usize;
     put_gap(text, before)?;
@@ -127,7 +129,8 @@ fn put_lane_cells(text: &mut Vec<u8>, frame: Frame, row: &Row) -> Result<(), All
 
 // What the step did.
 fn put_sets_cell(text: &mut Vec<u8>, frame: Frame, row: &Row) -> Result<(), AllocError>
-    ensures { OnOk result (text.new.items ≡ text.old.items ++ sets_cell frame.entry.utf8 frame.entry.names.now frame.entry.source.now frame.entry.lanes row.now) }
+    ensures { OnOk result (text.new.items ≡ text.old.items ++ sets_cell frame.entry.utf8
+        frame.entry.names.now frame.entry.source.now frame.entry.lanes row.now) }
 {
     let mut did = Vec::new(*text.allocator());
     put_did(&mut did, frame.names, &row.did)?;
@@ -143,7 +146,8 @@ fn put_step_row(
     number: usize,
     row: &Row,
 ) -> Result<(), AllocError>
-    ensures { OnOk result (text.new.items ≡ text.old.items ++ step_row frame.entry.utf8 frame.entry.names.now frame.entry.source.now frame.entry.lanes number row.now) }
+    ensures { OnOk result (text.new.items ≡ text.old.items ++ step_row frame.entry.utf8
+        frame.entry.names.now frame.entry.source.now frame.entry.lanes number row.now) }
 {
     text.extend_from_slice(b"<tr><td>")?;
     put_number(text, number as u128)?;
@@ -159,7 +163,9 @@ pub(crate) fn put_step_rows(
     rows: &[Row],
 ) -> Result<(), AllocError>
     requires { skipped ≤ length rows.now }
-    ensures { OnOk result (text.new.items ≡ text.old.items ++ numbered (step_row frame.entry.utf8 frame.entry.names.now frame.entry.source.now frame.entry.lanes) (skipped + 1) (drop skipped rows.now)) }
+    ensures { OnOk result (text.new.items ≡ text.old.items ++ numbered (step_row frame.entry.utf8
+        frame.entry.names.now frame.entry.source.now frame.entry.lanes) (skipped + 1)
+        (drop skipped rows.now)) }
 {
     for index in skipped..rows.len() {
         put_step_row(text, frame, index + 1, &rows[index])?;

@@ -72,7 +72,8 @@ pub(crate) fn told_place(condition: &Condition, told: &Told, target: &Target) ->
 
 // One mark more.
 fn add_mark(marks: &mut Marks, at: u32, mark: Mark) -> Result<(), AllocError>
-    ensures { OnOk result ((p : ℕ) → found p marks.new ≡ marked (p == at) (Some mark) (found p marks.old)) }
+    ensures { OnOk result ((p : ℕ) → found p marks.new
+        ≡ marked (p == at) (Some mark) (found p marks.old)) }
 {
     let joined = mark.joined(marks.get(&at).copied());
     marks.insert(at, joined)?;
@@ -81,7 +82,8 @@ fn add_mark(marks: &mut Marks, at: u32, mark: Mark) -> Result<(), AllocError>
 
 // One mark more, where there is such a place.
 fn add_action_mark(marks: &mut Marks, at: Option<u32>, mark: Mark) -> Result<(), AllocError>
-    ensures { OnOk result ((p : ℕ) → found p marks.new ≡ marked (is_action p at) (Some mark) (found p marks.old)) }
+    ensures { OnOk result ((p : ℕ) → found p marks.new
+        ≡ marked (is_action p at) (Some mark) (found p marks.old)) }
 {
     match at {
         None => Ok(()),
@@ -97,7 +99,8 @@ fn add_told(
     told: &Told,
     target: &Target,
 ) -> Result<(), AllocError>
-    ensures { OnOk result ((p : ℕ) → found p marks.new ≡ with_told p number (seen condition.now) told.now target.now (found p marks.old)) }
+    ensures { OnOk result ((p : ℕ) → found p marks.new
+        ≡ with_told p number (seen condition.now) told.now target.now (found p marks.old)) }
 {
     let Some(mark) = Mark::of(number, told) else {
         return Ok(());
@@ -115,7 +118,8 @@ pub(crate) fn marks_of(
 ) -> Result<Marks, AllocError>
     requires told { length told.now ≡ length conditions.now }
     requires targets { length targets.now ≡ length conditions.now }
-    ensures { IfOk result (λ marks. (p : ℕ) → found p marks ≡ mark_at (map seen conditions.now) told.now targets.now p) }
+    ensures { IfOk result (λ marks.
+        (p : ℕ) → found p marks ≡ mark_at (map seen conditions.now) told.now targets.now p) }
 {
     let mut marks = Marks::new(alloc);
     for index in 0..conditions.len() {

@@ -141,7 +141,8 @@ pub(crate) fn put_source(
     source: &[u8],
 ) -> Result<(), AllocError>
     requires { length source.now ≤ 2 ^ 20 }
-    ensures { OnOk result (text.new.items ≡ text.old.items ++ source_text utf8 (λ (p : ℕ). found p marks.now) source.now) }
+    ensures { OnOk result (text.new.items ≡ text.old.items
+        ++ source_text utf8 (λ (p : ℕ). found p marks.now) source.now) }
 {
     let mut spot = Spot::first();
     for at in 0..source.len() {

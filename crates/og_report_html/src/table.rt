@@ -45,7 +45,8 @@ fn add_clash(
     told: &Told,
     target: &Target,
 ) -> Result<(), AllocError>
-    ensures { OnOk result (found.new.items ≡ found.old.items ++ clash_of (is_found finding told.now) number target.now.interference) }
+    ensures { OnOk result (found.new.items ≡ found.old.items
+        ++ clash_of (is_found finding told.now) number target.now.interference) }
 {
     if !finding.is_of(told) {
         return Ok(());
@@ -138,7 +139,8 @@ struct Clashes<'a> {
 
 // Of steps of one process, those on assertions of another.
 fn put_cell(text: &mut Vec<u8>, clashes: Clashes, process: usize) -> Result<(), AllocError>
-    ensures { OnOk result (text.new.items ≡ text.old.items ++ cell_text clashes.entry.wrong.now clashes.entry.unknown.now process) }
+    ensures { OnOk result (text.new.items ≡ text.old.items
+        ++ cell_text clashes.entry.wrong.now clashes.entry.unknown.now process) }
 {
     let wrong = those_on(*text.allocator(), clashes.wrong, process)?;
     let unknown = those_on(*text.allocator(), clashes.unknown, process)?;
@@ -149,7 +151,8 @@ fn put_cell(text: &mut Vec<u8>, clashes: Clashes, process: usize) -> Result<(), 
 
 // The cells of all processes.
 fn put_cells(text: &mut Vec<u8>, clashes: Clashes, count: usize) -> Result<(), AllocError>
-    ensures { OnOk result (text.new.items ≡ text.old.items ++ cells_text clashes.entry.wrong.now clashes.entry.unknown.now count) }
+    ensures { OnOk result (text.new.items ≡ text.old.items
+        ++ cells_text clashes.entry.wrong.now clashes.entry.unknown.now count) }
 {
     for process in 0..count {
         put_cell(text, clashes, process)?;
@@ -164,7 +167,8 @@ fn put_row(
     count: usize,
     process: usize,
 ) -> Result<(), AllocError>
-    ensures { OnOk result (text.new.items ≡ text.old.items ++ row_text count clashes.entry.wrong.now clashes.entry.unknown.now process) }
+    ensures { OnOk result (text.new.items ≡ text.old.items
+        ++ row_text count clashes.entry.wrong.now clashes.entry.unknown.now process) }
 {
     let wrong = those_by(*text.allocator(), clashes.wrong, process)?;
     let unknown = those_by(*text.allocator(), clashes.unknown, process)?;
@@ -181,7 +185,8 @@ fn put_row(
 
 // The rows of all processes.
 fn put_rows(text: &mut Vec<u8>, clashes: Clashes, count: usize) -> Result<(), AllocError>
-    ensures { OnOk result (text.new.items ≡ text.old.items ++ rows_text count clashes.entry.wrong.now clashes.entry.unknown.now) }
+    ensures { OnOk result (text.new.items ≡ text.old.items
+        ++ rows_text count clashes.entry.wrong.now clashes.entry.unknown.now) }
 {
     for process in 0..count {
         put_row(text, clashes, count, process)?;
@@ -219,7 +224,8 @@ fn put_head(text: &mut Vec<u8>, count: usize) -> Result<(), AllocError>
 }
 
 fn put_whole(text: &mut Vec<u8>, clashes: Clashes, count: usize) -> Result<(), AllocError>
-    ensures { OnOk result (text.new.items ≡ text.old.items ++ whole_table count clashes.entry.wrong.now clashes.entry.unknown.now) }
+    ensures { OnOk result (text.new.items ≡ text.old.items
+        ++ whole_table count clashes.entry.wrong.now clashes.entry.unknown.now) }
 {
     text.extend_from_slice(BEFORE_TABLE)?;
     put_head(text, count)?;
@@ -244,7 +250,8 @@ fn is_shown(clashes: Clashes, count: usize) -> bool
 }
 
 fn put_clashes(text: &mut Vec<u8>, clashes: Clashes, count: usize) -> Result<(), AllocError>
-    ensures { OnOk result (text.new.items ≡ text.old.items ++ table_of count clashes.entry.wrong.now clashes.entry.unknown.now) }
+    ensures { OnOk result (text.new.items ≡ text.old.items
+        ++ table_of count clashes.entry.wrong.now clashes.entry.unknown.now) }
 {
     if is_shown(clashes, count) {
         put_whole(text, clashes, count)

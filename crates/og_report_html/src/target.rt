@@ -82,7 +82,8 @@ pub fn targets(
     outline: &Outline,
     conditions: &[Condition],
 ) -> Result<Vec<Target>, AllocError>
-    ensures targets { IfOk result (λ all. AreTargets outline.now (map seen conditions.now) all.items) }
+    ensures targets { IfOk result (λ all.
+        AreTargets outline.now (map seen conditions.now) all.items) }
     ensures each { IfOk result (λ all. length all.items ≡ length conditions.now) }
 {
     let index = Index::new(alloc, outline)?;

@@ -57,7 +57,8 @@ fn run_text(
     condition: u128,
     run: &Run,
 ) -> Result<Vec<u8>, AllocError>
-    ensures { IfOk result (λ text. IsRunText outline.now source.now explored condition run.now text.items) }
+    ensures { IfOk result (λ text.
+        IsRunText outline.now source.now explored condition run.now text.items) }
 {
     let mut text = line_of(alloc, outline, source, explored, run)?;
     let chart = chart_of(alloc, outline, source, condition, run)?;
@@ -75,7 +76,8 @@ fn told_run(
     told: &Told,
     run: &Run,
 ) -> Result<Vec<u8>, AllocError>
-    ensures { IfOk result (λ text. IsToldRun outline.now source.now explored condition told.now run.now text.items) }
+    ensures { IfOk result (λ text.
+        IsToldRun outline.now source.now explored condition told.now run.now text.items) }
 {
     match told {
         Told::False(_) => run_text(alloc, outline, source, explored, condition, run),
@@ -98,7 +100,8 @@ pub fn told_runs(
     runs: &[Run],
 ) -> Result<Vec<Vec<u8>>, AllocError>
     requires { length runs.now ≡ length told.now }
-    ensures { IfOk result (λ texts. AreToldRuns outline.now source.now explored 1 told.now runs.now (map (λ t. t.items) texts.items)) }
+    ensures { IfOk result (λ texts. AreToldRuns outline.now source.now explored 1 told.now runs.now
+        (map (λ t. t.items) texts.items)) }
 {
     let mut texts = Vec::with_capacity(alloc, told.len())?;
     for index in 0..told.len() {

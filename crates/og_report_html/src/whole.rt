@@ -33,7 +33,8 @@ fn put_marked(
     requires short { length source.now ≤ 2 ^ 20 }
     requires each { length told.now ≡ length conditions.now }
     requires targets { length targets.now ≡ length conditions.now }
-    ensures { OnOk result (text.new.items ≡ text.old.items ++ source_text (is_utf8 source.now) (mark_at (map seen conditions.now) told.now targets.now) source.now) }
+    ensures { OnOk result (text.new.items ≡ text.old.items ++ source_text (is_utf8 source.now)
+        (mark_at (map seen conditions.now) told.now targets.now) source.now) }
 {
     let marks = marks_of(*text.allocator(), conditions, told, targets)?;
     put_source(text, is_utf8(source), &marks, source)
@@ -74,7 +75,9 @@ fn put_blocks(
     requires short { length source.now ≤ 2 ^ 20 }
     requires each { length told.now ≡ length conditions.now }
     requires targets { length targets.now ≡ length conditions.now }
-    ensures { OnOk result (text.new.items ≡ text.old.items ++ blocks_text outline.now source.now additions.entry.before.now (map (λ t. t.items) additions.entry.beneath.now) (map seen conditions.now) told.now targets.now) }
+    ensures { OnOk result (text.new.items ≡ text.old.items ++ blocks_text outline.now source.now
+        additions.entry.before.now (map (λ t. t.items) additions.entry.beneath.now)
+        (map seen conditions.now) told.now targets.now) }
 {
     let utf8 = is_utf8(source);
     let places = Places::new(*text.allocator(), source)?;
@@ -113,7 +116,9 @@ pub fn page(
     requires short { length source.now ≤ 2 ^ 20 }
     requires each { length told.now ≡ length conditions.now }
     requires targets { length targets.now ≡ length conditions.now }
-    ensures { IfOk result (λ text. text.items ≡ page_text outline.now source.now additions.entry.before.now (map (λ t. t.items) additions.entry.beneath.now) (map seen conditions.now) told.now targets.now) }
+    ensures { IfOk result (λ text. text.items ≡ page_text outline.now source.now
+        additions.entry.before.now (map (λ t. t.items) additions.entry.beneath.now)
+        (map seen conditions.now) told.now targets.now) }
 {
     let mut text = Vec::new(alloc);
     text.extend_from_slice(START)?;

@@ -63,7 +63,8 @@ fn put_true(
     block: &Block,
 ) -> Result<(), AllocError>
     requires { origins.now.places.now ≡ origins.now.source.now }
-    ensures { OnOk result (text.new.items ≡ text.old.items ++ true_lines names.now origins.now.source.now origins.now.rows block.now) }
+    ensures { OnOk result (text.new.items ≡ text.old.items
+        ++ true_lines names.now origins.now.source.now origins.now.rows block.now) }
 {
     let details = &block.details;
     let explanation = &details.explanation;
@@ -84,7 +85,8 @@ pub fn put_block(
     block: &Block,
 ) -> Result<(), AllocError>
     requires { origins.now.places.now ≡ origins.now.source.now }
-    ensures { OnOk result (text.new.items ≡ text.old.items ++ block_text names.now origins.now.source.now origins.now.rows block.now) }
+    ensures { OnOk result (text.new.items ≡ text.old.items
+        ++ block_text names.now origins.now.source.now origins.now.rows block.now) }
 {
     let details = &block.details;
     let explanation = &details.explanation;

@@ -14,7 +14,8 @@ use std::collections::BTreeMap;
 
 /// The place of the action and the conjuncts that are false after it, where there are such.
 pub(crate) fn effect_of<'b, 'a>(explanation: &'b Explanation<'a>) -> Option<(u32, &'b [&'a Assert])>
-    ensures { option_map (λ e. (e.0, formulas_of e.1.now)) result ≡ effect_of explanation.now.action explanation.now.fault }
+    ensures { option_map (λ e. (e.0, formulas_of e.1.now)) result
+        ≡ effect_of explanation.now.action explanation.now.fault }
 {
     let site = explanation.action.as_ref()?;
     match &explanation.fault {
@@ -25,7 +26,8 @@ pub(crate) fn effect_of<'b, 'a>(explanation: &'b Explanation<'a>) -> Option<(u32
 
 // One conjunct as it is, several with `and` between two.
 fn put_together(text: &mut Vec<u8>, names: &[Name], found: &[&Assert]) -> Result<(), AllocError>
-    ensures { OnOk result (text.new.items ≡ text.old.items ++ together names.now (formulas_of found.now)) }
+    ensures { OnOk result (text.new.items ≡ text.old.items
+        ++ together names.now (formulas_of found.now)) }
 {
     match found {
         [only] => put_assertion(text, names, only),
@@ -40,7 +42,8 @@ pub(crate) fn put_alike(
     k: u128,
     found: &[&Assert],
 ) -> Result<(), AllocError>
-    ensures { OnOk result (text.new.items ≡ text.old.items ++ alike_line names.now k (formulas_of found.now)) }
+    ensures { OnOk result (text.new.items ≡ text.old.items
+        ++ alike_line names.now k (formulas_of found.now)) }
 {
     text.extend_from_slice(b"  as condition ")?;
     put_number(text, k)?;
@@ -58,7 +61,8 @@ pub(crate) fn effect_text(
     found: &[&Assert],
 ) -> Result<Vec<u8>, AllocError>
     requires { origins.now.places.now ≡ origins.now.source.now }
-    ensures { IfOk result (λ text. text.items ≡ effect_text names.now origins.now.source.now origins.now.rows (at, formulas_of found.now)) }
+    ensures { IfOk result (λ text. text.items ≡ effect_text names.now origins.now.source.now
+        origins.now.rows (at, formulas_of found.now)) }
 {
     let mut text = Vec::new(alloc);
     origins.put_place(&mut text, at)?;
@@ -77,7 +81,8 @@ pub(crate) fn number_or_add(
     number: u128,
 ) -> Result<Option<u128>, AllocError>
     ensures found { IfOk result (λ found. found ≡ number_of text.items firsts.old) }
-    ensures firsts { OnOk result ((t : List ℕ) → number_of t firsts.new ≡ or_this (number_of t firsts.old) t text.items number) }
+    ensures firsts { OnOk result ((t : List ℕ) → number_of t firsts.new
+        ≡ or_this (number_of t firsts.old) t text.items number) }
 {
     if let Some(first) = firsts.get(text.as_slice()).copied() {
         return Ok(Some(first));

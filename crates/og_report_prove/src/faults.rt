@@ -58,7 +58,8 @@ pub fn conjunct_values(
     names: &[Name],
     found: &[&Assert],
 ) -> Result<Vec<Value>, AllocError>
-    ensures { IfOk result (λ values. map view values.items ≡ map (λ a. conjunct_data names.now (formula a.now)) found.now) }
+    ensures { IfOk result (λ values.
+        map view values.items ≡ map (λ a. conjunct_data names.now (formula a.now)) found.now) }
 {
     let mut values = Vec::new(alloc);
     for assert in found {
@@ -75,7 +76,8 @@ fn conjuncts_value(
     note: &Note,
     found: &[&Assert],
 ) -> Result<Value, AllocError>
-    ensures { IfOk result (λ v. view v ≡ conjuncts_data names.now places.now (noted note.now) found.now) }
+    ensures { IfOk result (λ v.
+        view v ≡ conjuncts_data names.now places.now (noted note.now) found.now) }
 {
     let place = places.position(note.at);
     let conjuncts = list_value(conjunct_values(alloc, names, found)?);
@@ -88,7 +90,8 @@ fn conjuncts_value(
 
 // The value that is too large, with its variable.
 fn large_value(alloc: Global, names: &[Name], var: u32, value: i128) -> Result<Value, AllocError>
-    ensures { IfOk result (λ v. view v ≡ object (member (name_of names.now var) (digits_data value) no_members)) }
+    ensures { IfOk result (λ v.
+        view v ≡ object (member (name_of names.now var) (digits_data value) no_members)) }
 {
     let mut members = Map::new(alloc);
     let digits = digits_value(alloc, value)?;

@@ -29,7 +29,8 @@ fn put_word(text: &mut Vec<u8>, word: &[u8]) -> Result<(), AllocError>
 // A word and a place, before what stands there.
 fn put_place(text: &mut Vec<u8>, word: &[u8], origins: &Origins, at: u32) -> Result<(), AllocError>
     requires { origins.now.places.now ≡ origins.now.source.now }
-    ensures { OnOk result (text.new.items ≡ text.old.items ++ place_text origins.now.source.now origins.now.rows word.now at) }
+    ensures { OnOk result (text.new.items ≡ text.old.items
+        ++ place_text origins.now.source.now origins.now.rows word.now at) }
 {
     text.extend_from_slice(b"  ")?;
     text.extend_from_slice(word)?;
@@ -50,7 +51,8 @@ pub fn put_quoted(
     at: u32,
 ) -> Result<(), AllocError>
     requires { origins.now.places.now ≡ origins.now.source.now }
-    ensures { OnOk result (text.new.items ≡ text.old.items ++ quoted_line origins.now.source.now origins.now.rows word.now at) }
+    ensures { OnOk result (text.new.items ≡ text.old.items
+        ++ quoted_line origins.now.source.now origins.now.rows word.now at) }
 {
     put_place(text, word, origins, at)?;
     origins.put_quote(text, QUOTE_LIMIT, at)?;
@@ -65,7 +67,8 @@ pub(crate) fn put_values_line(
     values: &Values,
     vars: &[u32],
 ) -> Result<(), AllocError>
-    ensures { OnOk result (text.new.items ≡ text.old.items ++ values_line names.now word.now values.now vars.now) }
+    ensures { OnOk result (text.new.items ≡ text.old.items
+        ++ values_line names.now word.now values.now vars.now) }
 {
     put_word(text, word)?;
     put_values(text, names, values.as_slice(), vars)?;
@@ -80,7 +83,8 @@ pub(crate) fn put_more_line(
     values: &Values,
     vars: &[u32],
 ) -> Result<(), AllocError>
-    ensures { OnOk result (text.new.items ≡ text.old.items ++ more_line names.now word.now values.now vars.now) }
+    ensures { OnOk result (text.new.items ≡ text.old.items
+        ++ more_line names.now word.now values.now vars.now) }
 {
     if vars.is_empty() {
         return Ok(());
@@ -97,7 +101,8 @@ fn put_known_line(
     note: &Note,
 ) -> Result<(), AllocError>
     requires { origins.now.places.now ≡ origins.now.source.now }
-    ensures { OnOk result (text.new.items ≡ text.old.items ++ known_line names.now origins.now.source.now origins.now.rows focus.now (noted note.now)) }
+    ensures { OnOk result (text.new.items ≡ text.old.items ++ known_line names.now
+        origins.now.source.now origins.now.rows focus.now (noted note.now)) }
 {
     put_place(text, b"true", origins, note.at)?;
     put_known(text, names, focus, &note.assertion)?;
@@ -113,7 +118,8 @@ pub(crate) fn put_known_lines(
     notes: &[&Note],
 ) -> Result<(), AllocError>
     requires { origins.now.places.now ≡ origins.now.source.now }
-    ensures { OnOk result (text.new.items ≡ text.old.items ++ known_lines names.now origins.now.source.now origins.now.rows focus.now notes.now) }
+    ensures { OnOk result (text.new.items ≡ text.old.items
+        ++ known_lines names.now origins.now.source.now origins.now.rows focus.now notes.now) }
 {
     for note in notes {
         put_known_line(text, names, origins, focus, note)?;
@@ -128,7 +134,8 @@ pub(crate) fn put_test(
     test: Option<Test>,
 ) -> Result<(), AllocError>
     requires { origins.now.places.now ≡ origins.now.source.now }
-    ensures { OnOk result (text.new.items ≡ text.old.items ++ test_line origins.now.source.now origins.now.rows test.entry) }
+    ensures { OnOk result (text.new.items ≡ text.old.items
+        ++ test_line origins.now.source.now origins.now.rows test.entry) }
 {
     match test {
         None => Ok(()),
@@ -150,7 +157,8 @@ fn put_after(
     values: &Values,
     vars: &[u32],
 ) -> Result<(), AllocError>
-    ensures { OnOk result (text.new.items ≡ text.old.items ++ after_line names.now values.now vars.now) }
+    ensures { OnOk result (text.new.items ≡ text.old.items
+        ++ after_line names.now values.now vars.now) }
 {
     if vars.is_empty() {
         return text.extend_from_slice(b"  after: no change\n");
@@ -167,7 +175,9 @@ pub(crate) fn put_action(
     vars: &[u32],
 ) -> Result<(), AllocError>
     requires { origins.now.places.now ≡ origins.now.source.now }
-    ensures { OnOk result (text.new.items ≡ text.old.items ++ action_lines names.now origins.now.source.now origins.now.rows explanation.now.action explanation.now.after vars.now) }
+    ensures { OnOk result (text.new.items ≡ text.old.items ++ action_lines names.now
+        origins.now.source.now origins.now.rows explanation.now.action explanation.now.after
+        vars.now) }
 {
     match &explanation.action {
         None => Ok(()),
@@ -187,7 +197,8 @@ fn put_false_line(
     assert: &Assert,
 ) -> Result<(), AllocError>
     requires { origins.now.places.now ≡ origins.now.source.now }
-    ensures { OnOk result (text.new.items ≡ text.old.items ++ false_line names.now origins.now.source.now origins.now.rows at (formula assert.now)) }
+    ensures { OnOk result (text.new.items ≡ text.old.items
+        ++ false_line names.now origins.now.source.now origins.now.rows at (formula assert.now)) }
 {
     put_place(text, b"false", origins, at)?;
     put_assertion(text, names, assert)?;
@@ -207,7 +218,8 @@ pub fn put_false(
     found: &[&Assert],
 ) -> Result<(), AllocError>
     requires { origins.now.places.now ≡ origins.now.source.now }
-    ensures { OnOk result (text.new.items ≡ text.old.items ++ false_lines names.now origins.now.source.now origins.now.rows at found.now) }
+    ensures { OnOk result (text.new.items ≡ text.old.items
+        ++ false_lines names.now origins.now.source.now origins.now.rows at found.now) }
 {
     for assert in found {
         put_false_line(text, names, origins, at, assert)?;
@@ -236,7 +248,8 @@ pub fn put_too_large(
 // Where a process waits.
 fn put_waits(text: &mut Vec<u8>, origins: &Origins, site: &StatementSite) -> Result<(), AllocError>
     requires { origins.now.places.now ≡ origins.now.source.now }
-    ensures { OnOk result (text.new.items ≡ text.old.items ++ waits_line origins.now.source.now origins.now.rows (statement_of site.now)) }
+    ensures { OnOk result (text.new.items ≡ text.old.items
+        ++ waits_line origins.now.source.now origins.now.rows (statement_of site.now)) }
 {
     text.extend_from_slice(b"  ")?;
     put_part(text, false, site.part)?;
@@ -250,7 +263,8 @@ fn put_waits(text: &mut Vec<u8>, origins: &Origins, site: &StatementSite) -> Res
 // Where a process has ended.
 fn put_ended(text: &mut Vec<u8>, origins: &Origins, site: &NoteSite) -> Result<(), AllocError>
     requires { origins.now.places.now ≡ origins.now.source.now }
-    ensures { OnOk result (text.new.items ≡ text.old.items ++ ended_line origins.now.source.now origins.now.rows (note_of site.now)) }
+    ensures { OnOk result (text.new.items ≡ text.old.items
+        ++ ended_line origins.now.source.now origins.now.rows (note_of site.now)) }
 {
     text.extend_from_slice(b"  ")?;
     put_part(text, false, site.part)?;
@@ -262,7 +276,8 @@ fn put_ended(text: &mut Vec<u8>, origins: &Origins, site: &NoteSite) -> Result<(
 // Where a process stands.
 fn put_stand(text: &mut Vec<u8>, origins: &Origins, stand: &Stand) -> Result<(), AllocError>
     requires { origins.now.places.now ≡ origins.now.source.now }
-    ensures { OnOk result (text.new.items ≡ text.old.items ++ stand_line origins.now.source.now origins.now.rows stand.now) }
+    ensures { OnOk result (text.new.items ≡ text.old.items
+        ++ stand_line origins.now.source.now origins.now.rows stand.now) }
 {
     match stand {
         Stand::Waits(site) => put_waits(text, origins, site),
@@ -273,7 +288,8 @@ fn put_stand(text: &mut Vec<u8>, origins: &Origins, stand: &Stand) -> Result<(),
 // Where each process stands.
 fn put_stands(text: &mut Vec<u8>, origins: &Origins, stands: &[Stand]) -> Result<(), AllocError>
     requires { origins.now.places.now ≡ origins.now.source.now }
-    ensures { OnOk result (text.new.items ≡ text.old.items ++ stand_lines origins.now.source.now origins.now.rows stands.now) }
+    ensures { OnOk result (text.new.items ≡ text.old.items
+        ++ stand_lines origins.now.source.now origins.now.rows stands.now) }
 {
     for stand in stands {
         put_stand(text, origins, stand)?;
@@ -289,7 +305,8 @@ pub(crate) fn put_fault(
     fault: &Fault,
 ) -> Result<(), AllocError>
     requires { origins.now.places.now ≡ origins.now.source.now }
-    ensures { OnOk result (text.new.items ≡ text.old.items ++ fault_lines names.now origins.now.source.now origins.now.rows fault.now) }
+    ensures { OnOk result (text.new.items ≡ text.old.items
+        ++ fault_lines names.now origins.now.source.now origins.now.rows fault.now) }
 {
     match fault {
         Fault::False(note, found) => put_false(text, names, origins, note.at, found),

@@ -47,7 +47,8 @@ fn report_value(
     told: &[Told],
 ) -> Result<Value, AllocError>
     requires { length told.now ≡ length conditions.now }
-    ensures { IfOk result (λ v. view v ≡ report_data names.now places.now (map seen conditions.now) told.now) }
+    ensures { IfOk result (λ v.
+        view v ≡ report_data names.now places.now (map seen conditions.now) told.now) }
 {
     let unproved = unproved_values(alloc, names, places, conditions, told)?;
     totals_value(alloc, told, list_value(unproved))
@@ -73,8 +74,10 @@ pub fn json(
 ) -> Result<Vec<u8>, AllocError>
     requires short { length source.now ≤ 2 ^ 20 }
     requires each { length told.now ≡ length conditions.now }
-    ensures report { IfOk result (λ text. text.items ≡ json_text outline.now.names source.now (map seen conditions.now) told.now) }
-    ensures unblocked { IfOk result (λ text. SaysUnblocked true (text.items ++ 10 ∷ []) → is_unblocked told.now ≡ true) }
+    ensures report { IfOk result (λ text.
+        text.items ≡ json_text outline.now.names source.now (map seen conditions.now) told.now) }
+    ensures unblocked { IfOk result (λ text.
+        SaysUnblocked true (text.items ++ 10 ∷ []) → is_unblocked told.now ≡ true) }
 {
     let places = Places::new(alloc, source)?;
     let value = report_value(alloc, outline.names(), &places, conditions, told)?;

@@ -31,7 +31,8 @@ fn put_more(text: &mut Vec<u8>, more: usize) -> Result<(), AllocError>
 
 // The finding on a condition, and on how many more with it.
 fn put_found(text: &mut Vec<u8>, word: &[u8], more: usize) -> Result<(), AllocError>
-    ensures { OnOk result (text.new.items ≡ text.old.items ++ (word.now ++ (more_text more ++ codes "\n"))) }
+    ensures { OnOk result (text.new.items ≡ text.old.items
+        ++ (word.now ++ (more_text more ++ codes "\n"))) }
 {
     text.extend_from_slice(word)?;
     put_more(text, more)?;
@@ -48,7 +49,8 @@ fn put_head(
     more: usize,
 ) -> Result<(), AllocError>
     requires { origins.now.places.now ≡ origins.now.source.now }
-    ensures { OnOk result (text.new.items ≡ text.old.items ++ head_text origins.now.source.now origins.now.rows number (seen condition.now) word.now more) }
+    ensures { OnOk result (text.new.items ≡ text.old.items ++ head_text origins.now.source.now
+        origins.now.rows number (seen condition.now) word.now more) }
 {
     origins.put_place(text, condition.at)?;
     text.extend_from_slice(b": condition ")?;
@@ -78,7 +80,9 @@ fn put_body(
     block: &Block,
 ) -> Result<(), AllocError>
     requires { page.origins.now.places.now ≡ page.origins.now.source.now }
-    ensures text { OnOk result (text.new.items ≡ text.old.items ++ body_text page.entry.names.now page.entry.origins.now.source.now page.entry.origins.now.rows (λ t. number_of t firsts.old) block.now) }
+    ensures text { OnOk result (text.new.items ≡ text.old.items ++ body_text page.entry.names.now
+        page.entry.origins.now.source.now page.entry.origins.now.rows (λ t. number_of t firsts.old)
+        block.now) }
     ensures firsts { OnOk result ((t : List ℕ) → number_of t firsts.new
         ≡ after_effect page.entry.names.now page.entry.origins.now.source.now page.entry.origins.now.rows (effect_of block.now.details.value.explanation.action block.now.details.value.explanation.fault) t number (number_of t firsts.old)) }
 {
@@ -103,7 +107,9 @@ fn put_one(
     told: &Told,
 ) -> Result<(), AllocError>
     requires { page.origins.now.places.now ≡ page.origins.now.source.now }
-    ensures text { OnOk result (text.new.items ≡ text.old.items ++ one_text page.entry.names.now page.entry.origins.now.source.now page.entry.origins.now.rows (λ t. number_of t firsts.old) number (seen condition.now) more told.now) }
+    ensures text { OnOk result (text.new.items ≡ text.old.items ++ one_text page.entry.names.now
+        page.entry.origins.now.source.now page.entry.origins.now.rows (λ t. number_of t firsts.old)
+        number (seen condition.now) more told.now) }
     ensures firsts { OnOk result ((t : List ℕ) → number_of t firsts.new
         ≡ after_told page.entry.names.now page.entry.origins.now.source.now page.entry.origins.now.rows told.now t number (number_of t firsts.old)) }
 {
@@ -134,7 +140,9 @@ pub fn put_told(
     told: &Told,
 ) -> Result<(), AllocError>
     requires { page.origins.now.places.now ≡ page.origins.now.source.now }
-    ensures text { OnOk result (text.new.items ≡ text.old.items ++ told_text page.entry.names.now page.entry.origins.now.source.now page.entry.origins.now.rows (λ t. number_of t firsts.old) number (seen condition.now) more told.now) }
+    ensures text { OnOk result (text.new.items ≡ text.old.items ++ told_text page.entry.names.now
+        page.entry.origins.now.source.now page.entry.origins.now.rows (λ t. number_of t firsts.old)
+        number (seen condition.now) more told.now) }
     ensures firsts { OnOk result ((t : List ℕ) → number_of t firsts.new
         ≡ after_told page.entry.names.now page.entry.origins.now.source.now page.entry.origins.now.rows (shown more told.now) t number (number_of t firsts.old)) }
 {
@@ -155,7 +163,9 @@ fn put_all(
     requires places { page.origins.now.places.now ≡ page.origins.now.source.now }
     requires mores { length mores.now ≡ length conditions.now }
     requires each { length told.now ≡ length conditions.now }
-    ensures { OnOk result (text.new.items ≡ text.old.items ++ told_lines page.entry.names.now page.entry.origins.now.source.now page.entry.origins.now.rows [] (map seen conditions.now) mores.now told.now) }
+    ensures { OnOk result (text.new.items ≡ text.old.items ++ told_lines page.entry.names.now
+        page.entry.origins.now.source.now page.entry.origins.now.rows [] (map seen conditions.now)
+        mores.now told.now) }
 {
     let mut firsts = Firsts::new(*text.allocator());
     for index in 0..conditions.len() {
@@ -314,7 +324,8 @@ pub fn report(
     requires short { length source.now ≤ 2 ^ 20 }
     requires each { length told.now ≡ length conditions.now }
     requires few { length told.now < 2 ^ 32 }
-    ensures { IfOk result (λ text. text.items ≡ report_text outline.now.names source.now rows.entry (map seen conditions.now) told.now) }
+    ensures { IfOk result (λ text. text.items
+        ≡ report_text outline.now.names source.now rows.entry (map seen conditions.now) told.now) }
 {
     let places = Places::new(alloc, source)?;
     let origins = Origins {

@@ -59,7 +59,8 @@ fn assigned(alloc: Global, count: u32, action: &Option<Action>) -> Result<Vec<u3
 
 // The numbers, from 0, of the conjuncts of an assertion that are false.
 fn false_numbers(alloc: Global, note: &Note, values: &Values) -> Result<Vec<usize>, Unexplained>
-    ensures { IfOk result (λ v. v.items ≡ false_numbers values.now 0 (conjuncts (noted note.now).assertion)) }
+    ensures { IfOk result (λ v.
+        v.items ≡ false_numbers values.now 0 (conjuncts (noted note.now).assertion)) }
 {
     let mut all = Vec::new(alloc);
     add_conjuncts(&mut all, &note.assertion)?;
@@ -96,7 +97,9 @@ fn block_with<'a>(
     explanation: Explanation<'a>,
     conjuncts: Vec<usize>,
 ) -> Result<Block<'a>, AllocError>
-    ensures { IfOk result (λ b. (b.details.value.kind ≡ condition.now.kind) × (b.values ≡ values) × (b.details.value.explanation ≡ explanation.entry) × (b.details.value.conjuncts.items ≡ conjuncts.items)) }
+    ensures { IfOk result (λ b. (b.details.value.kind ≡ condition.now.kind) × (b.values ≡ values)
+        × (b.details.value.explanation ≡ explanation.entry)
+        × (b.details.value.conjuncts.items ≡ conjuncts.items)) }
 {
     let mut focus = Vars::of_fault(alloc, condition, &explanation.fault)?;
     let vars = focus.list(alloc)?;
@@ -160,7 +163,8 @@ fn block_at<'a>(
     requires is_false { IsFalseAt (seen condition.now) state.now }
     ensures block { IfOk result (IsBlock outline.now (seen condition.now)) }
     ensures state { IfOk result (λ b. b.values ≡ state.now) }
-    ensures allowed { IfOk result (λ b. AreAllowed outline.now state.now b.details.value.explanation.fault) }
+    ensures allowed { IfOk result (λ b.
+        AreAllowed outline.now state.now b.details.value.explanation.fault) }
 {
     let explanation = explain(alloc, outline, index, condition, state)?;
     let values = Values::of(alloc, state)?;

@@ -39,7 +39,8 @@ fn add_place(places: &mut Vec<u32>, place: Option<u32>) -> Result<(), AllocError
 
 // The places of conjuncts, each once.
 fn places_of(alloc: Global, row: Option<&Row>, numbers: &[usize]) -> Result<Vec<u32>, AllocError>
-    ensures { IfOk result (λ v. v.items ≡ with_places (option_map (λ r. r.now) row.entry) [] numbers.now) }
+    ensures { IfOk result (λ v.
+        v.items ≡ with_places (option_map (λ r. r.now) row.entry) [] numbers.now) }
 {
     let mut places = Vec::new(alloc);
     for number in numbers {
@@ -50,7 +51,8 @@ fn places_of(alloc: Global, row: Option<&Row>, numbers: &[usize]) -> Result<Vec<
 
 // Those of the false conjuncts.
 fn false_places(alloc: Global, rows: &Rows, block: &Block) -> Result<Vec<u32>, AllocError>
-    ensures { IfOk result (λ v. v.items ≡ false_places (Some rows.entry) block.now.details.value.explanation.fault block.now.details.value.conjuncts.items) }
+    ensures { IfOk result (λ v. v.items ≡ false_places (Some rows.entry)
+        block.now.details.value.explanation.fault block.now.details.value.conjuncts.items) }
 {
     match &block.details.explanation.fault {
         Fault::False(note, _) => places_of(alloc, rows.get(&note.at), &block.details.conjuncts),
@@ -95,7 +97,8 @@ fn key_text(
     condition: &Condition,
     block: &Block,
 ) -> Result<Vec<u8>, AllocError>
-    ensures { IfOk result (λ text. text.items ≡ key_text (Some rows.entry) (seen condition.now) block.now) }
+    ensures { IfOk result (λ text.
+        text.items ≡ key_text (Some rows.entry) (seen condition.now) block.now) }
 {
     let places = false_places(alloc, rows, block)?;
     let mut text = Vec::new(alloc);
@@ -133,7 +136,8 @@ fn keys_of(
     told: &[Told],
 ) -> Result<Vec<Option<Vec<u8>>>, AllocError>
     requires { length told.now ≡ length conditions.now }
-    ensures { IfOk result (λ keys. map key_seen keys.items ≡ keys_of rows.entry (map seen conditions.now) told.now) }
+    ensures { IfOk result (λ keys.
+        map key_seen keys.items ≡ keys_of rows.entry (map seen conditions.now) told.now) }
 {
     let mut keys = Vec::with_capacity(alloc, conditions.len())?;
     for index in 0..conditions.len() {
@@ -148,7 +152,8 @@ type Counts = BTreeMap<Vec<u8>, usize>;
 // A text once more.
 fn count(alloc: Global, counts: &mut Counts, text: &[u8]) -> Result<(), AllocError>
     requires { unwrap_or (found text.now counts.old) 0 < 2 ^ 32 }
-    ensures { OnOk result ((t : List ℕ) → found t counts.new ≡ counted (bytes_eq t text.now) (found t counts.old)) }
+    ensures { OnOk result ((t : List ℕ) → found t counts.new
+        ≡ counted (bytes_eq t text.now) (found t counts.old)) }
 {
     let number = counts.get(text).copied().unwrap_or(0);
     let key = Vec::from_slice(alloc, text)?;
@@ -159,7 +164,8 @@ fn count(alloc: Global, counts: &mut Counts, text: &[u8]) -> Result<(), AllocErr
 // A key once more, if there is one.
 fn count_key(alloc: Global, counts: &mut Counts, key: &Option<Vec<u8>>) -> Result<(), AllocError>
     requires { (t : List ℕ) → unwrap_or (found t counts.old) 0 < 2 ^ 32 }
-    ensures { OnOk result ((t : List ℕ) → found t counts.new ≡ counted (has_key t (key_seen key.now)) (found t counts.old)) }
+    ensures { OnOk result ((t : List ℕ) → found t counts.new
+        ≡ counted (has_key t (key_seen key.now)) (found t counts.old)) }
 {
     match key {
         None => Ok(()),
@@ -170,7 +176,8 @@ fn count_key(alloc: Global, counts: &mut Counts, key: &Option<Vec<u8>>) -> Resul
 // How often each of these keys occurs.
 fn counts_of(alloc: Global, keys: &[Option<Vec<u8>>]) -> Result<Counts, AllocError>
     requires { length keys.now < 2 ^ 32 }
-    ensures { IfOk result (λ counts. (t : List ℕ) → found t counts ≡ total (count_by (has_key t) (map key_seen keys.now))) }
+    ensures { IfOk result (λ counts.
+        (t : List ℕ) → found t counts ≡ total (count_by (has_key t) (map key_seen keys.now))) }
 {
     let mut counts = Counts::new(alloc);
     for index in 0..keys.len() {
@@ -183,7 +190,8 @@ fn counts_of(alloc: Global, keys: &[Option<Vec<u8>>]) -> Result<Counts, AllocErr
 // is taken out of the counts.
 fn more_left(counts: &mut Counts, key: &Option<Vec<u8>>) -> Option<usize>
     ensures more { result ≡ more_left (λ t. found t counts.old) (key_seen key.now) }
-    ensures counts { (t : List ℕ) → found t counts.new ≡ without (has_key t (key_seen key.now)) (found t counts.old) }
+    ensures counts { (t : List ℕ) → found t counts.new
+        ≡ without (has_key t (key_seen key.now)) (found t counts.old) }
 {
     let Some(key) = key else {
         return Some(0);
@@ -231,7 +239,8 @@ pub fn mores(
 ) -> Result<Vec<Option<usize>>, AllocError>
     requires each { length told.now ≡ length conditions.now }
     requires few { length told.now < 2 ^ 32 }
-    ensures { IfOk result (λ v. v.items ≡ mores (keys_of rows.entry (map seen conditions.now) told.now)) }
+    ensures { IfOk result (λ v.
+        v.items ≡ mores (keys_of rows.entry (map seen conditions.now) told.now)) }
 {
     if rows.is_none() {
         return none_more(alloc, conditions.len());

@@ -55,7 +55,8 @@ fn put_middle(
     told: &Told,
 ) -> Result<(), AllocError>
     requires { members_view members.old.entries ≡ last_members names.now told.now }
-    ensures { OnOk result (members_view members.new.entries ≡ middle_members names.now places.now number (seen condition.now) told.now) }
+    ensures { OnOk result (members_view members.new.entries
+        ≡ middle_members names.now places.now number (seen condition.now) told.now) }
 {
     let place = places.position(condition.at);
     set_number(members, alloc, "line", place.line as u64)?;
@@ -76,8 +77,10 @@ fn put_first(
     condition: &Condition,
     told: &Told,
 ) -> Result<(), AllocError>
-    requires { members_view members.old.entries ≡ middle_members names.now places.now number (seen condition.now) told.now }
-    ensures { OnOk result (object (members_view members.new.entries) ≡ told_data names.now places.now number (seen condition.now) told.now) }
+    requires { members_view members.old.entries
+        ≡ middle_members names.now places.now number (seen condition.now) told.now }
+    ensures { OnOk result (object (members_view members.new.entries)
+        ≡ told_data names.now places.now number (seen condition.now) told.now) }
 {
     let after = after_member(alloc, names, told)?;
     put_optional(members, alloc, "after", after)?;
@@ -102,7 +105,8 @@ pub fn told_value(
     condition: &Condition,
     told: &Told,
 ) -> Result<Value, AllocError>
-    ensures { IfOk result (λ v. view v ≡ told_data names.now places.now number (seen condition.now) told.now) }
+    ensures { IfOk result (λ v.
+        view v ≡ told_data names.now places.now number (seen condition.now) told.now) }
 {
     let mut members = Map::new(alloc);
     put_last(&mut members, alloc, names, told)?;
@@ -140,7 +144,8 @@ pub(crate) fn unproved_values(
     told: &[Told],
 ) -> Result<Vec<Value>, AllocError>
     requires { length told.now ≡ length conditions.now }
-    ensures { IfOk result (λ values. map view values.items ≡ unproved_data names.now places.now 1 (map seen conditions.now) told.now) }
+    ensures { IfOk result (λ values. map view values.items
+        ≡ unproved_data names.now places.now 1 (map seen conditions.now) told.now) }
 {
     let mut values = Vec::new(alloc);
     for index in 0..conditions.len() {

@@ -33,7 +33,8 @@ fn place_of(fault: &InputFault) -> Option<u32>
 // Adds the line with a mark, where there is a place.
 fn put_front(text: &mut Vec<u8>, source: &[u8], fault: &InputFault) -> Result<(), AllocError>
     requires { IsKnown source.now fault.now }
-    ensures { OnOk result (text.new.items ≡ text.old.items ++ front_text source.now (place_of_input fault.now)) }
+    ensures { OnOk result (text.new.items ≡ text.old.items
+        ++ front_text source.now (place_of_input fault.now)) }
 {
     match place_of(fault) {
         None => text.extend_from_slice(b"  "),
@@ -43,7 +44,8 @@ fn put_front(text: &mut Vec<u8>, source: &[u8], fault: &InputFault) -> Result<()
 
 // Adds a line of advice, where there is some.
 fn put_hint(text: &mut Vec<u8>, hint: Option<&str>) -> Result<(), AllocError>
-    ensures { OnOk result (text.new.items ≡ text.old.items ++ hint_text (option_map (λ h. h.now) hint.entry)) }
+    ensures { OnOk result (text.new.items ≡ text.old.items
+        ++ hint_text (option_map (λ h. h.now) hint.entry)) }
 {
     let Some(hint) = hint else {
         return Ok(());
@@ -77,7 +79,8 @@ pub fn advise(
     source: &[u8],
 ) -> Result<Vec<u8>, AllocError>
     requires { IsKnown source.now fault.now }
-    ensures { IfOk result (λ text. IsAdvice names.entry.source.now names.entry.certs.now source.now fault.now text.items) }
+    ensures { IfOk result (λ text.
+        IsAdvice names.entry.source.now names.entry.certs.now source.now fault.now text.items) }
 {
     let mut text = Vec::new(alloc);
     put_head(&mut text, names, fault, source)?;

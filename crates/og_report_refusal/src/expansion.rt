@@ -121,7 +121,8 @@ fn placed_head(
     at: u32,
 ) -> Result<Vec<u8>, AllocError>
     requires { length source.now ≤ 2 ^ 20 }
-    ensures { IfOk result (λ text. text.items ≡ (shown_name name.now ++ place_text source.now (Some at)) ++ refusal_text (number_of_fault fault.now) (name_of_fault fault.now)) }
+    ensures { IfOk result (λ text. text.items ≡ (shown_name name.now ++ place_text source.now
+        (Some at)) ++ refusal_text (number_of_fault fault.now) (name_of_fault fault.now)) }
 {
     let mut text = Vec::new(alloc);
     put_name(&mut text, name)?;
@@ -132,7 +133,8 @@ fn placed_head(
 
 // The file, and the refusal.
 fn unplaced_head(alloc: Global, name: &str, fault: &ExpandFault) -> Result<Vec<u8>, AllocError>
-    ensures { IfOk result (λ text. text.items ≡ shown_name name.now ++ refusal_text (number_of_fault fault.now) (name_of_fault fault.now)) }
+    ensures { IfOk result (λ text. text.items ≡ shown_name name.now
+        ++ refusal_text (number_of_fault fault.now) (name_of_fault fault.now)) }
 {
     let mut text = Vec::new(alloc);
     put_name(&mut text, name)?;
@@ -149,7 +151,8 @@ fn placed(
     at: u32,
 ) -> Result<Vec<u8>, AllocError>
     requires { length source.now ≤ 2 ^ 20 }
-    ensures { IfOk result (λ text. IsRemarkAt name.now source.now (number_of_fault fault.now) (name_of_fault fault.now) (Some at) text.items) }
+    ensures { IfOk result (λ text. IsRemarkAt name.now source.now (number_of_fault fault.now)
+        (name_of_fault fault.now) (Some at) text.items) }
 {
     let mut text = placed_head(alloc, name, source, fault, at)?;
     put_quote(&mut text, source, at)?;
@@ -164,7 +167,8 @@ fn unplaced(
     source: &[u8],
     fault: &ExpandFault,
 ) -> Result<Vec<u8>, AllocError>
-    ensures { IfOk result (λ text. IsRemarkAt name.now source.now (number_of_fault fault.now) (name_of_fault fault.now) None text.items) }
+    ensures { IfOk result (λ text. IsRemarkAt name.now source.now (number_of_fault fault.now)
+        (name_of_fault fault.now) None text.items) }
 {
     let mut text = unplaced_head(alloc, name, fault)?;
     text.extend_from_slice(b"  ")?;

@@ -55,7 +55,8 @@ fn put_placed(
     name: &str,
 ) -> Result<(), AllocError>
     requires { IsSome place → length source.now ≤ 2 ^ 20 }
-    ensures { OnOk result (text.new.items ≡ text.old.items ++ (shown_name file.now ++ (place_text source.now place ++ refusal_text number name.now))) }
+    ensures { OnOk result (text.new.items ≡ text.old.items
+        ++ (shown_name file.now ++ (place_text source.now place ++ refusal_text number name.now))) }
 {
     put_name(text, file)?;
     put_place(text, source, place)?;
@@ -70,7 +71,8 @@ fn put_lined(
     number: u8,
     name: &str,
 ) -> Result<(), AllocError>
-    ensures { OnOk result (text.new.items ≡ text.old.items ++ (shown_name file.now ++ (line_text line ++ refusal_text number name.now))) }
+    ensures { OnOk result (text.new.items ≡ text.old.items
+        ++ (shown_name file.now ++ (line_text line ++ refusal_text number name.now))) }
 {
     put_name(text, file)?;
     put_line(text, line)?;
@@ -89,7 +91,8 @@ pub(crate) fn put_head(
     source: &[u8],
 ) -> Result<(), AllocError>
     requires { IsSome (place_of_input fault.now) → length source.now ≤ 2 ^ 20 }
-    ensures { OnOk result (text.new.items ≡ text.old.items ++ head_text names.entry.source.now names.entry.certs.now source.now fault.now) }
+    ensures { OnOk result (text.new.items ≡ text.old.items
+        ++ head_text names.entry.source.now names.entry.certs.now source.now fault.now) }
 {
     match fault {
         InputFault::Source(why) => {

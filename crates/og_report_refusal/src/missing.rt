@@ -61,7 +61,8 @@ fn missing_of(alloc: Global, certs: &[u8], count: u32) -> Result<Option<Missing>
 
 // Adds two numbers with `of` between them.
 fn put_counts(text: &mut Vec<u8>, missing: Missing) -> Result<(), AllocError>
-    ensures { OnOk result (text.new.items ≡ text.old.items ++ counts_text missing.count missing.conditions) }
+    ensures { OnOk result (text.new.items ≡ text.old.items
+        ++ counts_text missing.count missing.conditions) }
 {
     put_number(text, missing.count as u128)?;
     text.extend_from_slice(b" of ")?;
@@ -70,7 +71,8 @@ fn put_counts(text: &mut Vec<u8>, missing: Missing) -> Result<(), AllocError>
 
 // Adds the command that proves a source of this name, between two texts.
 fn put_prove(text: &mut Vec<u8>, before: &str, name: &str, after: &str) -> Result<(), AllocError>
-    ensures { OnOk result (text.new.items ≡ text.old.items ++ (before.now ++ (command_text (codes "og prove ") name.now ++ after.now))) }
+    ensures { OnOk result (text.new.items ≡ text.old.items
+        ++ (before.now ++ (command_text (codes "og prove ") name.now ++ after.now))) }
 {
     text.extend_from_slice(before.as_bytes())?;
     put_command(text, "og prove ", name)?;
@@ -84,7 +86,8 @@ fn put_prove(text: &mut Vec<u8>, before: &str, name: &str, after: &str) -> Resul
 ///
 /// An allocation was refused.
 pub fn missing_line(alloc: Global, name: &str, missing: Missing) -> Result<Vec<u8>, AllocError>
-    ensures { IfOk result (λ text. text.items ≡ missing_text name.now missing.count missing.conditions) }
+    ensures { IfOk result (λ text.
+        text.items ≡ missing_text name.now missing.count missing.conditions) }
 {
     let mut text = Vec::from_slice(alloc, b"og: ")?;
     put_counts(&mut text, missing)?;
@@ -94,7 +97,8 @@ pub fn missing_line(alloc: Global, name: &str, missing: Missing) -> Result<Vec<u
 
 // Adds a number between two texts.
 fn put_count(text: &mut Vec<u8>, before: &str, count: u128, after: &str) -> Result<(), AllocError>
-    ensures { OnOk result (text.new.items ≡ text.old.items ++ (before.now ++ (decimal count ++ after.now))) }
+    ensures { OnOk result (text.new.items ≡ text.old.items
+        ++ (before.now ++ (decimal count ++ after.now))) }
 {
     text.extend_from_slice(before.as_bytes())?;
     put_number(text, count)?;
@@ -144,7 +148,8 @@ pub fn missing_remark(
     source: &[u8],
     certs: &[u8],
 ) -> Result<Option<Vec<u8>>, AllocError>
-    ensures { IfOk result (λ note. IsMissingRemark name.now source.now certs.now (option_map (λ n. n.items) note)) }
+    ensures { IfOk result (λ note.
+        IsMissingRemark name.now source.now certs.now (option_map (λ n. n.items) note)) }
 {
     let Some(count) = count_of(alloc, source)? else {
         return Ok(None);

@@ -71,7 +71,8 @@ fn first_place(source: &[u8], tokens: &[Token], at: u32) -> u32
 // Adds a place of the source to the text.
 fn put_place(text: &mut Vec<u8>, source: &[u8], at: u32) -> Result<(), AllocError>
     requires { length source.now ≤ 2 ^ 20 }
-    ensures { OnOk result (text.new.items ≡ text.old.items ++ position_text (position_of source.now at)) }
+    ensures { OnOk result (text.new.items ≡ text.old.items
+        ++ position_text (position_of source.now at)) }
 {
     let end = source.len() as u32;
     let (line, column) = line_col(source, at.min(end));
@@ -110,7 +111,8 @@ fn plain(alloc: Global, why: &str, hint: Option<Hint>) -> Result<Reason, AllocEr
 
 // Why a text is not cut into tokens.
 fn lex_reason(alloc: Global, fault: &LexFault, source: &[u8]) -> Result<Reason, AllocError>
-    ensures { IfOk result (λ r. IsReason source.now (faults.Source (sources.Lex fault.now)) r.0.items) }
+    ensures { IfOk result (λ r.
+        IsReason source.now (faults.Source (sources.Lex fault.now)) r.0.items) }
 {
     match fault {
         LexFault::BadByte(at) => {
@@ -130,7 +132,8 @@ fn lex_reason(alloc: Global, fault: &LexFault, source: &[u8]) -> Result<Reason, 
 // Why tokens stand for no outline.
 fn parse_reason(alloc: Global, fault: &ParseFault, source: &[u8]) -> Result<Reason, AllocError>
     requires { HasTokens source.now }
-    ensures { IfOk result (λ r. IsReason source.now (faults.Source (sources.Parse fault.now)) r.0.items) }
+    ensures { IfOk result (λ r.
+        IsReason source.now (faults.Source (sources.Parse fault.now)) r.0.items) }
 {
     match fault {
         ParseFault::Expected(span) => {
@@ -149,7 +152,8 @@ fn parse_reason(alloc: Global, fault: &ParseFault, source: &[u8]) -> Result<Reas
 fn resolve_reason(alloc: Global, fault: &TypeFault, source: &[u8]) -> Result<Reason, AllocError>
     requires has_tokens { HasTokens source.now }
     requires short { length source.now ≤ 2 ^ 20 }
-    ensures { IfOk result (λ r. IsReason source.now (faults.Source (sources.Resolve fault.now)) r.0.items) }
+    ensures { IfOk result (λ r.
+        IsReason source.now (faults.Source (sources.Resolve fault.now)) r.0.items) }
 {
     match fault {
         TypeFault::Undeclared(at) => wrong_word(alloc, source, *at, "' is not declared"),
@@ -229,7 +233,8 @@ fn certs_reason(
 
 // That a certificate has no condition.
 fn stray(alloc: Global, condition: u32) -> Result<Reason, AllocError>
-    ensures { IfOk result (λ r. r.0.items ≡ codes "the outline has no condition " & decimal condition) }
+    ensures { IfOk result (λ r.
+        r.0.items ≡ codes "the outline has no condition " & decimal condition) }
 {
     let mut text = Vec::from_slice(alloc, b"the outline has no condition ")?;
     put_number(&mut text, condition as u128)?;

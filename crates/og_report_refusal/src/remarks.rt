@@ -24,7 +24,8 @@ pub fn source_remark(
     name: &str,
     source: &[u8],
 ) -> Result<Option<Vec<u8>>, AllocError>
-    ensures { IfOk result (λ note. IsSourceRemark name.now source.now (option_map (λ n. n.items) note)) }
+    ensures { IfOk result (λ note.
+        IsSourceRemark name.now source.now (option_map (λ n. n.items) note)) }
 {
     match Source::read(alloc, source) {
         Ok(read) => {
@@ -84,7 +85,8 @@ pub fn conditions_remark(
     name: &str,
     source: &[u8],
 ) -> Result<Option<Vec<u8>>, AllocError>
-    ensures { IfOk result (λ note. IsConditionsRemark name.now source.now (option_map (λ n. n.items) note)) }
+    ensures { IfOk result (λ note.
+        IsConditionsRemark name.now source.now (option_map (λ n. n.items) note)) }
 {
     let Some(fault) = listed(alloc, source)? else {
         return Ok(None);
@@ -124,7 +126,8 @@ pub fn check_remark<H: Threads + Wait + Sync>(
     source: &[u8],
     certs: &[u8],
 ) -> Result<Option<Vec<u8>>, AllocError>
-    ensures { IfOk result (λ note. IsCheckRemark names.entry.source.now names.entry.certs.now source.now certs.now (option_map (λ n. n.items) note)) }
+    ensures { IfOk result (λ note. IsCheckRemark names.entry.source.now names.entry.certs.now
+        source.now certs.now (option_map (λ n. n.items) note)) }
 {
     match judge(rt, alloc, source, certs, 1, &OpenGate) {
         Ok(judgement) => {
@@ -147,7 +150,8 @@ pub fn certificates_remark(
     name: &str,
     certs: &[u8],
 ) -> Result<Option<Vec<u8>>, AllocError>
-    ensures { IfOk result (λ note. IsCertificatesRemark name.now certs.now (option_map (λ n. n.items) note)) }
+    ensures { IfOk result (λ note.
+        IsCertificatesRemark name.now certs.now (option_map (λ n. n.items) note)) }
 {
     match migrate(alloc, certs) {
         Ok(text) => {

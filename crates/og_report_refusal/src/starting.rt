@@ -53,7 +53,8 @@ fn put_start_values(
     values: &Values,
     count: u32,
 ) -> Result<(), AllocError>
-    ensures { OnOk result (text.new.items ≡ text.old.items ++ start_values names.now values.now count) }
+    ensures { OnOk result (text.new.items ≡ text.old.items
+        ++ start_values names.now values.now count) }
 {
     for var in 0..count {
         put_start_value(text, names, values, var)?;
@@ -96,7 +97,8 @@ fn start_text(
     values: &Values,
     found: &[&Assert],
 ) -> Result<Vec<u8>, AllocError>
-    ensures { IfOk result (λ text. text.items ≡ start_text name.now source.now.bytes source.now.outline values.now found.now) }
+    ensures { IfOk result (λ text.
+        text.items ≡ start_text name.now source.now.bytes source.now.outline values.now found.now) }
 {
     let outline = source.outline();
     let places = Places::new(alloc, source.bytes())?;
@@ -117,7 +119,8 @@ fn told(
     source: &Source,
     state: &State,
 ) -> Result<Option<Vec<u8>>, AllocError>
-    ensures { IfOk result (λ note. IfSome note (λ text. IsStartOf name.now source.now.bytes source.now.outline state.now text.items)) }
+    ensures { IfOk result (λ note. IfSome note
+        (λ text. IsStartOf name.now source.now.bytes source.now.outline state.now text.items)) }
 {
     let values = Values::of(alloc, state)?;
     match false_in(alloc, source.outline().pre(), &values) {
@@ -145,7 +148,8 @@ fn told_of(
     source: &Source,
     words: &[&str],
 ) -> Result<Option<Vec<u8>>, AllocError>
-    ensures { IfOk result (λ note. IfSome note (λ text. IsStartRemark name.now source.now.bytes (map (λ w. w.now) words.now) text.items)) }
+    ensures { IfOk result (λ note. IfSome note
+        (λ text. IsStartRemark name.now source.now.bytes (map (λ w. w.now) words.now) text.items)) }
 {
     match start_of(alloc, source.outline(), words)? {
         Some(state) => told(alloc, name, source, &state),
@@ -160,7 +164,8 @@ fn start_remark(
     source: &[u8],
     words: &[&str],
 ) -> Result<Option<Vec<u8>>, AllocError>
-    ensures { IfOk result (λ note. IfSome note (λ text. IsStartRemark name.now source.now (map (λ w. w.now) words.now) text.items)) }
+    ensures { IfOk result (λ note. IfSome note
+        (λ text. IsStartRemark name.now source.now (map (λ w. w.now) words.now) text.items)) }
 {
     match Source::read(alloc, source) {
         Ok(read) => {
@@ -187,7 +192,8 @@ pub fn run_remark(
     source: &[u8],
     words: &[&str],
 ) -> Result<Option<Vec<u8>>, AllocError>
-    ensures { IfOk result (λ note. IsRunRemark name.now source.now (map (λ w. w.now) words.now) (option_map (λ n. n.items) note)) }
+    ensures { IfOk result (λ note. IsRunRemark name.now source.now (map (λ w. w.now) words.now)
+        (option_map (λ n. n.items) note)) }
 {
     match source_remark(alloc, name, source)? {
         Some(text) => Ok(Some(text)),
@@ -208,7 +214,8 @@ pub fn proved_run_remark<H: Threads + Wait + Sync>(
     certs: &[u8],
     words: &[&str],
 ) -> Result<Option<Vec<u8>>, AllocError>
-    ensures { IfOk result (λ note. IsProvedRunRemark names.entry.source.now names.entry.certs.now source.now certs.now (map (λ w. w.now) words.now) (option_map (λ n. n.items) note)) }
+    ensures { IfOk result (λ note. IsProvedRunRemark names.entry.source.now names.entry.certs.now
+        source.now certs.now (map (λ w. w.now) words.now) (option_map (λ n. n.items) note)) }
 {
     match check_remark(rt, alloc, names, source, certs)? {
         Some(text) => Ok(Some(text)),

@@ -74,7 +74,8 @@ fn variable_reason(
     name: &str,
     number: &str,
 ) -> Result<Vec<u8>, AllocError>
-    ensures { IfOk result (λ text. IsVariableReason gives outline.now name.now number.now text.items (number_in outline.now.names name.now)) }
+    ensures { IfOk result (λ text. IsVariableReason gives outline.now name.now number.now text.items
+        (number_in outline.now.names name.now)) }
 {
     match number_of(outline.names(), name) {
         None => quoted(alloc, name, " is not declared"),
@@ -145,7 +146,8 @@ pub fn value_remark(
     source: &[u8],
     word: &str,
 ) -> Result<Option<Vec<u8>>, AllocError>
-    ensures { IfOk result (λ note. IfSome note (λ line. IsValueRemark gives source.now word.now line.items)) }
+    ensures { IfOk result (λ note.
+        IfSome note (λ line. IsValueRemark gives source.now word.now line.items)) }
 {
     match Source::read(alloc, source) {
         Ok(read) => {

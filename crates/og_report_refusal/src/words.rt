@@ -54,7 +54,8 @@ fn word_of(kind: &TokenKind) -> &'static str
 
 // Adds the end, where it may stand there.
 fn put_end(words: &mut Vec<&'static str>, may_end: bool) -> Result<(), AllocError>
-    ensures { OnOk result (map (λ w. w.now) words.new.items ≡ with_end (map (λ w. w.now) words.old.items) may_end) }
+    ensures { OnOk result (map (λ w. w.now) words.new.items
+        ≡ with_end (map (λ w. w.now) words.old.items) may_end) }
 {
     if !may_end {
         return Ok(());
@@ -81,7 +82,8 @@ pub(crate) fn words_of(
 
 // The words after a first one.
 fn put_others(text: &mut Vec<u8>, words: &[&str]) -> Result<(), AllocError>
-    ensures { OnOk result (text.new.items ≡ text.old.items ++ others_text (map (λ w. w.now) words.now)) }
+    ensures { OnOk result (text.new.items ≡ text.old.items
+        ++ others_text (map (λ w. w.now) words.now)) }
 {
     let [word, others @ ..] = words else {
         return Ok(());

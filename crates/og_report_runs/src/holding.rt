@@ -58,7 +58,8 @@ fn some_may_hold(lists: &[Vec<Part>], values: &Values) -> bool
 }
 
 fn hypothesis_may_hold(hypothesis: &Hypothesis, values: &Values) -> bool
-    ensures { result ≡ false → hypothesis_true values.now (hypothesis_of hypothesis.now) ≡ true → ⊥ }
+    ensures { result ≡ false → hypothesis_true values.now (hypothesis_of hypothesis.now) ≡ true
+        → ⊥ }
 {
     match hypothesis {
         Hypothesis::Is(part) => part_may_hold(part, values),
@@ -68,7 +69,8 @@ fn hypothesis_may_hold(hypothesis: &Hypothesis, values: &Values) -> bool
 }
 
 fn hypotheses_may_hold(hypotheses: &[Hypothesis], values: &Values) -> bool
-    ensures { result ≡ false → hypotheses_true values.now (map hypothesis_of hypotheses.now) ≡ true → ⊥ }
+    ensures { result ≡ false → hypotheses_true values.now (map hypothesis_of hypotheses.now) ≡ true
+        → ⊥ }
 {
     for hypothesis in hypotheses {
         if !hypothesis_may_hold(hypothesis, values) {
@@ -119,7 +121,8 @@ fn goal_may_fail(
     assert: &Assert,
     values: &Values,
 ) -> Result<bool, AllocError>
-    ensures { IfOk result (λ may. may ≡ false → truth (formula assert.now) (act (assignments (seen condition.now).action) values.now) ≡ false → ⊥) }
+    ensures { IfOk result (λ may. may ≡ false → truth (formula assert.now)
+        (act (assignments (seen condition.now).action) values.now) ≡ false → ⊥) }
 {
     let Some(action) = &condition.action else {
         return Ok(may_be(assert, values, false));
@@ -136,7 +139,8 @@ fn action_may_fail(
     condition: &Condition,
     values: &Values,
 ) -> Result<bool, AllocError>
-    ensures { IfOk result (λ may. may ≡ false → all_fit (assignments (seen condition.now).action) values.now ≡ false → ⊥) }
+    ensures { IfOk result (λ may.
+        may ≡ false → all_fit (assignments (seen condition.now).action) values.now ≡ false → ⊥) }
 {
     match &condition.action {
         Some(action) => Ok(!action_fits(alloc, action, values)?),

@@ -93,7 +93,8 @@ fn put_begins(
     values: &Values,
     vars: &[u32],
 ) -> Result<(), AllocError>
-    ensures { OnOk result (text.new.items ≡ text.old.items ++ begins_text names.now count values.now vars.now) }
+    ensures { OnOk result (text.new.items ≡ text.old.items
+        ++ begins_text names.now count values.now vars.now) }
 {
     if vars.is_empty() {
         return text.extend_from_slice(b"0");
@@ -141,7 +142,8 @@ fn put_witness(
     many: bool,
     witness: &Witness,
 ) -> Result<(), AllocError>
-    ensures { OnOk result (text.new.items ≡ text.old.items ++ witness_text outline.now many witness.now) }
+    ensures { OnOk result (text.new.items ≡ text.old.items
+        ++ witness_text outline.now many witness.now) }
 {
     outline.follows_rule();
     let main = outline.processes().len() as u32;
@@ -156,7 +158,8 @@ fn put_run(
     explored: Explored,
     run: &Run,
 ) -> Result<(), AllocError>
-    ensures { OnOk result (text.new.items ≡ text.old.items ++ run_text outline.now (nat_lt 1 explored.starts) explored.moments run.now) }
+    ensures { OnOk result (text.new.items ≡ text.old.items
+        ++ run_text outline.now (nat_lt 1 explored.starts) explored.moments run.now) }
 {
     match run {
         Run::Reached(witness) => put_witness(text, outline, 1 < explored.starts, witness),
@@ -180,7 +183,8 @@ pub fn put_run_line(
     explored: Explored,
     run: &Run,
 ) -> Result<(), AllocError>
-    ensures { OnOk result (text.new.items ≡ text.old.items ++ run_line outline.now (nat_lt 1 explored.starts) explored.moments run.now) }
+    ensures { OnOk result (text.new.items ≡ text.old.items
+        ++ run_line outline.now (nat_lt 1 explored.starts) explored.moments run.now) }
 {
     text.extend_from_slice(b"  ")?;
     put_run(text, outline, explored, run)?;

@@ -146,7 +146,8 @@ fn unproved_values(
 ) -> Result<Vec<Value>, AllocError>
     requires each { length told.now ≡ length conditions.now }
     requires run { length runs.now ≡ length conditions.now }
-    ensures { IfOk result (λ values. map view values.items ≡ unproved_data outline.now places.now 1 (map seen conditions.now) told.now runs.now) }
+    ensures { IfOk result (λ values. map view values.items
+        ≡ unproved_data outline.now places.now 1 (map seen conditions.now) told.now runs.now) }
 {
     let mut values = Vec::new(alloc);
     for index in 0..conditions.len() {
@@ -189,7 +190,8 @@ fn report_value(
 ) -> Result<Value, AllocError>
     requires each { length told.now ≡ length conditions.now }
     requires run { length runs.now ≡ length conditions.now }
-    ensures { IfOk result (λ v. view v ≡ report_data outline.now places.now explored (map seen conditions.now) told.now runs.now) }
+    ensures { IfOk result (λ v. view v
+        ≡ report_data outline.now places.now explored (map seen conditions.now) told.now runs.now) }
 {
     let unproved = unproved_values(alloc, outline, places, conditions, told, runs)?;
     let totals = totals_value(alloc, told, list_value(unproved))?;
@@ -220,7 +222,8 @@ pub fn json(
     requires short { length source.now ≤ 2 ^ 20 }
     requires each { length told.now ≡ length conditions.now }
     requires run { length runs.now ≡ length conditions.now }
-    ensures { IfOk result (λ text. text.items ≡ json_text outline.now source.now explored (map seen conditions.now) told.now runs.now) }
+    ensures { IfOk result (λ text. text.items
+        ≡ json_text outline.now source.now explored (map seen conditions.now) told.now runs.now) }
 {
     let places = Places::new(alloc, source)?;
     let value = report_value(alloc, outline, &places, explored, conditions, told, runs)?;

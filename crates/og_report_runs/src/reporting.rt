@@ -27,7 +27,8 @@ fn put_line(
     told: &Told,
     run: &Run,
 ) -> Result<(), AllocError>
-    ensures { OnOk result (text.new.items ≡ text.old.items ++ line_of outline.now explored (shown more told.now) run.now) }
+    ensures { OnOk result (text.new.items ≡ text.old.items
+        ++ line_of outline.now explored (shown more told.now) run.now) }
 {
     let Some(_) = more else {
         return Ok(());
@@ -78,7 +79,9 @@ fn put_all(
     requires mores { length mores.now ≡ length conditions.now }
     requires each { length told.now ≡ length conditions.now }
     requires run { length runs.now ≡ length conditions.now }
-    ensures { OnOk result (text.new.items ≡ text.old.items ++ told_lines outline.now explored page.entry.origins.now.source.now page.entry.origins.now.rows [] (map seen conditions.now) mores.now told.now runs.now) }
+    ensures { OnOk result (text.new.items ≡ text.old.items ++ told_lines outline.now explored
+        page.entry.origins.now.source.now page.entry.origins.now.rows [] (map seen conditions.now)
+        mores.now told.now runs.now) }
 {
     let mut firsts = Firsts::new(*text.allocator());
     for index in 0..conditions.len() {
@@ -147,7 +150,8 @@ pub fn report(
     requires each { length told.now ≡ length conditions.now }
     requires run { length runs.now ≡ length conditions.now }
     requires few { length told.now < 2 ^ 32 }
-    ensures { IfOk result (λ text. text.items ≡ report_text outline.now explored source.now rows.entry (map seen conditions.now) told.now runs.now) }
+    ensures { IfOk result (λ text. text.items ≡ report_text outline.now explored source.now
+        rows.entry (map seen conditions.now) told.now runs.now) }
 {
     let places = Places::new(alloc, source)?;
     let origins = Origins {

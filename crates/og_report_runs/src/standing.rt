@@ -28,7 +28,8 @@ pub(crate) fn read_alike(
     first: &Assert,
     second: &Assert,
 ) -> Result<bool, AllocError>
-    ensures { IfOk result (λ yes. IsTrue yes ↔ (assertion_text names.now (formula first.now) ≡ assertion_text names.now (formula second.now))) }
+    ensures { IfOk result (λ yes. IsTrue yes ↔ (assertion_text names.now (formula first.now)
+        ≡ assertion_text names.now (formula second.now))) }
 {
     let mut text = Vec::new(alloc);
     put_assertion(&mut text, names, first)?;
@@ -50,7 +51,8 @@ pub(crate) fn is_at(
     note: &Note,
 ) -> Result<bool, AllocError>
     requires { moment.now.outline ≡ outline.now }
-    ensures { IfOk result (λ yes. IsTrue yes ↔ IsAt outline.now moment.now.moment p (noted note.now)) }
+    ensures { IfOk result (λ yes.
+        IsTrue yes ↔ IsAt outline.now moment.now.moment p (noted note.now)) }
 {
     if !moment.is_active(p) {
         return Ok(false);
@@ -93,7 +95,8 @@ pub(crate) fn is_before(
     site: &StatementSite,
 ) -> Result<bool, AllocError>
     requires { moment.now.outline ≡ outline.now }
-    ensures { IfOk result (λ yes. IsTrue yes ↔ IsBefore outline.now moment.now.moment p (statement_of site.now).piece) }
+    ensures { IfOk result (λ yes.
+        IsTrue yes ↔ IsBefore outline.now moment.now.moment p (statement_of site.now).piece) }
 {
     if !is_at(alloc, outline, moment, p, &site.item.before)? {
         return Ok(false);

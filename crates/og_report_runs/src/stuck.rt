@@ -51,7 +51,8 @@ fn is_next(
     site: &StatementSite,
 ) -> Result<bool, AllocError>
     requires { moment.now.outline ≡ outline.now }
-    ensures { IfOk result (λ yes. IsTrue yes → IsNext outline.now moment.now.moment p (statement_of site.now).piece) }
+    ensures { IfOk result (λ yes.
+        IsTrue yes → IsNext outline.now moment.now.moment p (statement_of site.now).piece) }
 {
     if !is_before(alloc, outline, moment, p, site)? {
         return Ok(false);

@@ -46,7 +46,8 @@ fn explained<'a>(
     requires index { index.now ≡ outline.now }
     requires outline { moment.now.outline ≡ outline.now }
     requires reached { IsReached outline.now moment.now.moment }
-    ensures explained { IfOk result (IsExplained outline.now (seen condition.now) moment.now.moment.state) }
+    ensures explained { IfOk result (IsExplained outline.now (seen condition.now)
+        moment.now.moment.state) }
     ensures places { IfOk result (λ e. IsPlaced outline.now moment.now.moment e.fault) }
 {
     let explanation = explain(alloc, outline, index, condition, moment.state())?;
@@ -74,7 +75,8 @@ fn block_at<'a>(
     requires is_false { IsFalseAt (seen condition.now) moment.now.moment.state }
     ensures block { IfOk result (IsBlock outline.now (seen condition.now)) }
     ensures state { IfOk result (λ b. b.values ≡ moment.now.moment.state) }
-    ensures places { IfOk result (λ b. IsPlaced outline.now moment.now.moment b.details.value.explanation.fault) }
+    ensures places { IfOk result (λ b.
+        IsPlaced outline.now moment.now.moment b.details.value.explanation.fault) }
 {
     let explanation = explained(alloc, outline, index, condition, moment)?;
     let values = Values::of(alloc, moment.state())?;

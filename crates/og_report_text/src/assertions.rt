@@ -30,7 +30,8 @@ fn rank(assert: &Assert) -> u8
 #[cycle(assertions)]
 #[tactic(auto, using(og_typed::proofs::Lists::formula_and, og_typed::proofs::Lists::formula_or))]
 pub fn put_assertion(text: &mut Vec<u8>, names: &[Name], assert: &Assert) -> Result<(), AllocError>
-    ensures { OnOk result (text.new.items ≡ text.old.items ++ assertion_text names.now (formula assert.now)) }
+    ensures { OnOk result (text.new.items ≡ text.old.items
+        ++ assertion_text names.now (formula assert.now)) }
 {
     match assert {
         Assert::True => text.extend_from_slice(b"true"),
@@ -65,7 +66,8 @@ pub fn put_operand(
     least: u8,
     assert: &Assert,
 ) -> Result<(), AllocError>
-    ensures { OnOk result (text.new.items ≡ text.old.items ++ operand_text names.now least (formula assert.now)) }
+    ensures { OnOk result (text.new.items ≡ text.old.items
+        ++ operand_text names.now least (formula assert.now)) }
 {
     if rank(assert) < least {
         text.extend_from_slice(b"(")?;
@@ -85,7 +87,8 @@ fn put_joined(
     least: u8,
     all: &[Assert],
 ) -> Result<(), AllocError>
-    ensures { OnOk result (text.new.items ≡ text.old.items ++ joined_text names.now [] word.now least (formula_list (map formula all.now))) }
+    ensures { OnOk result (text.new.items ≡ text.old.items
+        ++ joined_text names.now [] word.now least (formula_list (map formula all.now))) }
 {
     let mut between: &[u8] = b"";
     for assert in all {

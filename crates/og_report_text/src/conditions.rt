@@ -18,7 +18,8 @@ use std::alloc::{AllocError, Global};
 
 // The places of a condition.
 fn put_places(text: &mut Vec<u8>, places: &Places, condition: &Condition) -> Result<(), AllocError>
-    ensures { OnOk result (text.new.items ≡ text.old.items ++ places_text places.now (seen condition.now)) }
+    ensures { OnOk result (text.new.items ≡ text.old.items
+        ++ places_text places.now (seen condition.now)) }
 {
     text.extend_from_slice(b" at ")?;
     put_position(text, places.position(condition.at))?;
@@ -33,7 +34,8 @@ fn put_header(
     number: u128,
     condition: &Condition,
 ) -> Result<(), AllocError>
-    ensures { OnOk result (text.new.items ≡ text.old.items ++ header_text places.now number (seen condition.now)) }
+    ensures { OnOk result (text.new.items ≡ text.old.items
+        ++ header_text places.now number (seen condition.now)) }
 {
     text.extend_from_slice(b"cond ")?;
     put_number(text, number)?;
@@ -44,7 +46,8 @@ fn put_header(
 
 // A line for each fact, numbered from 1.
 fn put_facts(text: &mut Vec<u8>, names: &[Name], facts: &[Fact]) -> Result<(), AllocError>
-    ensures { OnOk result (text.new.items ≡ text.old.items ++ facts_lines names.now 1 (map plain_fact facts.now)) }
+    ensures { OnOk result (text.new.items ≡ text.old.items
+        ++ facts_lines names.now 1 (map plain_fact facts.now)) }
 {
     let mut number = 1;
     for fact in facts {
@@ -60,7 +63,8 @@ fn put_facts(text: &mut Vec<u8>, names: &[Name], facts: &[Fact]) -> Result<(), A
 
 // The facts of a condition, or why there are none.
 fn put_answer(text: &mut Vec<u8>, names: &[Name], condition: &Condition) -> Result<(), AllocError>
-    ensures { OnOk result (text.new.items ≡ text.old.items ++ answer_lines names.now (facts_of (seen condition.now))) }
+    ensures { OnOk result (text.new.items ≡ text.old.items
+        ++ answer_lines names.now (facts_of (seen condition.now))) }
 {
     match facts(*text.allocator(), condition) {
         Ok(list) => put_facts(text, names, list.as_slice()),
@@ -82,7 +86,8 @@ pub fn put_condition(
     number: u128,
     condition: &Condition,
 ) -> Result<(), AllocError>
-    ensures { OnOk result (text.new.items ≡ text.old.items ++ condition_lines names.now places.now number (seen condition.now)) }
+    ensures { OnOk result (text.new.items ≡ text.old.items
+        ++ condition_lines names.now places.now number (seen condition.now)) }
 {
     put_header(text, places, number, condition)?;
     put_answer(text, names, condition)
@@ -95,7 +100,8 @@ fn put_conditions(
     places: &Places,
     conditions: &[Condition],
 ) -> Result<(), AllocError>
-    ensures { OnOk result (text.new.items ≡ text.old.items ++ conditions_lines names.now places.now 1 (map seen conditions.now)) }
+    ensures { OnOk result (text.new.items ≡ text.old.items
+        ++ conditions_lines names.now places.now 1 (map seen conditions.now)) }
 {
     let mut number = 1;
     for condition in conditions {

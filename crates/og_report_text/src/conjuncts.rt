@@ -20,7 +20,8 @@ use std::alloc::{AllocError, Global};
 /// An allocation was refused; the list has what it had, and perhaps some of these.
 #[tactic(auto, using(og_typed::proofs::Lists::formula_and))]
 pub fn add_conjuncts<'a>(list: &mut Vec<&'a Assert>, assert: &'a Assert) -> Result<(), AllocError>
-    ensures { OnOk result (formulas_of list.new.items ≡ formulas_of list.old.items ++ conjuncts (formula assert.now)) }
+    ensures { OnOk result (formulas_of list.new.items ≡ formulas_of list.old.items
+        ++ conjuncts (formula assert.now)) }
 {
     let Assert::And(all) = assert else {
         list.push(assert)?;
@@ -62,7 +63,8 @@ fn chosen<'a>(
 ///
 /// An allocation was refused; the text has what it had, and perhaps a part of this.
 pub fn put_conjuncts(text: &mut Vec<u8>, names: &[Name], all: &[&Assert]) -> Result<(), AllocError>
-    ensures { OnOk result (text.new.items ≡ text.old.items ++ conjuncts_text names.now [] (formulas_of all.now)) }
+    ensures { OnOk result (text.new.items ≡ text.old.items
+        ++ conjuncts_text names.now [] (formulas_of all.now)) }
 {
     let mut between: &[u8] = b"";
     for assert in all {
@@ -75,7 +77,8 @@ pub fn put_conjuncts(text: &mut Vec<u8>, names: &[Name], all: &[&Assert]) -> Res
 
 // These variables, of which nothing is said.
 fn put_unknown(text: &mut Vec<u8>, names: &[Name], vars: &[u32]) -> Result<(), AllocError>
-    ensures { OnOk result (text.new.items ≡ text.old.items ++ (codes "nothing about " ++ names_text names.now [] vars.now)) }
+    ensures { OnOk result (text.new.items ≡ text.old.items
+        ++ (codes "nothing about " ++ names_text names.now [] vars.now)) }
 {
     text.extend_from_slice(b"nothing about ")?;
     put_names(text, names, vars)
@@ -93,7 +96,8 @@ fn put_nothing(text: &mut Vec<u8>, names: &[Name], vars: &[u32]) -> Result<(), A
 
 // That some conjuncts are left out.
 fn put_more(text: &mut Vec<u8>, more: bool) -> Result<(), AllocError>
-    ensures { OnOk result (text.new.items ≡ text.old.items ++ (if more then codes " and .." else [])) }
+    ensures { OnOk result (text.new.items ≡ text.old.items
+        ++ (if more then codes " and .." else [])) }
 {
     if more {
         text.extend_from_slice(b" and ..")?;
@@ -109,7 +113,8 @@ fn put_told(
     all: &[&Assert],
     told: &[&Assert],
 ) -> Result<(), AllocError>
-    ensures { OnOk result (text.new.items ≡ text.old.items ++ told_text names.now vars.now (formulas_of all.now) (formulas_of told.now)) }
+    ensures { OnOk result (text.new.items ≡ text.old.items
+        ++ told_text names.now vars.now (formulas_of all.now) (formulas_of told.now)) }
 {
     if told.is_empty() {
         return put_nothing(text, names, vars);
@@ -130,7 +135,8 @@ pub fn put_known(
     vars: &[u32],
     assert: &Assert,
 ) -> Result<(), AllocError>
-    ensures { OnOk result (text.new.items ≡ text.old.items ++ known_text names.now vars.now (formula assert.now)) }
+    ensures { OnOk result (text.new.items ≡ text.old.items
+        ++ known_text names.now vars.now (formula assert.now)) }
 {
     let Assert::And(_) = assert else {
         return put_assertion(text, names, assert);

@@ -12,7 +12,8 @@ use og_text::Name;
 use std::alloc::AllocError;
 
 fn put_atom(text: &mut Vec<u8>, names: &[Name], form: &Atom) -> Result<(), AllocError>
-    ensures { OnOk result (text.new.items ≡ text.old.items ++ fact_text names.now (plain.Atom form.now)) }
+    ensures { OnOk result (text.new.items ≡ text.old.items
+        ++ fact_text names.now (plain.Atom form.now)) }
 {
     put_form(text, names, form)?;
     text.extend_from_slice(b" <= 0")
@@ -21,7 +22,8 @@ fn put_atom(text: &mut Vec<u8>, names: &[Name], form: &Atom) -> Result<(), Alloc
 /// Adds the fact to the text: a split as its parts, each in parentheses.
 #[cycle(facts)]
 pub(crate) fn put_fact(text: &mut Vec<u8>, names: &[Name], fact: &Fact) -> Result<(), AllocError>
-    ensures { OnOk result (text.new.items ≡ text.old.items ++ fact_text names.now (plain_fact fact.now)) }
+    ensures { OnOk result (text.new.items ≡ text.old.items
+        ++ fact_text names.now (plain_fact fact.now)) }
 {
     let parts = match fact {
         Fact::Atom(form) => return put_atom(text, names, form),
@@ -40,7 +42,8 @@ pub(crate) fn put_fact(text: &mut Vec<u8>, names: &[Name], fact: &Fact) -> Resul
 // A fact of a part: a split in parentheses.
 #[cycle(facts)]
 fn put_inner(text: &mut Vec<u8>, names: &[Name], fact: &Fact) -> Result<(), AllocError>
-    ensures { OnOk result (text.new.items ≡ text.old.items ++ inner_text names.now (plain_fact fact.now)) }
+    ensures { OnOk result (text.new.items ≡ text.old.items
+        ++ inner_text names.now (plain_fact fact.now)) }
 {
     match fact {
         Fact::Atom(form) => put_atom(text, names, form),
@@ -55,7 +58,8 @@ fn put_inner(text: &mut Vec<u8>, names: &[Name], fact: &Fact) -> Result<(), Allo
 // The facts of a part, or `true` where it has none.
 #[cycle(facts)]
 fn put_part(text: &mut Vec<u8>, names: &[Name], facts: &[Fact]) -> Result<(), AllocError>
-    ensures { OnOk result (text.new.items ≡ text.old.items ++ part_text names.now (facts_of_list (map plain_fact facts.now))) }
+    ensures { OnOk result (text.new.items ≡ text.old.items
+        ++ part_text names.now (facts_of_list (map plain_fact facts.now))) }
 {
     let [first, later @ ..] = facts else {
         return text.extend_from_slice(b"true");

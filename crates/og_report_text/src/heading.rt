@@ -10,7 +10,8 @@ use og_cond::Condition;
 use std::alloc::AllocError;
 
 fn put_places(text: &mut Vec<u8>, places: &Places, condition: &Condition) -> Result<(), AllocError>
-    ensures { OnOk result (text.new.items ≡ text.old.items ++ places_text places.now (seen condition.now)) }
+    ensures { OnOk result (text.new.items ≡ text.old.items
+        ++ places_text places.now (seen condition.now)) }
 {
     text.extend_from_slice(b" at ")?;
     put_position(text, places.position(condition.at))?;
@@ -30,7 +31,8 @@ pub fn put_heading(
     number: u128,
     condition: &Condition,
 ) -> Result<(), AllocError>
-    ensures { OnOk result (text.new.items ≡ text.old.items ++ header_text places.now number (seen condition.now)) }
+    ensures { OnOk result (text.new.items ≡ text.old.items
+        ++ header_text places.now number (seen condition.now)) }
 {
     text.extend_from_slice(b"cond ")?;
     put_number(text, number)?;

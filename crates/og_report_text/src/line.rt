@@ -66,7 +66,8 @@ fn put_placed(
     place: Option<u32>,
 ) -> Result<(), AllocError>
     requires { IsSome place → length source.now ≤ 2 ^ 20 }
-    ensures { OnOk result (text.new.items ≡ text.old.items ++ (opening_text number name.now ++ place_text source.now place)) }
+    ensures { OnOk result (text.new.items ≡ text.old.items
+        ++ (opening_text number name.now ++ place_text source.now place)) }
 {
     put_opening(text, number, name)?;
     put_place(text, source, place)
@@ -79,7 +80,8 @@ fn put_lined(
     name: &str,
     line: Option<u32>,
 ) -> Result<(), AllocError>
-    ensures { OnOk result (text.new.items ≡ text.old.items ++ (opening_text number name.now ++ line_text line)) }
+    ensures { OnOk result (text.new.items ≡ text.old.items
+        ++ (opening_text number name.now ++ line_text line)) }
 {
     put_opening(text, number, name)?;
     put_line(text, line)

@@ -50,7 +50,8 @@ impl<'a> Origins<'a> {
     /// An allocation was refused; the text has what it had, and perhaps a part of this.
     pub fn put_place(&self, text: &mut Vec<u8>, at: u32) -> Result<(), AllocError>
         requires { self.now.places.now ≡ self.now.source.now }
-        ensures { OnOk result (text.new.items ≡ text.old.items ++ told_at self.now.source.now self.now.rows at) }
+        ensures { OnOk result (text.new.items ≡ text.old.items
+            ++ told_at self.now.source.now self.now.rows at) }
     {
         match self.row(at) {
             None => put_position(text, self.places.position(at)),
@@ -68,7 +69,8 @@ impl<'a> Origins<'a> {
     /// As `put_place`.
     pub fn put_action_place(&self, text: &mut Vec<u8>, at: Option<u32>) -> Result<(), AllocError>
         requires { self.now.places.now ≡ self.now.source.now }
-        ensures { OnOk result (text.new.items ≡ text.old.items ++ with_told self.now.source.now self.now.rows at) }
+        ensures { OnOk result (text.new.items ≡ text.old.items
+            ++ with_told self.now.source.now self.now.rows at) }
     {
         let Some(at) = at else {
             return Ok(());
@@ -84,7 +86,8 @@ impl<'a> Origins<'a> {
     ///
     /// As `put_place`.
     pub fn put_quote(&self, text: &mut Vec<u8>, limit: usize, at: u32) -> Result<(), AllocError>
-        ensures { OnOk result (text.new.items ≡ text.old.items ++ quoted_at limit self.now.source.now self.now.rows at) }
+        ensures { OnOk result (text.new.items ≡ text.old.items
+            ++ quoted_at limit self.now.source.now self.now.rows at) }
     {
         match self.row(at) {
             None => put_quote(text, limit, self.source, at),

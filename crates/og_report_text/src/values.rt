@@ -37,7 +37,8 @@ pub fn put_values(
     values: &[i128],
     vars: &[u32],
 ) -> Result<(), AllocError>
-    ensures { OnOk result (text.new.items ≡ text.old.items ++ values_text names.now values.now vars.now) }
+    ensures { OnOk result (text.new.items ≡ text.old.items
+        ++ values_text names.now values.now vars.now) }
 {
     if vars.is_empty() {
         return text.extend_from_slice(b"any");

@@ -95,11 +95,18 @@ impl<K: ArenaName, B: Machine> Model for Desk<K, B> {
 
 // Takes a process's card in, which is the listed one.
 fn take_in(tokens: &Tokens, keeper: &mut Token<(), View>, token: Token<(), View>)
-    requires table { (keeper.old.table_id ≡ tokens.now.shared.table_id) × (token.table_id ≡ tokens.now.shared.table_id) × (tokens.now.shared.table_id.words ≡ 1) }
+    requires table { (keeper.old.table_id ≡ tokens.now.shared.table_id)
+        × (token.table_id ≡ tokens.now.shared.table_id) × (tokens.now.shared.table_id.words ≡ 1) }
     requires keeper { keeper.old.me.0.keeps ≡ true }
     requires token { (token.me.1 ≡ []) × (token.me.0.keeps ≡ false) × (token.me.0.holds ≡ true) }
-    ensures told { slice_get keeper.old.me.0.cards token.me.0.process ≡ Some (listed token.me.0.card true) }
-    ensures kept { (keeper.new.table_id ≡ keeper.old.table_id) × (keeper.new.me ≡ (keeper_of (slice_set keeper.old.me.0.cards token.me.0.process (listed token.me.0.card false)), keeper.old.me.1)) }
+    ensures told { slice_get keeper.old.me.0.cards token.me.0.process
+        ≡ Some (listed token.me.0.card true) }
+    ensures kept { (keeper.new.table_id ≡ keeper.old.table_id)
+        × (keeper.new.me ≡ (
+          keeper_of (slice_set keeper.old.me.0.cards token.me.0.process
+              (listed token.me.0.card false)),
+          keeper.old.me.1,
+        )) }
 {
     tokens.shared.join_seat::<TakesIn>(keeper, token);
     tokens.shared.load::<Tell>(keeper, 0);
@@ -113,10 +120,13 @@ fn hand_out<C: CardName, B: Machine>(
     p: u32,
 ) -> Token<(), View>
     requires name { C.process ≡ p }
-    requires table { (keeper.old.table_id ≡ tokens.now.shared.table_id) × (tokens.now.shared.table_id.words ≡ 1) }
+    requires table { (keeper.old.table_id ≡ tokens.now.shared.table_id)
+        × (tokens.now.shared.table_id.words ≡ 1) }
     requires keeps { (keeper.old.me.0.keeps ≡ true) × (keeper.old.me.0.holds ≡ false) }
-    requires inside { (x : Listed) × (slice_get keeper.old.me.0.cards p ≡ Some x) × (x.out ≡ false) }
-    ensures kept { (keeper.new.table_id ≡ keeper.old.table_id) × (keeper.new.me ≡ (gives p C.card keeper.old.me.0, keeper.old.me.1)) }
+    requires inside { (x : Listed) × (slice_get keeper.old.me.0.cards p ≡ Some x)
+        × (x.out ≡ false) }
+    ensures kept { (keeper.new.table_id ≡ keeper.old.table_id)
+        × (keeper.new.me ≡ (gives p C.card keeper.old.me.0, keeper.old.me.1)) }
     ensures given { (result.table_id ≡ keeper.old.table_id) × (result.me ≡ (holder p C.card, [])) }
 {
     tokens.shared.split_seat::<Gives<C>>(keeper)
@@ -146,7 +156,8 @@ impl<K: ArenaName, B: Machine> Desk<K, B> {
     pub fn take(&mut self, tokens: &Tokens, mut seat: Seat<K>)
         requires { tokens.now.shared.table_id ≡ K.table }
         ensures same { self.new ≡ self.old }
-        ensures fits { CardFits self.old.given self.old.history self.old.halted seat.process seat.card }
+        ensures fits { CardFits self.old.given self.old.history self.old.halted seat.process
+            seat.card }
     {
         let Some(token) = seat.token.take() else {
             unreachable!()
@@ -155,7 +166,8 @@ impl<K: ArenaName, B: Machine> Desk<K, B> {
     }
 
     pub fn into_machine(self) -> B
-        ensures { (B.given result ≡ self.given) × (B.history result ≡ self.history) × (B.halted result ≡ self.halted) }
+        ensures { (B.given result ≡ self.given) × (B.history result ≡ self.history)
+            × (B.halted result ≡ self.halted) }
     {
         let Desk {
             machine,
@@ -216,7 +228,8 @@ pub struct Arena<K: ArenaName, B: Machine> {
 
 fn first_seat<K: ArenaName>(process: u32, token: Token<(), View>) -> Seat<K>
     requires table { token.table_id ≡ K.table }
-    requires holds { (token.me ≡ (holder process token.me.0.card, [])) × (token.me.0.card.heard ≡ []) }
+    requires holds { (token.me ≡ (holder process token.me.0.card, []))
+        × (token.me.0.card.heard ≡ []) }
     ensures { (result.process ≡ process) × (result.card ≡ token.me.0.card) }
 {
     Seat {

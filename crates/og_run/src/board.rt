@@ -69,7 +69,8 @@ fn no_moves(alloc: Global, processes: usize) -> Result<Vec<u32>, AllocError>
 fn count_move(counts: &mut Vec<u32>, p: usize)
     requires inside { p < length counts.old.items }
     requires few { (n : ℕ) → slice_get counts.old.items p ≡ Some n → n < 2 ^ 31 }
-    ensures { (n : ℕ) → slice_get counts.old.items p ≡ Some n → counts.new.items ≡ set counts.old.items p (n + 1) }
+    ensures { (n : ℕ) → slice_get counts.old.items p ≡ Some n → counts.new.items
+        ≡ set counts.old.items p (n + 1) }
 {
     counts[p] += 1;
 }
@@ -177,7 +178,8 @@ impl<'a> Board<'a> {
     /// leads.
     pub fn halted(&self) -> Option<u32>
         ensures value { result ≡ self.now.halted }
-        ensures there { IfSome result (λ q. IsTurn self.now.given self.now.history q RunTurn.Overflow) }
+        ensures there { IfSome result
+            (λ q. IsTurn self.now.given self.now.history q RunTurn.Overflow) }
     {
         self.halted
     }
@@ -200,8 +202,10 @@ impl<'a> Board<'a> {
     /// How the run ended: the first of Finished, Stuck, Limit and Overflow that is true. Nothing
     /// more can happen to any process. Takes no memory.
     pub fn finish(&self) -> Finish
-        requires { (p : ℕ) → p < process_count self.now.given.outline → OverAt self.now.given self.now.history (is_some self.now.halted) p }
-        ensures { (m : Instant) → moment_after self.now.given self.now.history ≡ Some m → IsFinish self.now.given self.now.history m result }
+        requires { (p : ℕ) → p < process_count self.now.given.outline
+            → OverAt self.now.given self.now.history (is_some self.now.halted) p }
+        ensures { (m : Instant) → moment_after self.now.given self.now.history ≡ Some m
+            → IsFinish self.now.given self.now.history m result }
     {
         if self.moment.is_finished() {
             return Finish::Finished;
@@ -218,7 +222,8 @@ impl<'a> Board<'a> {
 
     /// What the run came to. Nothing more can happen to any process.
     pub fn outcome(self, alloc: Global) -> Result<Outcome, AllocError>
-        requires { (p : ℕ) → p < process_count self.given.outline → OverAt self.given self.history (is_some self.halted) p }
+        requires { (p : ℕ) → p < process_count self.given.outline
+            → OverAt self.given self.history (is_some self.halted) p }
         ensures outcome { IfOk result (IsOutcome self.entry.given) }
         ensures history { IfOk result (λ outcome. outcome.history.items ≡ self.entry.history) }
     {

@@ -30,7 +30,8 @@ fn run_plain<'a, G: Gate, R: Threads + Wait + Sync>(
     requires empty { (board.history ≡ []) × (board.halted ≡ None) }
     requires some { 0 < process_count board.given.outline }
     ensures same { IfOk result (λ b. b.given ≡ board.entry.given) }
-    ensures over { IfOk result (λ b. (p : ℕ) → p < process_count b.given.outline → OverAt b.given b.history (is_some b.halted) p) }
+    ensures over { IfOk result (λ b. (p : ℕ) → p < process_count b.given.outline
+        → OverAt b.given b.history (is_some b.halted) p) }
 {
     run_board(rt, alloc, board, main, gate)
 }
@@ -74,7 +75,8 @@ pub fn run_proved<G: Gate, R: Threads + Wait + Sync>(
 ) -> Result<Outcome, RunError>
     requires { limit ≤ 1000000 }
     ensures runs { Runs result (record { outline = proved.now.0; values = values; limit = limit }) }
-    ensures proved { IfOk result (IsProvedOutcome (record { outline = proved.now.0; values = values; limit = limit }) proved.now.1) }
+    ensures proved { IfOk result (IsProvedOutcome
+        (record { outline = proved.now.0; values = values; limit = limit }) proved.now.1) }
 {
     let outline = proved.outline();
     outline.follows_rule();

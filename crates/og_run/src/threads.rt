@@ -117,7 +117,8 @@ impl<'a, K: ArenaName + Send + Sync, B: Machine + Send, G: Gate> Job for Run<'a,
 
 // Takes all seats in. Each card fits the machine as it is at the end.
 fn settle<K: ArenaName, B: Machine>(arena: Arena<K, B>, mut seats: Vec<Seat<K>>) -> B
-    ensures { (k : ℕ) (s : Place) → slice_get seats.items k ≡ Some s → CardFits (B.given result) (B.history result) (B.halted result) s.process s.card }
+    ensures { (k : ℕ) (s : Place) → slice_get seats.items k ≡ Some s
+        → CardFits (B.given result) (B.history result) (B.halted result) s.process s.card }
 {
     let (mut desk, tokens) = arena.into_desk();
     while let Some(seat) = seats.pop() {
@@ -140,7 +141,8 @@ pub(crate) fn run_named<
     requires some { 0 < process_count (B.given machine).outline }
     ensures same { IfOk result (λ m. B.given m ≡ B.given machine) }
     ensures run { IfOk result (λ m. IsRun (B.given m) (B.history m)) }
-    ensures over { IfOk result (λ m. (p : ℕ) → p < process_count (B.given m).outline → OverAt (B.given m) (B.history m) (B.halted m) p) }
+    ensures over { IfOk result (λ m. (p : ℕ) → p < process_count (B.given m).outline
+        → OverAt (B.given m) (B.history m) (B.halted m) p) }
 {
     let (arena, seats) = Arena::<K, B>::new(alloc, blank, machine)?;
     let start = Start::new(seats.len());
@@ -168,7 +170,8 @@ pub(crate) fn run_board<B: Machine + Send, G: Gate, R: Threads + Wait + Sync>(
     requires some { 0 < process_count (B.given machine).outline }
     ensures same { IfOk result (λ m. B.given m ≡ B.given machine) }
     ensures run { IfOk result (λ m. IsRun (B.given m) (B.history m)) }
-    ensures over { IfOk result (λ m. (p : ℕ) → p < process_count (B.given m).outline → OverAt (B.given m) (B.history m) (B.halted m) p) }
+    ensures over { IfOk result (λ m. (p : ℕ) → p < process_count (B.given m).outline
+        → OverAt (B.given m) (B.history m) (B.halted m) p) }
 {
     let blank = Blank::new(alloc, &machine)?;
     run_named::<Brand, B, G, R>(rt, alloc, blank, machine, main, gate)

@@ -63,7 +63,8 @@ impl Limit {
     pub fn of(coefficient: i128, rest: i128) -> Option<Limit>
         ensures limit { IfSome result (λ l. (x : ℤ)
             → ((coefficient *ℤ x +ℤ rest) ≤ℤ pos 0) ↔ Meets l.side l.value x) }
-        ensures none { IfNone result (coefficient ≢ pos 0 → least <ℤ coefficient → least <ℤ rest → ⊥) }
+        ensures none { IfNone result
+            (coefficient ≢ pos 0 → least <ℤ coefficient → least <ℤ rest → ⊥) }
     {
         if coefficient > 0 {
             let value = floor_div(rest.checked_neg()?, coefficient);
@@ -276,7 +277,8 @@ impl Bounds {
 
     /// Whether the limit leaves the variable fewer values than its bound on that side.
     pub fn is_improved_by(&self, var: u32, limit: Limit) -> bool
-        ensures { IsTrue result ↔ Tightens limit.side limit.value (bound_at self.now.intervals var limit.side).value }
+        ensures { IsTrue result ↔ Tightens limit.side limit.value
+            (bound_at self.now.intervals var limit.side).value }
     {
         let bound = self.get(var, limit.side);
         match limit.side {
@@ -303,21 +305,24 @@ impl Bounds {
 
     // A number that the term is not below at values within the bounds, where it fits.
     fn least_of(&self, term: Term) -> Option<i128>
-        ensures { IfSome result (λ v. (s : List ℤ) → Within self.now.intervals s → v ≤ℤ part_at term s) }
+        ensures { IfSome result
+            (λ v. (s : List ℤ) → Within self.now.intervals s → v ≤ℤ part_at term s) }
     {
         product(term.coefficient, self.least_at(term).value)
     }
 
     // A number that the term is not above at values within the bounds, where it fits.
     fn greatest_of(&self, term: Term) -> Option<i128>
-        ensures { IfSome result (λ v. (s : List ℤ) → Within self.now.intervals s → part_at term s ≤ℤ v) }
+        ensures { IfSome result
+            (λ v. (s : List ℤ) → Within self.now.intervals s → part_at term s ≤ℤ v) }
     {
         product(term.coefficient, self.greatest_at(term).value)
     }
 
     // The sum, and what the terms are not below at values within the bounds, where it fits.
     fn add_least(&self, start: i128, terms: &[Term]) -> Option<i128>
-        ensures { IfSome result (λ v. (s : List ℤ) → Within self.now.intervals s → v ≤ℤ (start +ℤ sum_at terms.now s)) }
+        ensures { IfSome result
+            (λ v. (s : List ℤ) → Within self.now.intervals s → v ≤ℤ (start +ℤ sum_at terms.now s)) }
     {
         let mut sum = start;
         for term in terms {
@@ -329,7 +334,8 @@ impl Bounds {
     /// A number that the form is not below at values within the bounds, each term where it is
     /// least; none where a number leaves `i128`.
     pub fn least(&self, form: &Inequality) -> Option<i128>
-        ensures { IfSome result (λ v. (s : List ℤ) → Within self.now.intervals s → v ≤ℤ left_side form.now s) }
+        ensures { IfSome result
+            (λ v. (s : List ℤ) → Within self.now.intervals s → v ≤ℤ left_side form.now s) }
     {
         self.add_least(form.constant, &form.terms)
     }
@@ -337,7 +343,8 @@ impl Bounds {
     /// A number that the form is not above at values within the bounds, each term where it is
     /// greatest; none where a number leaves `i128`.
     pub fn greatest(&self, form: &Inequality) -> Option<i128>
-        ensures { IfSome result (λ v. (s : List ℤ) → Within self.now.intervals s → left_side form.now s ≤ℤ v) }
+        ensures { IfSome result
+            (λ v. (s : List ℤ) → Within self.now.intervals s → left_side form.now s ≤ℤ v) }
     {
         let mut sum = form.constant;
         for term in &form.terms {
@@ -349,7 +356,8 @@ impl Bounds {
     // A number that the sum of two terms of one variable is not below, where it fits.
     fn least_of_both(&self, x: Term, y: Term) -> Option<i128>
         requires { x.var ≡ y.var }
-        ensures { IfSome result (λ v. (s : List ℤ) → Within self.now.intervals s → v ≤ℤ (part_at x s +ℤ part_at y s)) }
+        ensures { IfSome result
+            (λ v. (s : List ℤ) → Within self.now.intervals s → v ≤ℤ (part_at x s +ℤ part_at y s)) }
     {
         let var = x.var;
         let coefficient = x.coefficient.checked_add(y.coefficient)?;
@@ -396,7 +404,8 @@ impl Bounds {
     /// Whether the inequality is false at all values within the bounds, as far as sums of the
     /// terms' least values tell.
     pub fn exclude(&self, form: &Inequality) -> bool
-        ensures { IsTrue result → (s : List ℤ) → Within self.now.intervals s → pos 0 <ℤ left_side form.now s }
+        ensures { IsTrue result → (s : List ℤ) → Within self.now.intervals s
+            → pos 0 <ℤ left_side form.now s }
     {
         match self.least(form) {
             Some(least) => least > 0,
@@ -429,7 +438,8 @@ impl Bounds {
 
     /// Whether no value of the variable is left.
     pub fn is_empty_at(&self, var: u32) -> bool
-        ensures { IsTrue result ↔ ((bound_at self.now.intervals var Upper).value <ℤ (bound_at self.now.intervals var Lower).value) }
+        ensures { IsTrue result ↔ ((bound_at self.now.intervals var Upper).value <ℤ
+            (bound_at self.now.intervals var Lower).value) }
     {
         self.get(var, Side::Lower).value > self.get(var, Side::Upper).value
     }
@@ -450,7 +460,8 @@ impl Bounds {
         requires { var < length self.old.intervals }
         ensures intervals { OnOk result (self.new.intervals
             ≡ slice_set self.old.intervals var (bounded side bound (get_or self.old.intervals var whole))) }
-        ensures changed { OnOk result ((x : ℕ) → has self.new.changed x ≡ (has self.old.changed x || x % 64 == var % 64)) }
+        ensures changed { OnOk result ((x : ℕ) → has self.new.changed x
+            ≡ (has self.old.changed x || x % 64 == var % 64)) }
         ensures trail { OnOk result (self.new.trail
             ≡ self.old.trail ++ (record { var = var; interval = get_or self.old.intervals var whole }) ∷ []) }
         ensures kept { OnErr result (self.new ≡ self.old) }
@@ -485,7 +496,8 @@ impl Bounds {
     ///
     /// `AllocError` where an allocation was refused, and then nothing has changed.
     pub fn take(&mut self, form: &Inequality, row: Option<usize>) -> Result<Option<u32>, AllocError>
-        ensures within { (s : List ℤ) → Within self.old.intervals s → Holds form.now s → Within self.new.intervals s }
+        ensures within { (s : List ℤ) → Within self.old.intervals s → Holds form.now s
+            → Within self.new.intervals s }
         ensures tighter { IfOk result (λ taken. OnSome taken ((s : List ℤ)
             → Within self.new.intervals s → Within self.old.intervals s × Holds form.now s)) }
         ensures changed { IfOk result (λ taken. IfSome taken (λ v. (x : ℕ)

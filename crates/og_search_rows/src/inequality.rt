@@ -58,7 +58,8 @@ impl Term {
 
 // Adds a term, unless its coefficient is 0.
 fn put(terms: &mut Vec<Term>, term: Term) -> Result<(), AllocError>
-    ensures { OnOk result ((s : List ℤ) → sum_at terms.new.items s ≡ sum_at terms.old.items s +ℤ part_at term s) }
+    ensures { OnOk result ((s : List ℤ) → sum_at terms.new.items s
+        ≡ sum_at terms.old.items s +ℤ part_at term s) }
 {
     if term.coefficient == 0 {
         return Ok(());
@@ -376,7 +377,8 @@ impl Inequality {
     /// does. None where the divisor is below 1 or does not divide a coefficient, or a number leaves
     /// `i128`.
     pub fn divided(&self, alloc: Global, divisor: i128) -> Result<Option<Inequality>, AllocError>
-        ensures { IfOk result (λ found. IfSome found (λ f. (s : List ℤ) → Holds f s ↔ Holds self.now s)) }
+        ensures { IfOk result (λ found.
+            IfSome found (λ f. (s : List ℤ) → Holds f s ↔ Holds self.now s)) }
     {
         if divisor < 1 {
             return Ok(None);
@@ -393,7 +395,8 @@ impl Inequality {
     /// The inequality that holds exactly where this one does not; none where a number leaves
     /// `i128`.
     pub fn otherwise(&self, alloc: Global) -> Result<Option<Inequality>, AllocError>
-        ensures { IfOk result (λ found. IfSome found (λ f. (s : List ℤ) → Holds f s ↔ (pos 0 <ℤ left_side self.now s))) }
+        ensures { IfOk result (λ found.
+            IfSome found (λ f. (s : List ℤ) → Holds f s ↔ (pos 0 <ℤ left_side self.now s))) }
     {
         let one = Inequality::number(alloc, 1);
         Inequality::sum(alloc, self.times(-1), one.times(1))

@@ -48,7 +48,8 @@ impl Model {
 
     /// Gives the variable a value, if there is such a variable.
     pub fn set(&mut self, var: u32, value: i128)
-        ensures { self.new ≡ (if nat_lt var (length self.old) then slice_set self.old var value else self.old) }
+        ensures { self.new ≡ (if nat_lt var (length self.old) then slice_set self.old var value else
+            self.old) }
     {
         if let Some(place) = self.values.get_mut(var as usize) {
             *place = value;

@@ -50,7 +50,8 @@ pub(crate) fn floor_div(a: i128, divisor: i128) -> i128
 /// `i128`.
 pub(crate) fn ceil_div(a: i128, divisor: i128) -> Option<i128>
     requires { pos 0 <ℤ divisor }
-    ensures quotient { IfSome result (λ q. (a ≤ℤ (q *ℤ divisor)) × ((q *ℤ divisor) <ℤ (a +ℤ divisor))) }
+    ensures quotient { IfSome result
+        (λ q. (a ≤ℤ (q *ℤ divisor)) × ((q *ℤ divisor) <ℤ (a +ℤ divisor))) }
     ensures least { IfNone result (a ≡ least) }
 {
     floor_div(a.checked_neg()?, divisor).checked_neg()

@@ -48,7 +48,8 @@ impl Origin {
 
 // That the variable is within the range of `i64` on this side.
 fn range_form(alloc: Global, var: u32, side: Side) -> Result<Inequality, AllocError>
-    ensures { IfOk result (λ f. (s : List ℤ) → Holds f s ↔ Meets side (bound_at [] var side).value (value_at s var)) }
+    ensures { IfOk result (λ f.
+        (s : List ℤ) → Holds f s ↔ Meets side (bound_at [] var side).value (value_at s var)) }
 {
     let (coefficient, constant) = match side {
         Side::Lower => (-1, LOWEST),
@@ -163,7 +164,8 @@ impl Rows {
 
     /// Whether the row is a fact.
     pub fn is_fact(&self, row: usize) -> bool
-        ensures { IsTrue result ↔ IsSomeAnd (slice_get self.now.rows row) (λ r. is_given r.origin ≡ true) }
+        ensures { IsTrue result ↔ IsSomeAnd (slice_get self.now.rows row)
+            (λ r. is_given r.origin ≡ true) }
     {
         match self.rows.get(row) {
             Some(row) => matches!(row.origin, Origin::Given(_)),
@@ -204,7 +206,8 @@ impl Rows {
     /// Takes this many steps from the budget. `Budget` where fewer are left, and then none is
     /// taken.
     pub fn spend(&mut self, steps: u64) -> Result<(), RowError>
-        ensures spent { OnOk result (self.new ≡ record self.old { budget = self.old.budget - steps }) }
+        ensures spent { OnOk result (self.new
+            ≡ record self.old { budget = self.old.budget - steps }) }
         ensures enough { IsOk result ↔ (steps ≤ self.old.budget) }
         ensures kept { OnErr result (self.new ≡ self.old) }
     {

@@ -28,7 +28,8 @@ pub(crate) fn step_rest(points: &Points, at: &mut u32, values: &mut Values) -> T
     requires short { length values.old ≤ 256 }
     requires usable { AreUsable (length values.old) (rest_at points.now at.old) }
     ensures turn { result ≡ rest_turn values.old (rest_at points.now at.old) }
-    ensures step { IsStep result (values.old, rest_at points.now at.old) (values.new, rest_at points.now at.new) }
+    ensures step { IsStep result (values.old, rest_at points.now at.old)
+        (values.new, rest_at points.now at.new) }
 {
     let Some(item) = points.item(*at) else {
         return Turn::Done;

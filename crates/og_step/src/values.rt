@@ -46,7 +46,8 @@ fn put_value(state: &mut State, var: u32, form: &Form) -> bool
     requires inside { var < length state.old }
     requires usable { is_usable_form (length state.old) form.now ≡ true }
     ensures fits { result ≡ fits_i64 (val form.now state.old) }
-    ensures put { state.new ≡ (if result then put state.old var (val form.now state.old) else state.old) }
+    ensures put { state.new ≡ (if result then put state.old var (val form.now state.old) else
+        state.old) }
 {
     match i64::try_from(value_of(form, state)) {
         Ok(value) => {
@@ -100,7 +101,8 @@ fn put_from(state: &mut State, from: usize, values: &[i64])
     requires short { length state.old ≤ 256 }
     requires inside { from + length values.now ≤ length state.old }
     ensures long { length state.new ≡ length state.old }
-    ensures put { (x : ℕ) → x < length values.now → value_at state.new (from + x) ≡ value_at values.now x }
+    ensures put { (x : ℕ) → x < length values.now → value_at state.new (from + x)
+        ≡ value_at values.now x }
     ensures before { (x : ℕ) → x < from → value_at state.new x ≡ value_at state.old x }
 {
     for (x, value) in values.iter().enumerate() {
@@ -152,7 +154,8 @@ impl Values {
         requires inside { var < length self.old }
         requires usable { is_usable_form (length self.old) form.now ≡ true }
         ensures fits { result ≡ fits_i64 (val form.now self.old) }
-        ensures put { self.new ≡ (if result then put self.old var (val form.now self.old) else self.old) }
+        ensures put { self.new ≡ (if result then put self.old var (val form.now self.old) else
+            self.old) }
     {
         let fits = put_value(&mut self.state, var, form);
         let _ = put_value(&mut self.spare, var, form);

@@ -68,7 +68,8 @@ impl<'a> Action<'a> {
     ///
     /// `TooLarge` where a step of this arithmetic leaves `i128`.
     pub fn map(&self, alloc: Global) -> Result<Map, FormError>
-        ensures answer { IsAnswer (λ m. m) faults.TooLarge result (subst.forward (action_body self.now)) }
+        ensures answer { IsAnswer (λ m. m) faults.TooLarge result
+            (subst.forward (action_body self.now)) }
         ensures value { IfOk result (λ m. (s : List ℤ) (x : ℕ)
             → val (image m x) s ≡ value_at (act (action_body self.now) s) x) }
     {
@@ -79,8 +80,10 @@ impl<'a> Action<'a> {
     ///
     /// `TooLarge` exactly where `map` answers it.
     pub fn prepare(&self, alloc: Global) -> Result<ActionMap, FormError>
-        ensures map { IsAnswer (λ p. p.map) faults.TooLarge result (subst.forward (action_body self.now)) }
-        ensures values { IsAnswer (λ p. p.values) faults.TooLarge result (subst.values (action_body self.now)) }
+        ensures map { IsAnswer (λ p. p.map) faults.TooLarge result
+            (subst.forward (action_body self.now)) }
+        ensures values { IsAnswer (λ p. p.values) faults.TooLarge result
+            (subst.values (action_body self.now)) }
         ensures value { IfOk result (λ p. (s : List ℤ)
             → map (λ v. val v s) p.values ≡ assigned_values (action_body self.now) s) }
     {

@@ -31,7 +31,8 @@ impl Model for ActionMap {
 impl ActionMap {
     // The part of the action that is prepared.
     pub(crate) fn new(alloc: Global, action: &Action) -> Result<ActionMap, FormError>
-        ensures { IsAnswer (λ p. p) faults.TooLarge result (running.run (action_body action.now) running.nothing) }
+        ensures { IsAnswer (λ p. p) faults.TooLarge result
+            (running.run (action_body action.now) running.nothing) }
     {
         let mut prepared = ActionMap {
             map: Map::new(alloc),
@@ -46,7 +47,8 @@ impl ActionMap {
 
     // The variable gets the form under the map so far.
     fn assign(&mut self, var: u32, form: &Form) -> Result<(), FormError>
-        ensures { IsAnswer (λ _. self.new) faults.TooLarge result (running.assigned self.old var form.now) }
+        ensures { IsAnswer (λ _. self.new) faults.TooLarge result
+            (running.assigned self.old var form.now) }
     {
         let value = form.apply(&self.map)?;
         self.map.set(var, value.copy()?)?;
@@ -55,7 +57,8 @@ impl ActionMap {
     }
 
     fn step(&mut self, basic: &Basic) -> Result<(), FormError>
-        ensures { IsAnswer (λ _. self.new) faults.TooLarge result (running.step (simple basic.now) self.old) }
+        ensures { IsAnswer (λ _. self.new) faults.TooLarge result
+            (running.step (simple basic.now) self.old) }
     {
         match basic {
             Basic::Skip => Ok(()),
@@ -64,7 +67,8 @@ impl ActionMap {
     }
 
     fn run(&mut self, body: &[Basic]) -> Result<(), FormError>
-        ensures { IsAnswer (λ _. self.new) faults.TooLarge result (running.run (map simple body.now) self.old) }
+        ensures { IsAnswer (λ _. self.new) faults.TooLarge result
+            (running.run (map simple body.now) self.old) }
     {
         for basic in body {
             self.step(basic)?;

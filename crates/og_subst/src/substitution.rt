@@ -86,7 +86,8 @@ fn high(alloc: Global, value: &Form) -> Result<Form, FormError>
 
 // The two relations of each value, in order.
 fn ranges(alloc: Global, values: &[Form]) -> Result<Vec<Assert>, FormError>
-    ensures { IsAnswer (λ v. formula_list (map formula v.items)) faults.TooLarge result (subst.ranges values.now) }
+    ensures { IsAnswer (λ v. formula_list (map formula v.items)) faults.TooLarge result
+        (subst.ranges values.now) }
 {
     let mut out = Vec::new(alloc);
     for value in values {

@@ -165,7 +165,8 @@ impl Values {
         alloc: Global,
         action: &Action,
     ) -> Result<Option<(u32, i128)>, AllocError>
-        ensures { IfOk result (λ found. IfSome found (λ p. first_large (action_body action.now) self.now ≡ Some p)) }
+        ensures { IfOk result (λ found.
+            IfSome found (λ p. first_large (action_body action.now) self.now ≡ Some p)) }
     {
         match action {
             Action::Assign(var, form) => Ok(self.large(*var, form)),
@@ -182,7 +183,8 @@ impl Values {
     ///
     /// An allocation was refused.
     pub fn after(&self, alloc: Global, action: &Action) -> Result<Option<Values>, AllocError>
-        ensures { IfOk result (λ found. IfSome found (λ v. v ≡ act (action_body action.now) self.now)) }
+        ensures { IfOk result (λ found.
+            IfSome found (λ v. v ≡ act (action_body action.now) self.now)) }
     {
         let mut values = self.copy(alloc)?;
         let done = match action {

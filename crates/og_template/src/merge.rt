@@ -14,7 +14,8 @@ fn put_before<'a>(
     marks: &'a [Mark],
     at: u32,
 ) -> Result<&'a [Mark], AllocError>
-    ensures words { OnOk result (words.new.items ≡ words.old.items ++ map word_of_mark (before at marks.now)) }
+    ensures words { OnOk result (words.new.items ≡ words.old.items
+        ++ map word_of_mark (before at marks.now)) }
     ensures rest { IfOk result (λ rest. rest.now ≡ behind at marks.now) }
 {
     let mut rest = marks;

@@ -50,7 +50,8 @@ fn joined(connective: Connective, mut operands: Vec<RawAssert>) -> RawAssert
 
 // Moves operands to the end of others.
 fn put_all(mut operands: Vec<RawAssert>, all: &mut Vec<RawAssert>) -> Result<(), AllocError>
-    ensures { OnOk result (map tree_of all.new.items ≡ map tree_of all.old.items ++ map tree_of operands.items) }
+    ensures { OnOk result (map tree_of all.new.items ≡ map tree_of all.old.items
+        ++ map tree_of operands.items) }
 {
     all.append(&mut operands)
 }
@@ -58,7 +59,8 @@ fn put_all(mut operands: Vec<RawAssert>, all: &mut Vec<RawAssert>) -> Result<(),
 // Adds an operand of `and`; a conjunction gives its operands.
 #[tactic(auto, using(crate::proofs::Spliced::and_in_and, crate::proofs::Spliced::or_in_and))]
 fn put_conjunct(operand: RawAssert, all: &mut Vec<RawAssert>) -> Result<(), AllocError>
-    ensures { OnOk result (map tree_of all.new.items ≡ map tree_of all.old.items ++ meaning.spliced And (tree_of operand)) }
+    ensures { OnOk result (map tree_of all.new.items ≡ map tree_of all.old.items
+        ++ meaning.spliced And (tree_of operand)) }
 {
     match operand {
         RawAssert::And(operands) => put_all(operands, all),
@@ -74,7 +76,8 @@ fn put_conjunct(operand: RawAssert, all: &mut Vec<RawAssert>) -> Result<(), Allo
 // Adds an operand of `or`; a disjunction gives its operands.
 #[tactic(auto, using(crate::proofs::Spliced::or_in_or, crate::proofs::Spliced::and_in_or))]
 fn put_disjunct(operand: RawAssert, all: &mut Vec<RawAssert>) -> Result<(), AllocError>
-    ensures { OnOk result (map tree_of all.new.items ≡ map tree_of all.old.items ++ meaning.spliced Or (tree_of operand)) }
+    ensures { OnOk result (map tree_of all.new.items ≡ map tree_of all.old.items
+        ++ meaning.spliced Or (tree_of operand)) }
 {
     match operand {
         RawAssert::Or(operands) => put_all(operands, all),
@@ -93,7 +96,8 @@ fn put_spliced(
     operand: RawAssert,
     all: &mut Vec<RawAssert>,
 ) -> Result<(), AllocError>
-    ensures { OnOk result (map tree_of all.new.items ≡ map tree_of all.old.items ++ meaning.spliced connective (tree_of operand)) }
+    ensures { OnOk result (map tree_of all.new.items ≡ map tree_of all.old.items
+        ++ meaning.spliced connective (tree_of operand)) }
 {
     match connective {
         Connective::And => put_conjunct(operand, all),
@@ -108,7 +112,8 @@ fn arguments_of<'a>(
     parameters: &'a [RawName],
     arguments: &[Expr],
 ) -> Result<Vec<Binding<'a>>, Stop>
-    ensures { IsExpanded (λ v. map binding_of v.items) result (meaning.arguments_of (scope_of scope.now) parameters.now (map expression_of arguments.now)) }
+    ensures { IsExpanded (λ v. map binding_of v.items) result (meaning.arguments_of
+        (scope_of scope.now) parameters.now (map expression_of arguments.now)) }
 {
     let mut all = Vec::new(work.alloc);
     let mut rest = parameters;
@@ -133,7 +138,8 @@ fn comparison<'a>(
     relation: Relation,
     right: &'a Sum,
 ) -> Result<RawAssert, Stop>
-    ensures { IsExpanded tree_of result (meaning.unit_by (meaning.opens 0) (scope_of scope.now) (Comparison (sum_of left.now) relation (sum_of right.now))) }
+    ensures { IsExpanded tree_of result (meaning.unit_by (meaning.opens 0) (scope_of scope.now)
+        (Comparison (sum_of left.now) relation (sum_of right.now))) }
 {
     let left = sum(scope, work, left)?;
     let right = sum(scope, work, right)?;
@@ -149,7 +155,8 @@ fn used<'a>(
     name: &RawName,
     arguments: &[Expr],
 ) -> Result<RawAssert, Stop>
-    ensures { IsExpanded tree_of result (meaning.use_by (meaning.opens levels) (scope_of scope.now) name.now (map expression_of arguments.now)) }
+    ensures { IsExpanded tree_of result (meaning.use_by (meaning.opens levels) (scope_of scope.now)
+        name.now (map expression_of arguments.now)) }
 {
     let named = scope.named(name)?;
     let bound = arguments_of(scope, work, &named.parameters, arguments)?;
@@ -194,7 +201,9 @@ fn instances_of<'a>(
     binder: &'a Binder,
     inner: &'a Unit,
 ) -> Result<Vec<RawAssert>, Stop>
-    ensures { IsExpanded (λ v. map tree_of v.items) result (instances (scope_of scope.now) (binder_of binder.now) (meaning.operands_by (meaning.opens levels) connective (unit_of inner.now))) }
+    ensures { IsExpanded (λ v. map tree_of v.items) result (instances (scope_of scope.now)
+        (binder_of binder.now)
+        (meaning.operands_by (meaning.opens levels) connective (unit_of inner.now))) }
 {
     let range = range(scope, work, &binder.range)?;
     let values = numbers(work.alloc, range)?;
@@ -215,7 +224,8 @@ fn negation<'a>(
     levels: u32,
     inner: &'a Unit,
 ) -> Result<RawAssert, Stop>
-    ensures { IsExpanded tree_of result (meaning.negation_by (meaning.opens levels) (scope_of scope.now) (unit_of inner.now)) }
+    ensures { IsExpanded tree_of result
+        (meaning.negation_by (meaning.opens levels) (scope_of scope.now) (unit_of inner.now)) }
 {
     let inner = unit(scope, work, levels, inner)?;
     Ok(RawAssert::Not(Box::new(work.alloc, inner)?))
@@ -231,7 +241,8 @@ fn quantified<'a>(
     binder: &'a Binder,
     inner: &'a Unit,
 ) -> Result<RawAssert, Stop>
-    ensures { IsExpanded tree_of result (meaning.quantified_by (meaning.opens levels) connective (scope_of scope.now) (binder_of binder.now) (unit_of inner.now)) }
+    ensures { IsExpanded tree_of result (meaning.quantified_by (meaning.opens levels) connective
+        (scope_of scope.now) (binder_of binder.now) (unit_of inner.now)) }
 {
     let all = instances_of(scope, work, levels, connective, binder, inner)?;
     Ok(joined(connective, all))
@@ -245,7 +256,8 @@ fn opened<'a>(
     levels: u32,
     unit: &'a Unit,
 ) -> Result<RawAssert, Stop>
-    ensures { IsExpanded tree_of result (meaning.opened_by (meaning.opens levels) (scope_of scope.now) (unit_of unit.now)) }
+    ensures { IsExpanded tree_of result
+        (meaning.opened_by (meaning.opens levels) (scope_of scope.now) (unit_of unit.now)) }
 {
     match unit {
         Unit::True(_) => Ok(RawAssert::True),
@@ -289,7 +301,8 @@ fn deeper<'a>(
     span: Span,
 ) -> Result<RawAssert, Stop>
     requires { span ≡ meaning.first_word (unit_of unit.now) }
-    ensures { IsExpanded tree_of result ((meaning.opens levels).unit (scope_of scope.now) (unit_of unit.now)) }
+    ensures { IsExpanded tree_of result
+        ((meaning.opens levels).unit (scope_of scope.now) (unit_of unit.now)) }
 {
     if levels == 0 {
         return Err(fault(FaultKind::TooDeep, span));
@@ -304,7 +317,8 @@ fn unit<'a>(
     levels: u32,
     unit: &'a Unit,
 ) -> Result<RawAssert, Stop>
-    ensures { IsExpanded tree_of result (meaning.unit_by (meaning.opens levels) (scope_of scope.now) (unit_of unit.now)) }
+    ensures { IsExpanded tree_of result
+        (meaning.unit_by (meaning.opens levels) (scope_of scope.now) (unit_of unit.now)) }
 {
     let span = place(unit);
     work.step(span)?;
@@ -328,7 +342,8 @@ fn conjuncts<'a>(
     levels: u32,
     units: &'a [Unit],
 ) -> Result<Vec<RawAssert>, Stop>
-    ensures { IsExpanded (λ v. map tree_of v.items) result (meaning.conjuncts_by (meaning.opens levels) (scope_of scope.now) (conjoined (map unit_of units.now))) }
+    ensures { IsExpanded (λ v. map tree_of v.items) result (meaning.conjuncts_by
+        (meaning.opens levels) (scope_of scope.now) (conjoined (map unit_of units.now))) }
 {
     let mut all = Vec::new(work.alloc);
     for inner in units {
@@ -345,7 +360,8 @@ fn conjunction<'a>(
     levels: u32,
     conjunction: &'a Conjunction,
 ) -> Result<RawAssert, Stop>
-    ensures { IsExpanded tree_of result (meaning.conjunction_by (meaning.opens levels) (scope_of scope.now) (conjunction_of conjunction.now)) }
+    ensures { IsExpanded tree_of result (meaning.conjunction_by (meaning.opens levels)
+        (scope_of scope.now) (conjunction_of conjunction.now)) }
 {
     match conjunction.parts.as_slice() {
         [] => Ok(joined(Connective::And, Vec::new(work.alloc))),
@@ -365,7 +381,8 @@ fn disjuncts<'a>(
     levels: u32,
     conjunctions: &'a [Conjunction],
 ) -> Result<Vec<RawAssert>, Stop>
-    ensures { IsExpanded (λ v. map tree_of v.items) result (meaning.disjuncts_by (meaning.opens levels) (scope_of scope.now) (disjoined (map conjunction_of conjunctions.now))) }
+    ensures { IsExpanded (λ v. map tree_of v.items) result (meaning.disjuncts_by (meaning.opens
+        levels) (scope_of scope.now) (disjoined (map conjunction_of conjunctions.now))) }
 {
     let mut all = Vec::new(work.alloc);
     for inner in conjunctions {
@@ -382,7 +399,8 @@ fn disjunction<'a>(
     levels: u32,
     disjunction: &'a Disjunction,
 ) -> Result<RawAssert, Stop>
-    ensures { IsExpanded tree_of result (meaning.disjunction_by (meaning.opens levels) (scope_of scope.now) (disjunction_of disjunction.now)) }
+    ensures { IsExpanded tree_of result (meaning.disjunction_by (meaning.opens levels)
+        (scope_of scope.now) (disjunction_of disjunction.now)) }
 {
     match disjunction.parts.as_slice() {
         [] => Ok(joined(Connective::Or, Vec::new(work.alloc))),
@@ -403,7 +421,8 @@ fn implied<'a>(
     span: Span,
     right: &'a Assertion,
 ) -> Result<RawAssert, Stop>
-    ensures { IsExpanded tree_of result ((meaning.opens levels).implied (scope_of scope.now) span (assertion_of right.now)) }
+    ensures { IsExpanded tree_of result
+        ((meaning.opens levels).implied (scope_of scope.now) span (assertion_of right.now)) }
 {
     if levels == 0 {
         return Err(fault(FaultKind::TooDeep, span));
@@ -427,7 +446,8 @@ fn implies<'a>(
     span: Span,
     right: &'a Assertion,
 ) -> Result<RawAssert, Stop>
-    ensures { IsExpanded tree_of result (meaning.assertion_by (meaning.opens levels) (scope_of scope.now) (Implies (disjunction_of left.now) span (assertion_of right.now))) }
+    ensures { IsExpanded tree_of result (meaning.assertion_by (meaning.opens levels)
+        (scope_of scope.now) (Implies (disjunction_of left.now) span (assertion_of right.now))) }
 {
     work.step(span)?;
     let left = disjunction(scope, work, levels, left)?;
@@ -442,7 +462,8 @@ fn assertion<'a>(
     levels: u32,
     assertion: &'a Assertion,
 ) -> Result<RawAssert, Stop>
-    ensures { IsExpanded tree_of result (meaning.assertion_by (meaning.opens levels) (scope_of scope.now) (assertion_of assertion.now)) }
+    ensures { IsExpanded tree_of result (meaning.assertion_by (meaning.opens levels)
+        (scope_of scope.now) (assertion_of assertion.now)) }
 {
     match &assertion.implied {
         None => disjunction(scope, work, levels, &assertion.left),
@@ -456,7 +477,8 @@ pub(crate) fn test<'a>(
     work: &mut Expander<'_>,
     test: &'a Assertion,
 ) -> Result<RawAssert, Stop>
-    ensures { IsExpanded tree_of result (meaning.assertion_of (scope_of scope.now) (assertion_of test.now)) }
+    ensures { IsExpanded tree_of result
+        (meaning.assertion_of (scope_of scope.now) (assertion_of test.now)) }
 {
     assertion(scope, work, LEVELS, test)
 }

@@ -47,7 +47,8 @@ pub(crate) fn range(
     work: &mut Expander<'_>,
     bounds: &Bounds,
 ) -> Result<Range, Stop>
-    ensures { IsExpanded range_of result (ranges.range_of (scope_of scope.now) (bounds_of bounds.now)) }
+    ensures { IsExpanded range_of result
+        (ranges.range_of (scope_of scope.now) (bounds_of bounds.now)) }
 {
     let low = value(scope, work, &bounds.low)?;
     let high = value(scope, work, &bounds.high)?;
@@ -88,7 +89,8 @@ fn holds(scope: &Scope<'_, '_>, work: &mut Expander<'_>, test: &Test) -> Result<
 
 // Whether tests hold; they are asked up to the first that does not.
 fn all_hold(scope: &Scope<'_, '_>, work: &mut Expander<'_>, tests: &[Test]) -> Result<bool, Stop>
-    ensures { IsExpanded (λ b. b) result (ranges.all_hold (scope_of scope.now) (map test_of tests.now)) }
+    ensures { IsExpanded (λ b. b) result
+        (ranges.all_hold (scope_of scope.now) (map test_of tests.now)) }
 {
     for test in tests {
         if !holds(scope, work, test)? {
@@ -106,7 +108,8 @@ pub(crate) fn enter<'s, 'a>(
     binder: &'a Binder,
     value: i64,
 ) -> Result<Option<Scope<'s, 'a>>, Stop>
-    ensures { IsExpanded (option_map scope_of) result (ranges.entered (scope_of scope.now) (binder_of binder.now) value) }
+    ensures { IsExpanded (option_map scope_of) result
+        (ranges.entered (scope_of scope.now) (binder_of binder.now) value) }
 {
     work.step(binder.name.span)?;
     let inner = scope.with(work.alloc, &binder.name, value)?;

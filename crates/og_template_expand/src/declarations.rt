@@ -37,7 +37,9 @@ fn constant(
     values: &[Binding<'_>],
     constant: &Constant,
 ) -> Result<i64, Stop>
-    ensures { IsExpanded (λ v. v) result (meaning.constant_as (meaning.given_to constant.now.name.name (map binding_of values.now)) (names_of names.now) (expression_of constant.now.value)) }
+    ensures { IsExpanded (λ v. v) result (meaning.constant_as
+        (meaning.given_to constant.now.name.name (map binding_of values.now)) (names_of names.now)
+        (expression_of constant.now.value)) }
 {
     match given(values, constant.name.name.as_slice()) {
         Some(value) => Ok(value),
@@ -52,7 +54,8 @@ pub(crate) fn declare_constants<'a>(
     values: &[Binding<'_>],
     constants: &'a [Constant],
 ) -> Result<(), Stop>
-    ensures { IsExpanded (λ _. names_of names.new) result (meaning.constants_in (map binding_of values.now) (names_of names.old) (map constant_of constants.now)) }
+    ensures { IsExpanded (λ _. names_of names.new) result (meaning.constants_in
+        (map binding_of values.now) (names_of names.old) (map constant_of constants.now)) }
 {
     for declared in constants {
         let value = constant(names, work, values, declared)?;
@@ -90,7 +93,8 @@ fn variables_of<'a>(
     name: &RawName,
     family: &Option<Bounds>,
 ) -> Result<(Vec<RawName>, Meaning<'a>), Stop>
-    ensures { IsExpanded (λ p. (p.0.items, meaning_of p.1)) result (meaning.variables_of (names_of names.now) name.now (option_map bounds_of family.now)) }
+    ensures { IsExpanded (λ p. (p.0.items, meaning_of p.1)) result
+        (meaning.variables_of (names_of names.now) name.now (option_map bounds_of family.now)) }
 {
     work.step(name.span)?;
     match family {
@@ -108,7 +112,8 @@ pub(crate) fn declare_variables<'a>(
     work: &mut Expander<'_>,
     variables: &'a [Variable],
 ) -> Result<Vec<RawName>, Stop>
-    ensures { IsExpanded (λ v. (names_of names.new, v.items)) result (meaning.variables_in (names_of names.old) (map variable_of variables.now)) }
+    ensures { IsExpanded (λ v. (names_of names.new, v.items)) result
+        (meaning.variables_in (names_of names.old) (map variable_of variables.now)) }
 {
     let mut all = Vec::new(work.alloc);
     for variable in variables {
@@ -140,7 +145,8 @@ pub(crate) fn declare_auxiliaries<'a>(
     work: &mut Expander<'_>,
     auxiliaries: &'a [Auxiliary],
 ) -> Result<Vec<RawAux>, Stop>
-    ensures { IsExpanded (λ v. (names_of names.new, v.items)) result (meaning.auxiliaries_in (names_of names.old) (map auxiliary_of auxiliaries.now)) }
+    ensures { IsExpanded (λ v. (names_of names.new, v.items)) result
+        (meaning.auxiliaries_in (names_of names.old) (map auxiliary_of auxiliaries.now)) }
 {
     let mut all = Vec::new(work.alloc);
     for auxiliary in auxiliaries {
@@ -155,7 +161,8 @@ pub(crate) fn declare_auxiliaries<'a>(
 
 /// Declares named assertions.
 pub(crate) fn declare_named<'a>(names: &mut Names<'a>, all: &'a [Named]) -> Result<(), Stop>
-    ensures { IsExpanded (λ _. names_of names.new) result (Ok (meaning.named_in (names_of names.old) (map definition_of all.now))) }
+    ensures { IsExpanded (λ _. names_of names.new) result
+        (Ok (meaning.named_in (names_of names.old) (map definition_of all.now))) }
 {
     for named in all {
         names.declare(&named.name, Meaning::Named(named))?;

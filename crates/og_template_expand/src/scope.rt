@@ -78,7 +78,8 @@ impl<'a> Names<'a> {
 
     /// Declares a name, or declares it anew.
     pub(crate) fn declare(&mut self, name: &'a RawName, meaning: Meaning<'a>) -> Result<(), Stop>
-        ensures { IsExpanded (λ _. names_of self.new) result (Ok (scope.declared_with name.now.name (meaning_of meaning.entry) (names_of self.old))) }
+        ensures { IsExpanded (λ _. names_of self.new) result (Ok
+            (scope.declared_with name.now.name (meaning_of meaning.entry) (names_of self.old))) }
     {
         self.map.insert(name.name.as_slice(), meaning)?;
         Ok(())
@@ -113,7 +114,8 @@ impl<'s, 'a> Scope<'s, 'a> {
         name: &'a RawName,
         value: i64,
     ) -> Result<Scope<'s, 'a>, AllocError>
-        ensures { IfOk result (λ s. scope_of s ≡ scope.bound_to (scope_of self.now) name.now.name value) }
+        ensures { IfOk result (λ s.
+            scope_of s ≡ scope.bound_to (scope_of self.now) name.now.name value) }
     {
         let mut bound = same_bindings(alloc, &self.bound)?;
         bound.push(Binding {
@@ -162,7 +164,8 @@ impl<'s, 'a> Scope<'s, 'a> {
 
     /// The named assertion that a name stands for.
     pub(crate) fn named(&self, name: &RawName) -> Result<&'a Named, Stop>
-        ensures { IsExpanded (λ n. definition_of n.now) result (scope.defined_of (scope_of self.now) name.now) }
+        ensures { IsExpanded (λ n. definition_of n.now) result
+            (scope.defined_of (scope_of self.now) name.now) }
     {
         match self.meaning(name)? {
             Meaning::Named(named) => Ok(named),

@@ -31,7 +31,8 @@ fn target(
     name: &RawName,
     index: &Option<Expr>,
 ) -> Result<RawName, Stop>
-    ensures { IsExpanded (λ n. n) result (meaning.target_of (scope_of scope.now) name.now (option_map expression_of index.now)) }
+    ensures { IsExpanded (λ n. n) result
+        (meaning.target_of (scope_of scope.now) name.now (option_map expression_of index.now)) }
 {
     match index {
         None => Ok(same_name(work.alloc, name)?),
@@ -44,7 +45,8 @@ fn basic<'a>(
     work: &mut Expander<'_>,
     basic: &'a Basic,
 ) -> Result<RawBasic, Stop>
-    ensures { IsExpanded basic_tree result (meaning.basic_of (scope_of scope.now) (basic_of basic.now)) }
+    ensures { IsExpanded basic_tree result
+        (meaning.basic_of (scope_of scope.now) (basic_of basic.now)) }
 {
     match basic {
         Basic::Skip => Ok(RawBasic::Skip),
@@ -63,7 +65,8 @@ fn put_element<'a>(
     span: Span,
     all: &mut Vec<RawElement>,
 ) -> Result<(), Stop>
-    ensures { IsExpanded (λ _. map element_tree all.new.items) result (behind (map element_tree all.old.items) (meaning.simple_in (scope_of scope.now) (basic_of inner.now) span)) }
+    ensures { IsExpanded (λ _. map element_tree all.new.items) result (behind (map element_tree
+        all.old.items) (meaning.simple_in (scope_of scope.now) (basic_of inner.now) span)) }
 {
     work.step(span)?;
     let basic = basic(scope, work, inner)?;
@@ -115,7 +118,8 @@ fn put_simple<'a>(
     element: &'a Element,
     all: &mut Vec<RawElement>,
 ) -> Result<(), Stop>
-    ensures { IsExpanded (λ _. map element_tree all.new.items) result (behind (map element_tree all.old.items) (meaning.simple_of (scope_of scope.now) (simple_of element.now))) }
+    ensures { IsExpanded (λ _. map element_tree all.new.items) result (behind (map element_tree
+        all.old.items) (meaning.simple_of (scope_of scope.now) (simple_of element.now))) }
 {
     match &element.binder {
         None => put_element(scope, work, &element.basic, element.span, all),
@@ -129,7 +133,8 @@ fn body<'a>(
     work: &mut Expander<'_>,
     elements: &'a [Element],
 ) -> Result<Vec<RawElement>, Stop>
-    ensures { IsExpanded (λ v. map element_tree v.items) result (gathered (meaning.simple_of (scope_of scope.now)) (map simple_of elements.now)) }
+    ensures { IsExpanded (λ v. map element_tree v.items) result
+        (gathered (meaning.simple_of (scope_of scope.now)) (map simple_of elements.now)) }
 {
     let mut all = Vec::new(work.alloc);
     for element in elements {
@@ -140,7 +145,8 @@ fn body<'a>(
 
 // The await with this body.
 fn await_with(guard: RawAssert, body: Vec<RawElement>, span: Span) -> Result<RawStmt, Stop>
-    ensures { IsExpanded stmt_tree result (meaning.await_with (assertion_tree guard) (map element_tree body.items) span) }
+    ensures { IsExpanded stmt_tree result
+        (meaning.await_with (assertion_tree guard) (map element_tree body.items) span) }
 {
     if body.is_empty() {
         return Err(fault(FaultKind::NothingLeft, span));
@@ -155,7 +161,8 @@ fn await_statement<'a>(
     elements: &'a [Element],
     span: Span,
 ) -> Result<RawStmt, Stop>
-    ensures { IsExpanded stmt_tree result (meaning.await_of (scope_of scope.now) (assertion_of guard.now) (map simple_of elements.now) span) }
+    ensures { IsExpanded stmt_tree result (meaning.await_of (scope_of scope.now)
+        (assertion_of guard.now) (map simple_of elements.now) span) }
 {
     let guard = test(scope, work, guard)?;
     let body = body(scope, work, elements)?;
@@ -185,7 +192,8 @@ fn statement<'a>(
     statement: &'a Statement,
     span: Span,
 ) -> Result<RawStmt, Stop>
-    ensures { IsExpanded stmt_tree result (meaning.statement_of (scope_of scope.now) span (statement_of statement.now)) }
+    ensures { IsExpanded stmt_tree result
+        (meaning.statement_of (scope_of scope.now) span (statement_of statement.now)) }
 {
     match statement {
         Statement::Basic(inner) => Ok(RawStmt::Basic(basic(scope, work, inner)?)),
@@ -220,7 +228,9 @@ fn put_statement<'a>(
     items: &mut Vec<RawItem>,
     last: &mut RawNote,
 ) -> Result<(), Stop>
-    ensures { IsExpanded (λ _. front_of items.new.items last.new) result (onto (front_of items.old.items last.old) (meaning.one_of (scope_of scope.now) (template.Stated (statement_of inner.now) span (note_of after.now)))) }
+    ensures { IsExpanded (λ _. front_of items.new.items last.new) result
+        (onto (front_of items.old.items last.old) (meaning.one_of (scope_of scope.now)
+        (template.Stated (statement_of inner.now) span (note_of after.now)))) }
 {
     work.step(span)?;
     work.count_statement(span)?;
@@ -282,7 +292,8 @@ fn put_step<'a>(
     items: &mut Vec<RawItem>,
     last: &mut RawNote,
 ) -> Result<(), Stop>
-    ensures { IsExpanded (λ _. front_of items.new.items last.new) result (onto (front_of items.old.items last.old) (meaning.one_of (scope_of scope.now) (step_of step.now))) }
+    ensures { IsExpanded (λ _. front_of items.new.items last.new) result (onto (front_of
+        items.old.items last.old) (meaning.one_of (scope_of scope.now) (step_of step.now))) }
 {
     match step {
         Step::Statement(inner, span, after) => {
@@ -300,7 +311,9 @@ fn put_steps<'a>(
     items: &mut Vec<RawItem>,
     last: &mut RawNote,
 ) -> Result<(), Stop>
-    ensures { IsExpanded (λ _. front_of items.new.items last.new) result (onto (front_of items.old.items last.old) (meaning.steps_of (scope_of scope.now) (steps_then (map step_of steps.now)))) }
+    ensures { IsExpanded (λ _. front_of items.new.items last.new) result
+        (onto (front_of items.old.items last.old)
+        (meaning.steps_of (scope_of scope.now) (steps_then (map step_of steps.now)))) }
 {
     for step in steps {
         put_step(scope, work, step, items, last)?;
@@ -315,7 +328,8 @@ pub(crate) fn sequence<'a>(
     work: &mut Expander<'a>,
     sequence: &'a Sequence,
 ) -> Result<RawSeq, Stop>
-    ensures { IsExpanded seq_tree result (meaning.sequence_of (scope_of scope.now) (sequence_of sequence.now)) }
+    ensures { IsExpanded seq_tree result
+        (meaning.sequence_of (scope_of scope.now) (sequence_of sequence.now)) }
 {
     let mut last = note(scope, work, &sequence.before)?;
     let mut items = Vec::new(work.alloc);

@@ -78,7 +78,8 @@ pub(crate) fn element(
     name: &RawName,
     index: &Expr,
 ) -> Result<RawName, Stop>
-    ensures { IsExpanded (λ n. n) result (sums.element_of (scope_of scope.now) name.now (expression_of index.now)) }
+    ensures { IsExpanded (λ n. n) result
+        (sums.element_of (scope_of scope.now) name.now (expression_of index.now)) }
 {
     let index = value(scope, work, index)?;
     let range = scope.family(name)?;
@@ -101,7 +102,8 @@ fn operand_of(
     work: &mut Expander<'_>,
     factor: &Factor,
 ) -> Result<Operand, Stop>
-    ensures { IsExpanded operand_view result (sums.operand_of (scope_of scope.now) (factor_of factor.now)) }
+    ensures { IsExpanded operand_view result
+        (sums.operand_of (scope_of scope.now) (factor_of factor.now)) }
 {
     match factor {
         Factor::Number(magnitude) => Ok(Operand::Number(Sign::Plus, *magnitude)),
@@ -145,7 +147,8 @@ fn number_product(sign: Sign, left: u64, right: u64, span: Span) -> Result<RawTe
 
 // The term that the product of a number and a factor is.
 fn product(sign: Sign, multiplier: Operand, operand: Operand, span: Span) -> Result<RawTerm, Stop>
-    ensures { IsExpanded (λ t. t) result (sums.product_of sign (operand_view multiplier) (operand_view operand) span) }
+    ensures { IsExpanded (λ t. t) result
+        (sums.product_of sign (operand_view multiplier) (operand_view operand) span) }
 {
     match (multiplier, operand) {
         (Operand::Number(left, c), Operand::Number(right, d)) => {
@@ -167,7 +170,8 @@ fn product_in(
     right: &Factor,
     span: Span,
 ) -> Result<RawTerm, Stop>
-    ensures { IsExpanded (λ t. t) result (sums.product_in (scope_of scope.now) sign (factor_of left.now) (factor_of right.now) span) }
+    ensures { IsExpanded (λ t. t) result (sums.product_in (scope_of scope.now) sign
+        (factor_of left.now) (factor_of right.now) span) }
 {
     let multiplier = operand_of(scope, work, left)?;
     let operand = operand_of(scope, work, right)?;
@@ -220,7 +224,8 @@ fn instances_of<'a>(
     binder: &'a Binder,
     terms: &'a [Term],
 ) -> Result<Vec<RawTerm>, Stop>
-    ensures { IsExpanded (λ v. v.items) result (instances (scope_of scope.now) (binder_of binder.now) (λ s. sums.terms_of s sign (terms_then (map signed_of terms.now)))) }
+    ensures { IsExpanded (λ v. v.items) result (instances (scope_of scope.now)
+        (binder_of binder.now) (λ s. sums.terms_of s sign (terms_then (map signed_of terms.now)))) }
 {
     let range = range(scope, work, &binder.range)?;
     let values = numbers(work.alloc, range)?;
@@ -240,7 +245,8 @@ fn terms_of_kind<'a>(
     kind: &'a TermKind,
     span: Span,
 ) -> Result<Vec<RawTerm>, Stop>
-    ensures { IsExpanded (λ v. v.items) result (sums.kind_of (scope_of scope.now) sign span (kind_of kind.now)) }
+    ensures { IsExpanded (λ v. v.items) result
+        (sums.kind_of (scope_of scope.now) sign span (kind_of kind.now)) }
 {
     match kind {
         TermKind::Factor(factor) => {
@@ -289,7 +295,8 @@ fn put_terms<'a>(
     terms: &'a [Term],
     all: &mut Vec<RawTerm>,
 ) -> Result<(), Stop>
-    ensures { IsExpanded (λ _. all.new.items) result (behind all.old.items (sums.terms_of (scope_of scope.now) sign (terms_then (map signed_of terms.now)))) }
+    ensures { IsExpanded (λ _. all.new.items) result (behind all.old.items
+        (sums.terms_of (scope_of scope.now) sign (terms_then (map signed_of terms.now)))) }
 {
     for term in terms {
         put_term(scope, work, sign, term, all)?;

@@ -38,7 +38,8 @@ fn main_part<'a>(
     work: &mut Expander<'a>,
     main: &'a Option<Sequence>,
 ) -> Result<Option<RawSeq>, Stop>
-    ensures { IsExpanded (option_map seq_of) result (meaning.main_of (scope_of scope.now) (option_map sequence_of main.now)) }
+    ensures { IsExpanded (option_map seq_of) result
+        (meaning.main_of (scope_of scope.now) (option_map sequence_of main.now)) }
 {
     match main {
         Some(inner) => Ok(Some(sequence(scope, work, inner)?)),
@@ -53,7 +54,8 @@ fn put_process<'a>(
     body: &'a Sequence,
     all: &mut Vec<RawSeq>,
 ) -> Result<(), Stop>
-    ensures { IsExpanded (λ _. map seq_of all.new.items) result (behind (map seq_of all.old.items) (meaning.one_process (sequence_of body.now) (scope_of scope.now))) }
+    ensures { IsExpanded (λ _. map seq_of all.new.items) result (behind (map seq_of all.old.items)
+        (meaning.one_process (sequence_of body.now) (scope_of scope.now))) }
 {
     let process = sequence(scope, work, body)?;
     all.push(process)?;
@@ -69,7 +71,9 @@ fn put_instance<'a>(
     body: &'a Sequence,
     all: &mut Vec<RawSeq>,
 ) -> Result<(), Stop>
-    ensures { IsExpanded (λ _. map seq_of all.new.items) result (behind (map seq_of all.old.items) (instance_of (scope_of scope.now) (binder_of binder.now) (meaning.one_process (sequence_of body.now)) value)) }
+    ensures { IsExpanded (λ _. map seq_of all.new.items) result (behind (map seq_of all.old.items)
+        (instance_of (scope_of scope.now) (binder_of binder.now)
+        (meaning.one_process (sequence_of body.now)) value)) }
 {
     match enter(scope, work, binder, value)? {
         Some(inner) => put_process(&inner, work, body, all),
@@ -85,7 +89,9 @@ fn put_family<'a>(
     body: &'a Sequence,
     all: &mut Vec<RawSeq>,
 ) -> Result<(), Stop>
-    ensures { IsExpanded (λ _. map seq_of all.new.items) result (behind (map seq_of all.old.items) (instances (scope_of scope.now) (binder_of binder.now) (meaning.one_process (sequence_of body.now)))) }
+    ensures { IsExpanded (λ _. map seq_of all.new.items) result (behind (map seq_of all.old.items)
+        (instances (scope_of scope.now) (binder_of binder.now)
+        (meaning.one_process (sequence_of body.now)))) }
 {
     let range = range(scope, work, &binder.range)?;
     let values = numbers(work.alloc, range)?;
@@ -102,7 +108,8 @@ fn put_processes<'a>(
     process: &'a Process,
     all: &mut Vec<RawSeq>,
 ) -> Result<(), Stop>
-    ensures { IsExpanded (λ _. map seq_of all.new.items) result (behind (map seq_of all.old.items) (meaning.process_of (scope_of scope.now) (process_of process.now))) }
+    ensures { IsExpanded (λ _. map seq_of all.new.items) result (behind (map seq_of all.old.items)
+        (meaning.process_of (scope_of scope.now) (process_of process.now))) }
 {
     match &process.binder {
         None => put_process(scope, work, &process.body, all),
@@ -116,7 +123,8 @@ fn each_process<'a>(
     work: &mut Expander<'a>,
     processes: &'a [Process],
 ) -> Result<Vec<RawSeq>, Stop>
-    ensures { IsExpanded (λ v. map seq_of v.items) result (gathered (meaning.process_of (scope_of scope.now)) (map process_of processes.now)) }
+    ensures { IsExpanded (λ v. map seq_of v.items) result
+        (gathered (meaning.process_of (scope_of scope.now)) (map process_of processes.now)) }
 {
     let mut all = Vec::new(work.alloc);
     for process in processes {
@@ -146,7 +154,8 @@ fn middle<'a>(
     cobegin: Span,
     processes: &'a [Process],
 ) -> Result<RawProcesses, Stop>
-    ensures { IsExpanded seqs_of result (meaning.processes_of (scope_of scope.now) cobegin (map process_of processes.now)) }
+    ensures { IsExpanded seqs_of result
+        (meaning.processes_of (scope_of scope.now) cobegin (map process_of processes.now)) }
 {
     work.note_origin(cobegin, &scope.bound)?;
     let all = each_process(scope, work, processes)?;
@@ -161,7 +170,8 @@ fn outline<'a>(
     vars: Vec<RawName>,
     auxes: Vec<RawAux>,
 ) -> Result<Raw, Stop>
-    ensures { IsExpanded tree_of result (meaning.outline_in (scope_of scope.now) (template_of template.now) vars.items auxes.items) }
+    ensures { IsExpanded tree_of result (meaning.outline_in (scope_of scope.now)
+        (template_of template.now) vars.items auxes.items) }
 {
     let pre = note(scope, work, &template.pre)?;
     let prologue = main_part(scope, work, &template.prologue)?;
@@ -185,7 +195,8 @@ fn whole<'a>(
     template: &'a Template,
     values: &[Binding<'_>],
 ) -> Result<Raw, Stop>
-    ensures { IsExpanded tree_of result (meaning.outline_by (template_of template.now) (map binding_of values.now)) }
+    ensures { IsExpanded tree_of result
+        (meaning.outline_by (template_of template.now) (map binding_of values.now)) }
 {
     let mut names = Names::new(work.alloc);
     declare_constants(&mut names, work, values, &template.constants)?;
@@ -214,7 +225,8 @@ pub fn expand<'a>(
     template: &'a Template,
     values: &[Binding<'_>],
 ) -> Result<Expanded<'a>, TemplateError>
-    ensures { IfOk result (λ e. meaning.outline_by (template_of template.now) (map binding_of values.now) ≡ Ok (tree_of e.raw)) }
+    ensures { IfOk result (λ e. meaning.outline_by (template_of template.now)
+        (map binding_of values.now) ≡ Ok (tree_of e.raw)) }
 {
     let mut work = Expander::new(alloc);
     let raw = whole(&mut work, template, values)?;

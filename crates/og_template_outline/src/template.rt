@@ -78,7 +78,8 @@ pub fn split_words<'a>(
     text: &[u8],
     words: &[&'a str],
 ) -> Result<SplitWords<'a>, AllocError>
-    ensures { IfOk result (λ s. IsSplit (map (λ w. w.now) words.now) (map (λ w. w.now) s.constants.items) (map (λ w. w.now) s.starts.items)) }
+    ensures { IfOk result (λ s. IsSplit (map (λ w. w.now) words.now)
+        (map (λ w. w.now) s.constants.items) (map (λ w. w.now) s.starts.items)) }
 {
     match template_of(alloc, text) {
         Ok(template) => {

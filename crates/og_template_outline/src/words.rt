@@ -83,7 +83,8 @@ pub(crate) fn split_by<'a>(
     constants: &[Constant],
     words: &[&'a str],
 ) -> Result<SplitWords<'a>, AllocError>
-    ensures { IfOk result (λ s. IsSplitBy constants.now (map (λ w. w.now) words.now) (map (λ w. w.now) s.constants.items) (map (λ w. w.now) s.starts.items)) }
+    ensures { IfOk result (λ s. IsSplitBy constants.now (map (λ w. w.now) words.now)
+        (map (λ w. w.now) s.constants.items) (map (λ w. w.now) s.starts.items)) }
 {
     let mut naming = Vec::new(alloc);
     let mut starts = Vec::new(alloc);

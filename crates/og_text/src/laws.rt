@@ -11,8 +11,10 @@ ghost use Rattle.og_text.specs.Faults.{place_of_fault};
 /// A text has one cut into longest pieces. So it has one list of tokens at most and one fault at
 /// most, and never both: what `lex` answers with memory enough is fixed by the text.
 pub fn one_cut()
-    ensures pieces { (text : List ℕ) (a b : List Piece) → IsCut text a [] → IsCut text b [] → a ≡ b }
-    ensures tokens { (text : List ℕ) (a b : List Token) → AreTokensOf text a → AreTokensOf text b → a ≡ b }
+    ensures pieces { (text : List ℕ) (a b : List Piece) → IsCut text a [] → IsCut text b [] → a
+        ≡ b }
+    ensures tokens { (text : List ℕ) (a b : List Token) → AreTokensOf text a → AreTokensOf text b
+        → a ≡ b }
     ensures fault { (text : List ℕ) (a b : LexFault) → IsFaultOf text a → IsFaultOf text b → a ≡ b }
     ensures apart { (text : List ℕ) (tokens : List Token) (fault : LexFault) →
         AreTokensOf text tokens → IsFaultOf text fault → ⊥ }

@@ -26,5 +26,6 @@ pub fn erased_soundness()
 /// auxiliaries gets stuck.
 pub fn progress()
     ensures outline { (o : Program) → IsSafe o → IsUnblocked o → IsNeverStuck o }
-    ensures program { (o : Program) → IsOutline o → IsSafe o → IsUnblocked o → IsNeverStuck (erased o) }
+    ensures program { (o : Program) → IsOutline o → IsSafe o → IsUnblocked o
+        → IsNeverStuck (erased o) }
 {}

@@ -19,7 +19,8 @@ pub(crate) struct Sites<'a> {
 // The assertion that follows item number `index`.
 fn after<'a>(seq: &'a Seq, index: usize) -> &'a Note
     requires { index < length (out-Seq seq.now).items.items }
-    ensures { noted result.now ≡ first_or (drop (index + 1) (out-Seq seq.now).items.items) (noted (out-Seq seq.now).last) }
+    ensures { noted result.now
+        ≡ first_or (drop (index + 1) (out-Seq seq.now).items.items) (noted (out-Seq seq.now).last) }
 {
     match seq.items.get(index + 1) {
         Some(item) => &item.before,
@@ -78,7 +79,8 @@ fn add_item<'a>(
 
 // Adds a part of the main process, if there is one.
 fn add_main<'a>(sites: &mut Sites<'a>, part: Part, seq: Option<&'a Seq>) -> Result<(), AllocError>
-    ensures { OnOk result (AddsMain sites.old sites.new part (option_map (λ q. sequence q.now) seq.entry)) }
+    ensures { OnOk result (AddsMain sites.old sites.new part
+        (option_map (λ q. sequence q.now) seq.entry)) }
 {
     match seq {
         Some(seq) => add_seq(sites, part, seq, None),

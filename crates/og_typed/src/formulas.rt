@@ -26,7 +26,8 @@ pub(crate) fn assertion(
     usage: Use,
     raw: &RawAssert,
 ) -> Result<Assert, TypeError>
-    ensures { IsResolved formula result (meaning.assertion (scope_of scope.now) (use_of usage) (assertion_of raw.now)) }
+    ensures { IsResolved formula result
+        (meaning.assertion (scope_of scope.now) (use_of usage) (assertion_of raw.now)) }
 {
     match raw {
         RawAssert::True => Ok(Assert::True),
@@ -56,7 +57,8 @@ fn boxed(
     usage: Use,
     raw: &RawAssert,
 ) -> Result<Box<Assert>, TypeError>
-    ensures { IsResolved (λ b. formula b.value) result (meaning.assertion (scope_of scope.now) (use_of usage) (assertion_of raw.now)) }
+    ensures { IsResolved (λ b. formula b.value) result
+        (meaning.assertion (scope_of scope.now) (use_of usage) (assertion_of raw.now)) }
 {
     let a = assertion(alloc, scope, usage, raw)?;
     Ok(Box::new(alloc, a)?)
@@ -70,7 +72,8 @@ fn assertions(
     usage: Use,
     all: &[RawAssert],
 ) -> Result<Vec<Assert>, TypeError>
-    ensures { IsResolved (λ v. formula_list (map formula v.items)) result (meaning.assertions (scope_of scope.now) (use_of usage) (listed (map assertion_of all.now))) }
+    ensures { IsResolved (λ v. formula_list (map formula v.items)) result (meaning.assertions
+        (scope_of scope.now) (use_of usage) (listed (map assertion_of all.now))) }
 {
     let mut resolved = Vec::new(alloc);
     for a in all {
@@ -86,7 +89,8 @@ pub(crate) fn note(
     usage: Use,
     raw: &RawNote,
 ) -> Result<Note, TypeError>
-    ensures { IsResolved noted result (meaning.note (scope_of scope.now) (use_of usage) (note_of raw.now)) }
+    ensures { IsResolved noted result
+        (meaning.note (scope_of scope.now) (use_of usage) (note_of raw.now)) }
 {
     Ok(Note {
         assertion: assertion(alloc, scope, usage, &raw.assertion)?,

@@ -51,7 +51,8 @@ impl<'a> Model for Points<'a> {
 impl<'a> Point<'a> {
     // Before a statement that leads to where it is left.
     fn new(item: &'a Item, after: u32) -> Point<'a>
-        ensures { result ≡ record { item = item.entry; after = after; inside = after; otherwise = after } }
+        ensures { result ≡ record
+            { item = item.entry; after = after; inside = after; otherwise = after } }
     {
         Point {
             item,
@@ -90,7 +91,8 @@ fn add_item<'a>(points: &mut Vec<Point<'a>>, item: &'a Item, after: u32) -> Resu
     requires known { after ≤ length points.old.items }
     ensures grown { IfOk result (λ at. IsGrown points.old.items points.new.items) }
     ensures place { IfOk result (λ at. at ≤ length points.new.items) }
-    ensures rest { IfOk result (λ at. rest_at (rests_of points.new.items) at ≡ item_pair item.now ∷ rest_at (rests_of points.old.items) after) }
+    ensures rest { IfOk result (λ at. rest_at (rests_of points.new.items) at ≡ item_pair item.now
+        ∷ rest_at (rests_of points.old.items) after) }
     ensures table { IfOk result (λ at. rests_of points.new.items ≡ rests_of points.old.items
         ++ statement_rests (formula item.now.before.assertion) (statement item.now.stmt) (rest_at (rests_of points.old.items) after)) }
 {
@@ -129,7 +131,8 @@ fn add_seq<'a>(points: &mut Vec<Point<'a>>, seq: &'a Seq, after: u32) -> Result<
     requires known { after ≤ length points.old.items }
     ensures grown { IfOk result (λ at. IsGrown points.old.items points.new.items) }
     ensures place { IfOk result (λ at. at ≤ length points.new.items) }
-    ensures rest { IfOk result (λ at. rest_at (rests_of points.new.items) at ≡ items (sequence seq.now) ++ rest_at (rests_of points.old.items) after) }
+    ensures rest { IfOk result (λ at. rest_at (rests_of points.new.items) at
+        ≡ items (sequence seq.now) ++ rest_at (rests_of points.old.items) after) }
     ensures table { IfOk result (λ at. rests_of points.new.items ≡ rests_of points.old.items
         ++ sequence_rests (sequence seq.now) (rest_at (rests_of points.old.items) after)) }
 {
@@ -146,8 +149,10 @@ fn add_seq<'a>(points: &mut Vec<Point<'a>>, seq: &'a Seq, after: u32) -> Result<
 fn add_part<'a>(points: &mut Vec<Point<'a>>, part: Option<&'a Seq>) -> Result<u32, AllocError>
     ensures grown { IfOk result (λ at. IsGrown points.old.items points.new.items) }
     ensures place { IfOk result (λ at. at ≤ length points.new.items) }
-    ensures rest { IfOk result (λ at. rest_at (rests_of points.new.items) at ≡ part_items (option_map (λ q. sequence q.now) part.entry)) }
-    ensures table { IfOk result (λ at. rests_of points.new.items ≡ rests_of points.old.items ++ part_rests (option_map (λ q. sequence q.now) part.entry)) }
+    ensures rest { IfOk result (λ at. rest_at (rests_of points.new.items) at
+        ≡ part_items (option_map (λ q. sequence q.now) part.entry)) }
+    ensures table { IfOk result (λ at. rests_of points.new.items ≡ rests_of points.old.items
+        ++ part_rests (option_map (λ q. sequence q.now) part.entry)) }
 {
     match part {
         Some(seq) => {
@@ -166,8 +171,10 @@ fn add_parts<'a>(
 ) -> Result<Vec<u32>, AllocError>
     ensures grown { IfOk result (λ v. IsGrown points.old.items points.new.items) }
     ensures places { IfOk result (λ v. AllByRecursion (λ at. at ≤ length points.new.items) v.items) }
-    ensures rests { IfOk result (λ v. map (rest_at (rests_of points.new.items)) v.items ≡ map items (map sequence parts.now)) }
-    ensures table { IfOk result (λ v. rests_of points.new.items ≡ rests_of points.old.items ++ parts_rests (map sequence parts.now)) }
+    ensures rests { IfOk result (λ v.
+        map (rest_at (rests_of points.new.items)) v.items ≡ map items (map sequence parts.now)) }
+    ensures table { IfOk result (λ v. rests_of points.new.items ≡ rests_of points.old.items
+        ++ parts_rests (map sequence parts.now)) }
 {
     let mut all = Vec::new(alloc);
     for seq in parts {
@@ -184,9 +191,12 @@ fn add_parts<'a>(
 /// An allocation was refused, or there are more than 4294967295 points.
 pub fn begin<'a>(alloc: Global, outline: &'a Outline) -> Result<Beginning<'a>, AllocError>
     ensures points { IfOk result (λ b. b.points ≡ point_rests outline.now) }
-    ensures prologue { IfOk result (λ b. rest_at b.points b.prologue ≡ part_items outline.now.prologue) }
-    ensures rests { IfOk result (λ b. map (rest_at b.points) b.rests.items ≡ map items outline.now.processes) }
-    ensures epilogue { IfOk result (λ b. rest_at b.points b.epilogue ≡ part_items outline.now.epilogue) }
+    ensures prologue { IfOk result (λ b.
+        rest_at b.points b.prologue ≡ part_items outline.now.prologue) }
+    ensures rests { IfOk result (λ b.
+        map (rest_at b.points) b.rests.items ≡ map items outline.now.processes) }
+    ensures epilogue { IfOk result (λ b.
+        rest_at b.points b.epilogue ≡ part_items outline.now.epilogue) }
 {
     let mut points = Vec::new(alloc);
     let prologue = add_part(&mut points, outline.prologue())?;

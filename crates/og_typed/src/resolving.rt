@@ -51,7 +51,8 @@ fn declare_auxes<'a>(
     names: &mut Names<'a>,
     auxes: &'a [RawAux],
 ) -> Result<Vec<i64>, TypeError>
-    ensures { IsResolved (λ values. (names.new, values.items)) result (meaning.declared_auxes names.old [] auxes.now) }
+    ensures { IsResolved (λ values. (names.new, values.items)) result
+        (meaning.declared_auxes names.old [] auxes.now) }
 {
     let mut values = Vec::new(alloc);
     for aux in auxes {
@@ -63,7 +64,8 @@ fn declare_auxes<'a>(
 
 // A part of the main process, where there is one. Takes no memory where there is none.
 fn part(alloc: Global, scope: &Scope<'_>, raw: &Option<RawSeq>) -> Result<Option<Seq>, TypeError>
-    ensures answer { IsResolved (option_map plain.sequence) result (meaning.part (scope_of scope.now) (option_map seq_of raw.now)) }
+    ensures answer { IsResolved (option_map plain.sequence) result
+        (meaning.part (scope_of scope.now) (option_map seq_of raw.now)) }
     ensures none { IfNone raw.now (IsOk result) }
 {
     match raw {
@@ -74,7 +76,8 @@ fn part(alloc: Global, scope: &Scope<'_>, raw: &Option<RawSeq>) -> Result<Option
 
 // The processes.
 fn processes(alloc: Global, scope: &Scope<'_>, raw: &RawProcesses) -> Result<Vec<Seq>, TypeError>
-    ensures { IsResolved (λ v. map plain.sequence v.items) result (meaning.processes (scope_of scope.now) (seqs_of raw.now)) }
+    ensures { IsResolved (λ v. map plain.sequence v.items) result
+        (meaning.processes (scope_of scope.now) (seqs_of raw.now)) }
 {
     let mut processes = Vec::new(alloc);
     processes.push(sequence(alloc, scope, &raw.first)?)?;

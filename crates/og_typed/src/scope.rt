@@ -30,7 +30,8 @@ pub(crate) enum Use {
 impl<'a> Scope<'a> {
     // The number of a name that is used. Takes no memory.
     pub(crate) fn number(&self, usage: Use, name: &RawName) -> Result<u32, TypeError>
-        ensures answer { IsResolved (λ x. x) result (meaning.number (scope_of self.now) (use_of usage) name.now) }
+        ensures answer { IsResolved (λ x. x) result
+            (meaning.number (scope_of self.now) (use_of usage) name.now) }
         ensures few { IfOk result (λ x. x < 256) }
         ensures memory { OnMemory result ⊥ }
     {

@@ -21,7 +21,8 @@ const AWAIT_LIMIT: usize = 64;
 
 // A simple statement, or an element of an await.
 fn simple(alloc: Global, scope: &Scope<'_>, raw: &RawBasic) -> Result<Basic, TypeError>
-    ensures { IsResolved plain.simple result (meaning.simple (scope_of scope.now) (basic_of raw.now)) }
+    ensures { IsResolved plain.simple result
+        (meaning.simple (scope_of scope.now) (basic_of raw.now)) }
 {
     match raw {
         RawBasic::Skip => Ok(Basic::Skip),
@@ -35,7 +36,8 @@ fn simple(alloc: Global, scope: &Scope<'_>, raw: &RawBasic) -> Result<Basic, Typ
 
 // The body of an await.
 fn elements(alloc: Global, scope: &Scope<'_>, raw: &[RawElement]) -> Result<Vec<Basic>, TypeError>
-    ensures { IsResolved (λ v. map plain.simple v.items) result (meaning.elements (scope_of scope.now) (map element_of raw.now)) }
+    ensures { IsResolved (λ v. map plain.simple v.items) result
+        (meaning.elements (scope_of scope.now) (map element_of raw.now)) }
 {
     let mut body = Vec::new(alloc);
     for element in raw {
@@ -59,7 +61,8 @@ fn statement_of(basic: Basic) -> Stmt
 // The sequence that a tree stands for, in a box.
 #[cycle(sequences)]
 fn block(alloc: Global, scope: &Scope<'_>, raw: &RawSeq) -> Result<Box<Seq>, TypeError>
-    ensures { IsResolved (λ b. plain.sequence b.value) result (meaning.sequence (scope_of scope.now) (seq_of raw.now)) }
+    ensures { IsResolved (λ b. plain.sequence b.value) result
+        (meaning.sequence (scope_of scope.now) (seq_of raw.now)) }
 {
     let seq = sequence(alloc, scope, raw)?;
     Ok(Box::new(alloc, seq)?)
@@ -115,7 +118,8 @@ fn await_then(
 // The statement that a tree stands for.
 #[cycle(sequences)]
 fn statement(alloc: Global, scope: &Scope<'_>, raw: &RawStmt) -> Result<Stmt, TypeError>
-    ensures { IsResolved plain.statement result (meaning.statement (scope_of scope.now) (stmt_of raw.now)) }
+    ensures { IsResolved plain.statement result
+        (meaning.statement (scope_of scope.now) (stmt_of raw.now)) }
 {
     match raw {
         RawStmt::Basic(basic) => Ok(statement_of(simple(alloc, scope, basic)?)),
@@ -134,7 +138,8 @@ fn statement(alloc: Global, scope: &Scope<'_>, raw: &RawStmt) -> Result<Stmt, Ty
 // The statements of a sequence, with their assertions.
 #[cycle(sequences)]
 pub(crate) fn sequence(alloc: Global, scope: &Scope<'_>, raw: &RawSeq) -> Result<Seq, TypeError>
-    ensures { IsResolved plain.sequence result (meaning.sequence (scope_of scope.now) (seq_of raw.now)) }
+    ensures { IsResolved plain.sequence result
+        (meaning.sequence (scope_of scope.now) (seq_of raw.now)) }
 {
     let mut items = Vec::new(alloc);
     for item in &raw.items {

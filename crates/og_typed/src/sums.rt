@@ -51,7 +51,8 @@ fn factor(
     usage: Use,
     factor: &RawFactor,
 ) -> Result<(u64, Form), TypeError>
-    ensures answer { IsResolved (λ p. p) result (meaning.factor (scope_of scope.now) (use_of usage) factor.now) }
+    ensures answer { IsResolved (λ p. p) result
+        (meaning.factor (scope_of scope.now) (use_of usage) factor.now) }
     ensures small { IfOk result (λ p. IsWithin 1 p.1) }
 {
     match factor {
@@ -76,8 +77,10 @@ fn add_term(
     term: &RawTerm,
 ) -> Result<(), TypeError>
     requires { IsWithin (2 ^ 124) sum.old }
-    ensures answer { IsResolved (λ _. sum.new) result (meaning.sum_from (scope_of scope.now) (use_of usage) sum.old (term.now ∷ [])) }
-    ensures small { (bound : ℕ) → IsWithin bound sum.old → OnOk result (IsWithin (bound + 2 ^ 64) sum.new) }
+    ensures answer { IsResolved (λ _. sum.new) result
+        (meaning.sum_from (scope_of scope.now) (use_of usage) sum.old (term.now ∷ [])) }
+    ensures small { (bound : ℕ) → IsWithin bound sum.old
+        → OnOk result (IsWithin (bound + 2 ^ 64) sum.new) }
 {
     let (number, base) = factor(alloc, scope, usage, &term.factor)?;
     add(sum, signed(term.sign, number), &base)
@@ -85,7 +88,8 @@ fn add_term(
 
 // The collected form of a sum.
 fn sum(alloc: Global, scope: &Scope<'_>, usage: Use, sum: &RawSum) -> Result<Form, TypeError>
-    ensures answer { IsResolved (λ f. f) result (meaning.sum_form (scope_of scope.now) (use_of usage) (sum_of sum.now)) }
+    ensures answer { IsResolved (λ f. f) result
+        (meaning.sum_form (scope_of scope.now) (use_of usage) (sum_of sum.now)) }
     ensures small { IfOk result (IsWithin (2 ^ 124)) }
 {
     let mut total = Form::constant(alloc, 0);
@@ -141,7 +145,8 @@ pub(crate) fn comparison(
     relation: Relation,
     right: &RawSum,
 ) -> Result<Assert, TypeError>
-    ensures { IsResolved formula result (meaning.comparison (scope_of scope.now) (use_of usage) (sum_of left.now) relation (sum_of right.now)) }
+    ensures { IsResolved formula result (meaning.comparison (scope_of scope.now) (use_of usage)
+        (sum_of left.now) relation (sum_of right.now)) }
 {
     let f = sum(alloc, scope, usage, left)?;
     let g = sum(alloc, scope, usage, right)?;
@@ -160,7 +165,8 @@ pub(crate) fn right_side(
     x: u32,
     right: &RawSum,
 ) -> Result<Form, TypeError>
-    ensures { IsResolved (λ f. f) result (meaning.right_side (scope_of scope.now) x (sum_of right.now)) }
+    ensures { IsResolved (λ f. f) result
+        (meaning.right_side (scope_of scope.now) x (sum_of right.now)) }
 {
     let usage = if x < scope.vars {
         Use::Visible

@@ -85,8 +85,10 @@ fn first_wrong(
     values: &State,
     history: &[u32],
 ) -> Result<Option<(usize, Wrong)>, AllocError>
-    ensures some { IfOk result (λ found. IfSome found (IsFirstWrong outline.now values.now history.now)) }
-    ensures none { IfOk result (λ found. IfNone found (IsTrueAlong outline.now values.now history.now)) }
+    ensures some { IfOk result (λ found.
+        IfSome found (IsFirstWrong outline.now values.now history.now)) }
+    ensures none { IfOk result (λ found.
+        IfNone found (IsTrueAlong outline.now values.now history.now)) }
 {
     let Some(mut moment) = begun(alloc, outline, values)? else {
         return Ok(None);
@@ -125,7 +127,8 @@ pub fn first_along(
     history: &[u32],
 ) -> Result<Option<Violation>, AllocError>
     ensures some { IfOk result (λ found. IfSome found (IsFirst outline.now values.now history.now)) }
-    ensures none { IfOk result (λ found. IfNone found (IsTrueAlong outline.now values.now history.now)) }
+    ensures none { IfOk result (λ found.
+        IfNone found (IsTrueAlong outline.now values.now history.now)) }
 {
     let Some((steps, wrong)) = first_wrong(alloc, outline, values, history)? else {
         return Ok(None);

@@ -13,10 +13,12 @@ use crate::violation::Wrong;
 /// Where a run leads to anything that is wrong but a stuck moment, some condition but the last is
 /// false.
 pub fn refutes_safety()
-    ensures { (o : Program) (v : Found) → IsViolation o v → (v.wrong ≡ Wrong.Stuck → ⊥) → IsSafe o → ⊥ }
+    ensures { (o : Program) (v : Found) → IsViolation o v → (v.wrong ≡ Wrong.Stuck → ⊥) → IsSafe o
+        → ⊥ }
 {}
 
 /// Where a run leads to a stuck moment, some condition is false.
 pub fn refutes_progress()
-    ensures { (o : Program) (v : Found) → IsViolation o v → v.wrong ≡ Wrong.Stuck → IsSafe o → IsUnblocked o → ⊥ }
+    ensures { (o : Program) (v : Found) → IsViolation o v → v.wrong ≡ Wrong.Stuck → IsSafe o
+        → IsUnblocked o → ⊥ }
 {}

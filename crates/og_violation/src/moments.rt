@@ -12,7 +12,8 @@ use og_typed::Outline;
 pub(crate) fn first_false(outline: &Outline, moment: &Moment) -> Option<u32>
     requires { IsOf outline.now moment.now }
     ensures some { IfSome result (IsFirstFalse outline.now moment.now.moment) }
-    ensures none { IfNone result ((q : ℕ) → q < length outline.now.processes → IsTrueOf outline.now moment.now.moment q) }
+    ensures none { IfNone result
+        ((q : ℕ) → q < length outline.now.processes → IsTrueOf outline.now moment.now.moment q) }
 {
     for q in 0..moment.processes() {
         if !moment.is_true(q) {

@@ -52,7 +52,8 @@ pub fn moment_after<'a>(
     values: &State,
     history: &[u32],
 ) -> Result<Option<Moment<'a>>, AllocError>
-    ensures some { IfOk result (λ found. IfSome found (IsAfterRun outline.now values.now history.now)) }
+    ensures some { IfOk result (λ found.
+        IfSome found (IsAfterRun outline.now values.now history.now)) }
     ensures none { IfOk result (λ found. IfNone found (IsNoRun outline.now values.now history.now)) }
 {
     let Some(mut moment) = begun(alloc, outline, values)? else {
@@ -80,8 +81,10 @@ pub fn replayed(
     wrong: Wrong,
 ) -> Result<Option<Violation>, AllocError>
     ensures some { IfOk result (λ found. IfSome found (IsViolation outline.now)) }
-    ensures same { IfOk result (λ found. IfSome found (λ v. v ≡ record { values = values; history = history; wrong = wrong })) }
-    ensures none { IfOk result (λ found. IfNone found (IsWrong outline.now values history.items wrong → ⊥)) }
+    ensures same { IfOk result (λ found.
+        IfSome found (λ v. v ≡ record { values = values; history = history; wrong = wrong })) }
+    ensures none { IfOk result (λ found.
+        IfNone found (IsWrong outline.now values history.items wrong → ⊥)) }
 {
     let Some(mut moment) = moment_after(alloc, outline, &values, &history)? else {
         return Ok(None);

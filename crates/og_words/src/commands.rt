@@ -22,7 +22,8 @@ fn with_arg<'a>(
     command: Result<Command<'a>, AllocError>,
     arg: Result<Arg<'a>, AllocError>,
 ) -> Result<Command<'a>, AllocError>
-    ensures { (s : Shape) (rule : Rule) → IfOk command.entry (IsCommand s) → IfOk arg.entry (IsArg rule) → IfOk result (IsCommand (record s { rules = s.rules ++ rule ∷ [] })) }
+    ensures { (s : Shape) (rule : Rule) → IfOk command.entry (IsCommand s) → IfOk arg.entry
+        (IsArg rule) → IfOk result (IsCommand (record s { rules = s.rules ++ rule ∷ [] })) }
 {
     command?.arg(arg?)
 }
@@ -356,7 +357,8 @@ fn with_word<'a>(
     program: Result<Command<'a>, AllocError>,
     word: Result<Command<'a>, AllocError>,
 ) -> Result<Command<'a>, AllocError>
-    ensures { (a : App) (s : Shape) → IfOk program.entry (λ p. app_of p ≡ a) → IfOk word.entry (IsCommand s) → IfOk result (λ r. app_of r ≡ with_subcommand a s) }
+    ensures { (a : App) (s : Shape) → IfOk program.entry (λ p. app_of p ≡ a)
+        → IfOk word.entry (IsCommand s) → IfOk result (λ r. app_of r ≡ with_subcommand a s) }
 {
     program?.subcommand(word?)
 }

@@ -146,7 +146,8 @@ fn migrate_job<'a>(m: &ArgMatches<'a>) -> Option<Job<'a>>
 
 // The words for an argument, in their order.
 fn texts_of<'a>(alloc: Global, m: &ArgMatches<'a>, name: &str) -> Result<Vec<&'a str>, AllocError>
-    ensures { IfOk result (λ v. map (λ w. w.now) v.items ≡ texts_of name.now (rows_of (found_of m.now))) }
+    ensures { IfOk result (λ v.
+        map (λ w. w.now) v.items ≡ texts_of name.now (rows_of (found_of m.now))) }
 {
     let mut texts = Vec::new(alloc);
     if let Some(words) = m.get_strs(name) {
@@ -158,7 +159,8 @@ fn texts_of<'a>(alloc: Global, m: &ArgMatches<'a>, name: &str) -> Result<Vec<&'a
 // The job of a proof without runs, with the words that give constants their values.
 fn prove_alone<'a>(m: &ArgMatches<'a>, values: Vec<&'a str>) -> Option<Job<'a>>
     requires alone { is_given (codes "runs") (rows_of (found_of m.now)) ≡ false }
-    requires values { map (λ w. w.now) values.items ≡ texts_of (codes "NAME=INT|LO..HI") (rows_of (found_of m.now)) }
+    requires values { map (λ w. w.now) values.items
+        ≡ texts_of (codes "NAME=INT|LO..HI") (rows_of (found_of m.now)) }
     ensures command { IfSome result (λ job. command_of job ≡ Some (verb_name Verb.Prove)) }
     ensures holds { IfSome result (Holds (rows_of (found_of m.now))) }
 {
@@ -177,7 +179,8 @@ fn prove_alone<'a>(m: &ArgMatches<'a>, values: Vec<&'a str>) -> Option<Job<'a>>
 // The job of a proof with runs, with the words that give variables their ranges.
 fn prove_runs<'a>(m: &ArgMatches<'a>, ranges: Vec<&'a str>) -> Option<Job<'a>>
     requires runs { is_given (codes "runs") (rows_of (found_of m.now)) ≡ true }
-    requires ranges { map (λ w. w.now) ranges.items ≡ texts_of (codes "NAME=INT|LO..HI") (rows_of (found_of m.now)) }
+    requires ranges { map (λ w. w.now) ranges.items
+        ≡ texts_of (codes "NAME=INT|LO..HI") (rows_of (found_of m.now)) }
     ensures command { IfSome result (λ job. command_of job ≡ Some (verb_name Verb.Prove)) }
     ensures holds { IfSome result (Holds (rows_of (found_of m.now))) }
 {
@@ -194,7 +197,8 @@ fn prove_runs<'a>(m: &ArgMatches<'a>, ranges: Vec<&'a str>) -> Option<Job<'a>>
 }
 
 fn prove_job<'a>(alloc: Global, m: &ArgMatches<'a>) -> Result<Option<Job<'a>>, AllocError>
-    ensures command { IfOk result (λ r. IfSome r (λ job. command_of job ≡ Some (verb_name Verb.Prove))) }
+    ensures command { IfOk result (λ r.
+        IfSome r (λ job. command_of job ≡ Some (verb_name Verb.Prove))) }
     ensures holds { IfOk result (λ r. IfSome r (Holds (rows_of (found_of m.now)))) }
 {
     let words = texts_of(alloc, m, "NAME=INT|LO..HI")?;
@@ -220,7 +224,8 @@ fn show_alone<'a>(m: &ArgMatches<'a>) -> Option<Job<'a>>
 // The job of a page with runs, with the words that give variables their ranges.
 fn show_runs<'a>(m: &ArgMatches<'a>, ranges: Vec<&'a str>) -> Option<Job<'a>>
     requires runs { is_given (codes "runs") (rows_of (found_of m.now)) ≡ true }
-    requires ranges { map (λ w. w.now) ranges.items ≡ texts_of (codes "NAME=INT|LO..HI") (rows_of (found_of m.now)) }
+    requires ranges { map (λ w. w.now) ranges.items
+        ≡ texts_of (codes "NAME=INT|LO..HI") (rows_of (found_of m.now)) }
     ensures command { IfSome result (λ job. command_of job ≡ Some (verb_name Verb.Show)) }
     ensures holds { IfSome result (Holds (rows_of (found_of m.now))) }
 {
@@ -234,7 +239,8 @@ fn show_runs<'a>(m: &ArgMatches<'a>, ranges: Vec<&'a str>) -> Option<Job<'a>>
 }
 
 fn show_job<'a>(alloc: Global, m: &ArgMatches<'a>) -> Result<Option<Job<'a>>, AllocError>
-    ensures command { IfOk result (λ r. IfSome r (λ job. command_of job ≡ Some (verb_name Verb.Show))) }
+    ensures command { IfOk result (λ r.
+        IfSome r (λ job. command_of job ≡ Some (verb_name Verb.Show))) }
     ensures holds { IfOk result (λ r. IfSome r (Holds (rows_of (found_of m.now)))) }
 {
     if !has_flag(m, "runs") {
@@ -245,7 +251,8 @@ fn show_job<'a>(alloc: Global, m: &ArgMatches<'a>) -> Result<Option<Job<'a>>, Al
 
 // The job of a run, with the words that give variables their values.
 fn run_with<'a>(m: &ArgMatches<'a>, values: Vec<&'a str>) -> Option<Job<'a>>
-    requires { map (λ w. w.now) values.items ≡ texts_of (codes "NAME=INT") (rows_of (found_of m.now)) }
+    requires { map (λ w. w.now) values.items
+        ≡ texts_of (codes "NAME=INT") (rows_of (found_of m.now)) }
     ensures command { IfSome result (λ job. command_of job ≡ Some (verb_name Verb.Run)) }
     ensures holds { IfSome result (Holds (rows_of (found_of m.now))) }
 {
@@ -260,7 +267,8 @@ fn run_with<'a>(m: &ArgMatches<'a>, values: Vec<&'a str>) -> Option<Job<'a>>
 }
 
 fn run_job<'a>(alloc: Global, m: &ArgMatches<'a>) -> Result<Option<Job<'a>>, AllocError>
-    ensures command { IfOk result (λ r. IfSome r (λ job. command_of job ≡ Some (verb_name Verb.Run))) }
+    ensures command { IfOk result (λ r.
+        IfSome r (λ job. command_of job ≡ Some (verb_name Verb.Run))) }
     ensures holds { IfOk result (λ r. IfSome r (Holds (rows_of (found_of m.now)))) }
 {
     Ok(run_with(m, texts_of(alloc, m, "NAME=INT")?))
@@ -268,7 +276,8 @@ fn run_job<'a>(alloc: Global, m: &ArgMatches<'a>) -> Result<Option<Job<'a>>, All
 
 // The job of an exploration, with the words that give variables their ranges.
 fn explore_with<'a>(m: &ArgMatches<'a>, ranges: Vec<&'a str>) -> Option<Job<'a>>
-    requires { map (λ w. w.now) ranges.items ≡ texts_of (codes "NAME=INT|LO..HI") (rows_of (found_of m.now)) }
+    requires { map (λ w. w.now) ranges.items
+        ≡ texts_of (codes "NAME=INT|LO..HI") (rows_of (found_of m.now)) }
     ensures command { IfSome result (λ job. command_of job ≡ Some (verb_name Verb.Explore)) }
     ensures holds { IfSome result (Holds (rows_of (found_of m.now))) }
 {
@@ -284,7 +293,8 @@ fn explore_with<'a>(m: &ArgMatches<'a>, ranges: Vec<&'a str>) -> Option<Job<'a>>
 }
 
 fn explore_job<'a>(alloc: Global, m: &ArgMatches<'a>) -> Result<Option<Job<'a>>, AllocError>
-    ensures command { IfOk result (λ r. IfSome r (λ job. command_of job ≡ Some (verb_name Verb.Explore))) }
+    ensures command { IfOk result (λ r.
+        IfSome r (λ job. command_of job ≡ Some (verb_name Verb.Explore))) }
     ensures holds { IfOk result (λ r. IfSome r (Holds (rows_of (found_of m.now)))) }
 {
     Ok(explore_with(m, texts_of(alloc, m, "NAME=INT|LO..HI")?))
@@ -292,7 +302,8 @@ fn explore_job<'a>(alloc: Global, m: &ArgMatches<'a>) -> Result<Option<Job<'a>>,
 
 // The job of an expansion, with the words that give constants their values.
 fn expand_with<'a>(m: &ArgMatches<'a>, values: Vec<&'a str>) -> Option<Job<'a>>
-    requires { map (λ w. w.now) values.items ≡ texts_of (codes "NAME=INT") (rows_of (found_of m.now)) }
+    requires { map (λ w. w.now) values.items
+        ≡ texts_of (codes "NAME=INT") (rows_of (found_of m.now)) }
     ensures command { IfSome result (λ job. command_of job ≡ Some (verb_name Verb.Expand)) }
     ensures holds { IfSome result (Holds (rows_of (found_of m.now))) }
 {
@@ -306,7 +317,8 @@ fn expand_with<'a>(m: &ArgMatches<'a>, values: Vec<&'a str>) -> Option<Job<'a>>
 }
 
 fn expand_job<'a>(alloc: Global, m: &ArgMatches<'a>) -> Result<Option<Job<'a>>, AllocError>
-    ensures command { IfOk result (λ r. IfSome r (λ job. command_of job ≡ Some (verb_name Verb.Expand))) }
+    ensures command { IfOk result (λ r.
+        IfSome r (λ job. command_of job ≡ Some (verb_name Verb.Expand))) }
     ensures holds { IfOk result (λ r. IfSome r (Holds (rows_of (found_of m.now)))) }
 {
     Ok(expand_with(m, texts_of(alloc, m, "NAME=INT")?))
@@ -339,7 +351,8 @@ fn named_job<'a>(
     matches: &ArgMatches<'a>,
 ) -> Result<Option<Job<'a>>, AllocError>
     ensures command { IfOk result (λ r. IfSome r (λ job. command_of job ≡ Some name.now)) }
-    ensures holds { IfOk result (λ r. IfSome r (Holds (rows_below (subcommand_rows_of matches.now)))) }
+    ensures holds { IfOk result (λ r.
+        IfSome r (Holds (rows_below (subcommand_rows_of matches.now)))) }
 {
     let Some(verb) = verb_of(name) else {
         return Ok(None);
@@ -412,7 +425,8 @@ fn shown_usage(alloc: Global, words: &[String], kind: ErrorKind) -> Result<Usage
 
 // What the words say by the command line.
 fn matches_of<'a>(alloc: Global, words: &'a [String]) -> Result<ArgMatches<'a>, Usage>
-    ensures { IfOk result (λ m. subcommand_rows_of m ≡ subcommand_of og (map (λ w. string_bytes w) words.entry.now)) }
+    ensures { IfOk result (λ m.
+        subcommand_rows_of m ≡ subcommand_of og (map (λ w. string_bytes w) words.entry.now)) }
 {
     match program(alloc)?.try_get_matches_from(words) {
         Ok(matches) => Ok(matches),
