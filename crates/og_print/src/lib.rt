@@ -8,11 +8,11 @@
 mod assertions;
 mod outline;
 mod same_assertions;
+mod same_outlines;
 mod same_statements;
 mod same_sums;
-mod same_tree;
 mod statements;
 mod terms;
 
 pub use outline::{print_outline, print_program};
-pub use same_tree::same_tree;
+pub use same_outlines::same_tree;

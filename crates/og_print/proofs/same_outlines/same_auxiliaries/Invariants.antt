@@ -1,6 +1,6 @@
 use Rattle.std.proofs.Common.{◌≡◌, drop, map}
 use Rattle.og_print.specs.Plain.{plain_aux}
-use Rattle.og_print.proofs.same_tree.same_auxiliaries.Given as goal
+use Rattle.og_print.proofs.same_outlines.same_auxiliaries.Given as goal
 
 abbrev pub invariant-loop-i : goal.invariant-loop-i
 invariant-loop-i l =

@@ -1,7 +1,7 @@
 use Rattle.std.proofs.Common.{◌≡◌, drop, map}
 use Rattle.og_parse.specs.TreeOf.{seq_of}
 use Rattle.og_print.specs.Plain.{plain_seq}
-use Rattle.og_print.proofs.same_tree.same_sequences.Given as goal
+use Rattle.og_print.proofs.same_outlines.same_sequences.Given as goal
 
 abbrev pub invariant-loop-i : goal.invariant-loop-i
 invariant-loop-i l =
