@@ -21,7 +21,12 @@ option name = record (new_rule name) { long = Some name; value_names = 1 }
 
 -- `--NAME N`, and this N where it is not given
 abbrev pub number : Text → Text → ValueParser → Rule
-number name default within = record (new_rule name) { long = Some name; value_names = 1; defaults = default ∷ []; parser = Some within }
+number name default within = record (new_rule name) {
+  long = Some name;
+  value_names = 1;
+  defaults = default ∷ [];
+  parser = Some within;
+}
 
 -- `--smt2`, which does not go with `--triples`
 abbrev pub smt2_flag : Rule
@@ -37,7 +42,10 @@ schedule_option = record (option (codes "schedule")) { is_free = false }
 
 -- words of this form, as many as there are
 abbrev pub words : Text → Rule
-words form = record (new_rule form) { action = Some Append; range = Some (record { start_inclusive = 0; end_inclusive = usize_max }) }
+words form = record (new_rule form) {
+  action = Some Append;
+  range = Some (record { start_inclusive = 0; end_inclusive = usize_max });
+}
 
 -- variables or constants with a value each
 abbrev pub values : Rule
@@ -84,7 +92,9 @@ abbrev pub command : Text → List Rule → Shape
 command name rules = record (new_shape name) { rules = rules }
 
 abbrev pub prover : Shape
-prover = command (codes "prove") (source ∷ budget ∷ workers ∷ flag (codes "json") ∷ flag (codes "runs") ∷ run_moments ∷ ranges ∷ [])
+prover =
+    command (codes "prove") (source ∷ budget ∷ workers ∷ flag (codes "json") ∷ flag (codes "runs")
+    ∷ run_moments ∷ ranges ∷ [])
 
 abbrev pub check : Shape
 check = command (codes "check") (source ∷ certs ∷ workers ∷ flag (codes "json") ∷ [])
@@ -93,10 +103,14 @@ abbrev pub notes : Shape
 notes = command (codes "notes") (source ∷ budget ∷ [])
 
 abbrev pub show : Shape
-show = command (codes "show") (source ∷ budget ∷ workers ∷ flag (codes "runs") ∷ run_moments ∷ run_ranges ∷ [])
+show =
+    command (codes "show")
+    (source ∷ budget ∷ workers ∷ flag (codes "runs") ∷ run_moments ∷ run_ranges ∷ [])
 
 abbrev pub conditions : Shape
-conditions = command (codes "conditions") (source ∷ flag (codes "triples") ∷ smt2_flag ∷ option (codes "only") ∷ [])
+conditions =
+    command (codes "conditions")
+    (source ∷ flag (codes "triples") ∷ smt2_flag ∷ option (codes "only") ∷ [])
 
 abbrev pub finder : Shape
 finder = command (codes "find") (source ∷ budget ∷ workers ∷ version ∷ [])
@@ -105,10 +119,14 @@ abbrev pub erase : Shape
 erase = command (codes "erase") (source ∷ flag (codes "readable") ∷ [])
 
 abbrev pub run : Shape
-run = command (codes "run") (source ∷ limit ∷ flag (codes "erased") ∷ certs_option ∷ schedule_option ∷ values ∷ [])
+run =
+    command (codes "run")
+    (source ∷ limit ∷ flag (codes "erased") ∷ certs_option ∷ schedule_option ∷ values ∷ [])
 
 abbrev pub explorer : Shape
-explorer = command (codes "explore") (source ∷ moments ∷ flag (codes "erased") ∷ flag (codes "json") ∷ ranges ∷ [])
+explorer =
+    command (codes "explore")
+    (source ∷ moments ∷ flag (codes "erased") ∷ flag (codes "json") ∷ ranges ∷ [])
 
 abbrev pub expander : Shape
 expander = command (codes "expand") (template ∷ flag (codes "map") ∷ values ∷ [])
@@ -119,13 +137,26 @@ migrate = command (codes "migrate") (certs ∷ [])
 -- the program with its name and a version, and no commands
 abbrev pub without_commands : App
 without_commands = record {
-  top = record (new_shape (codes "og")) { no_binary_name = true; disable_help_subcommand = true; subcommand_required = true; has_version = true };
+  top = record (new_shape (codes "og")) {
+    no_binary_name = true;
+    disable_help_subcommand = true;
+    subcommand_required = true;
+    has_version = true;
+  };
   subs = [];
 }
 
 -- the program, which is given the words after its name
 abbrev pub og : App
 og = record {
-  top = record (new_shape (codes "og")) { is_leaf = false; no_binary_name = true; disable_help_subcommand = true; subcommand_required = true; has_version = true };
-  subs = prover ∷ check ∷ notes ∷ show ∷ conditions ∷ finder ∷ erase ∷ run ∷ explorer ∷ expander ∷ migrate ∷ [];
+  top = record (new_shape (codes "og")) {
+    is_leaf = false;
+    no_binary_name = true;
+    disable_help_subcommand = true;
+    subcommand_required = true;
+    has_version = true;
+  };
+  subs =
+      prover ∷ check ∷ notes ∷ show ∷ conditions ∷ finder ∷ erase ∷ run ∷ explorer ∷ expander
+      ∷ migrate ∷ [];
 }

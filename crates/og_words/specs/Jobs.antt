@@ -1,9 +1,21 @@
 -- Which job words ask for.
 use Rattle.std.specs.Prelude.{◌≡◌, ℕ, List, length, map, Option, None, Some, option_map, Result, Ok, IfOk, slice_get, codes, string_bytes, true, false, ⊤}
-use Rattle.clap.specs.Words.{Row}
+use Rattle.std.specs.Borrow.{Bor}
+use Rattle.clap.specs.Words.{Row, Text}
 use Rattle.og_words.specs.Given.{given, text_of, number_of, is_given, texts_of}
 use Rattle.og_words.specs.declared.job.Verb.{Verb}
 use Rattle.og_words.specs.declared.job.Verb.TheVariants as verbs
+use Rattle.og_words.specs.declared.job.Check.{Check}
+use Rattle.og_words.specs.declared.job.Conditions.{Conditions}
+use Rattle.og_words.specs.declared.job.Erase.{Erase}
+use Rattle.og_words.specs.declared.job.Expand.{Expand}
+use Rattle.og_words.specs.declared.job.Explore.{Explore}
+use Rattle.og_words.specs.declared.job.Find.{Find}
+use Rattle.og_words.specs.declared.job.Migrate.{Migrate}
+use Rattle.og_words.specs.declared.job.Notes.{Notes}
+use Rattle.og_words.specs.declared.job.Prove.{Prove}
+use Rattle.og_words.specs.declared.job.Run.{Run}
+use Rattle.og_words.specs.declared.job.Show.{Show}
 use Rattle.og_words.specs.declared.job.Job.{Job}
 use Rattle.og_words.specs.declared.job.Job.TheVariants as jobs
 use Rattle.og_words.specs.declared.job.Usage.{Usage}
@@ -25,62 +37,108 @@ verb_name verbs.Migrate = codes "migrate"
 -- the word that names a job's command; the joined run has none
 abbrev pub command_of : Job → Option (List ℕ)
 command_of jobs.Joined = None
-command_of (jobs.Prove source budget workers json values) = Some (codes "prove")
-command_of (jobs.ProveRuns source budget workers json limit ranges) = Some (codes "prove")
-command_of (jobs.Check source certs workers json) = Some (codes "check")
-command_of (jobs.Notes source budget) = Some (codes "notes")
-command_of (jobs.Show source budget workers) = Some (codes "show")
-command_of (jobs.ShowRuns source budget workers limit ranges) = Some (codes "show")
-command_of (jobs.Conditions source triples smt2 only) = Some (codes "conditions")
-command_of (jobs.Find source budget workers version) = Some (codes "find")
-command_of (jobs.Erase source readable) = Some (codes "erase")
-command_of (jobs.Run source limit erased certs schedule values) = Some (codes "run")
-command_of (jobs.Explore source limit erased json ranges) = Some (codes "explore")
-command_of (jobs.Expand template as_map values) = Some (codes "expand")
-command_of (jobs.Migrate certs) = Some (codes "migrate")
+command_of (jobs.Prove prove) = Some (codes "prove")
+command_of (jobs.Check check) = Some (codes "check")
+command_of (jobs.Notes notes) = Some (codes "notes")
+command_of (jobs.Show show) = Some (codes "show")
+command_of (jobs.Conditions conditions) = Some (codes "conditions")
+command_of (jobs.Find find) = Some (codes "find")
+command_of (jobs.Erase erase) = Some (codes "erase")
+command_of (jobs.Run run) = Some (codes "run")
+command_of (jobs.Explore explore) = Some (codes "explore")
+command_of (jobs.Expand expand) = Some (codes "expand")
+command_of (jobs.Migrate migrate) = Some (codes "migrate")
+
+-- the bytes of the words
+abbrev pub word_bytes : List (Bor Text) → List Text
+word_bytes words = map (λ w. w.now) words
+
+-- runs are looked for where the flag is given, and then through as many moments
+abbrev pub HoldsRuns : List Row → Option ℕ → Type 0
+HoldsRuns rows None = is_given (codes "runs") rows ≡ false
+HoldsRuns rows (Some limit) =
+    (is_given (codes "runs") rows ≡ true) × (number_of (codes "limit") rows ≡ Some limit)
+
+-- ---- the arguments of each command are those that are given
+
+pub record HoldsProve (rows : List Row) (prove : Prove) : Type 0 where
+  pub source : text_of (codes "SOURCE") rows ≡ Some prove.source.now
+  pub budget : number_of (codes "budget") rows ≡ Some prove.budget
+  pub workers : number_of (codes "workers") rows ≡ Some prove.workers
+  pub json : prove.json ≡ is_given (codes "json") rows
+  pub words : word_bytes prove.words.items ≡ texts_of (codes "NAME=INT|LO..HI") rows
+  pub runs : HoldsRuns rows prove.runs
+
+pub record HoldsCheck (rows : List Row) (check : Check) : Type 0 where
+  pub source : text_of (codes "SOURCE") rows ≡ Some check.source.now
+  pub certs : text_of (codes "CERTS") rows ≡ Some check.certs.now
+  pub workers : number_of (codes "workers") rows ≡ Some check.workers
+  pub json : check.json ≡ is_given (codes "json") rows
+
+pub record HoldsNotes (rows : List Row) (notes : Notes) : Type 0 where
+  pub source : text_of (codes "SOURCE") rows ≡ Some notes.source.now
+  pub budget : number_of (codes "budget") rows ≡ Some notes.budget
+
+pub record HoldsShow (rows : List Row) (show : Show) : Type 0 where
+  pub source : text_of (codes "SOURCE") rows ≡ Some show.source.now
+  pub budget : number_of (codes "budget") rows ≡ Some show.budget
+  pub workers : number_of (codes "workers") rows ≡ Some show.workers
+  pub words : word_bytes show.words.items ≡ texts_of (codes "NAME=INT|LO..HI") rows
+  pub runs : HoldsRuns rows show.runs
+
+pub record HoldsConditions (rows : List Row) (conditions : Conditions) : Type 0 where
+  pub source : text_of (codes "SOURCE") rows ≡ Some conditions.source.now
+  pub triples : conditions.triples ≡ is_given (codes "triples") rows
+  pub smt2 : conditions.smt2 ≡ is_given (codes "smt2") rows
+  pub only : option_map (λ n. n.now) conditions.only ≡ text_of (codes "only") rows
+
+pub record HoldsFind (rows : List Row) (find : Find) : Type 0 where
+  pub source : text_of (codes "SOURCE") rows ≡ Some find.source.now
+  pub budget : number_of (codes "budget") rows ≡ Some find.budget
+  pub workers : number_of (codes "workers") rows ≡ Some find.workers
+  pub version : number_of (codes "version") rows ≡ Some find.version
+
+pub record HoldsErase (rows : List Row) (erase : Erase) : Type 0 where
+  pub source : text_of (codes "SOURCE") rows ≡ Some erase.source.now
+  pub readable : erase.readable ≡ is_given (codes "readable") rows
+
+pub record HoldsRun (rows : List Row) (run : Run) : Type 0 where
+  pub source : text_of (codes "SOURCE") rows ≡ Some run.source.now
+  pub limit : number_of (codes "limit") rows ≡ Some run.limit
+  pub erased : run.erased ≡ is_given (codes "erased") rows
+  pub certs : option_map (λ c. c.now) run.certs ≡ text_of (codes "certs") rows
+  pub schedule : option_map (λ s. s.now) run.schedule ≡ text_of (codes "schedule") rows
+  pub values : word_bytes run.values.items ≡ texts_of (codes "NAME=INT") rows
+
+pub record HoldsExplore (rows : List Row) (explore : Explore) : Type 0 where
+  pub source : text_of (codes "SOURCE") rows ≡ Some explore.source.now
+  pub limit : number_of (codes "limit") rows ≡ Some explore.limit
+  pub erased : explore.erased ≡ is_given (codes "erased") rows
+  pub json : explore.json ≡ is_given (codes "json") rows
+  pub ranges : word_bytes explore.ranges.items ≡ texts_of (codes "NAME=INT|LO..HI") rows
+
+pub record HoldsExpand (rows : List Row) (expand : Expand) : Type 0 where
+  pub template : text_of (codes "TEMPLATE") rows ≡ Some expand.template.now
+  pub as_map : expand.as_map ≡ is_given (codes "map") rows
+  pub values : word_bytes expand.values.items ≡ texts_of (codes "NAME=INT") rows
+
+pub record HoldsMigrate (rows : List Row) (migrate : Migrate) : Type 0 where
+  pub certs : text_of (codes "CERTS") rows ≡ Some migrate.certs.now
 
 -- the job holds what is given for each argument of its command
 abbrev pub Holds : List Row → Job → Type 0
 Holds rows jobs.Joined = ⊤
-Holds rows (jobs.Prove source budget workers json values) =
-    (text_of (codes "SOURCE") rows ≡ Some source.now) × (number_of (codes "budget") rows ≡ Some budget)
-    × (number_of (codes "workers") rows ≡ Some workers) × (json ≡ is_given (codes "json") rows) × (is_given (codes "runs") rows ≡ false)
-    × (map (λ w. w.now) values.items ≡ texts_of (codes "NAME=INT|LO..HI") rows)
-Holds rows (jobs.ProveRuns source budget workers json limit ranges) =
-    (text_of (codes "SOURCE") rows ≡ Some source.now) × (number_of (codes "budget") rows ≡ Some budget)
-    × (number_of (codes "workers") rows ≡ Some workers) × (json ≡ is_given (codes "json") rows) × (is_given (codes "runs") rows ≡ true)
-    × (number_of (codes "limit") rows ≡ Some limit) × (map (λ w. w.now) ranges.items ≡ texts_of (codes "NAME=INT|LO..HI") rows)
-Holds rows (jobs.Check source certs workers json) =
-    (text_of (codes "SOURCE") rows ≡ Some source.now) × (text_of (codes "CERTS") rows ≡ Some certs.now)
-    × (number_of (codes "workers") rows ≡ Some workers) × (json ≡ is_given (codes "json") rows)
-Holds rows (jobs.Notes source budget) =
-    (text_of (codes "SOURCE") rows ≡ Some source.now) × (number_of (codes "budget") rows ≡ Some budget)
-Holds rows (jobs.Show source budget workers) =
-    (text_of (codes "SOURCE") rows ≡ Some source.now) × (number_of (codes "budget") rows ≡ Some budget)
-    × (number_of (codes "workers") rows ≡ Some workers) × (is_given (codes "runs") rows ≡ false)
-Holds rows (jobs.ShowRuns source budget workers limit ranges) =
-    (text_of (codes "SOURCE") rows ≡ Some source.now) × (number_of (codes "budget") rows ≡ Some budget)
-    × (number_of (codes "workers") rows ≡ Some workers) × (is_given (codes "runs") rows ≡ true)
-    × (number_of (codes "limit") rows ≡ Some limit) × (map (λ w. w.now) ranges.items ≡ texts_of (codes "NAME=INT|LO..HI") rows)
-Holds rows (jobs.Conditions source triples smt2 only) =
-    (text_of (codes "SOURCE") rows ≡ Some source.now) × (triples ≡ is_given (codes "triples") rows) × (smt2 ≡ is_given (codes "smt2") rows)
-    × (option_map (λ n. n.now) only ≡ text_of (codes "only") rows)
-Holds rows (jobs.Find source budget workers version) =
-    (text_of (codes "SOURCE") rows ≡ Some source.now) × (number_of (codes "budget") rows ≡ Some budget)
-    × (number_of (codes "workers") rows ≡ Some workers) × (number_of (codes "version") rows ≡ Some version)
-Holds rows (jobs.Erase source readable) =
-    (text_of (codes "SOURCE") rows ≡ Some source.now) × (readable ≡ is_given (codes "readable") rows)
-Holds rows (jobs.Run source limit erased certs schedule values) =
-    (text_of (codes "SOURCE") rows ≡ Some source.now) × (number_of (codes "limit") rows ≡ Some limit) × (erased ≡ is_given (codes "erased") rows)
-    × (option_map (λ c. c.now) certs ≡ text_of (codes "certs") rows) × (option_map (λ s. s.now) schedule ≡ text_of (codes "schedule") rows)
-    × (map (λ w. w.now) values.items ≡ texts_of (codes "NAME=INT") rows)
-Holds rows (jobs.Explore source limit erased json ranges) =
-    (text_of (codes "SOURCE") rows ≡ Some source.now) × (number_of (codes "limit") rows ≡ Some limit) × (erased ≡ is_given (codes "erased") rows)
-    × (json ≡ is_given (codes "json") rows) × (map (λ w. w.now) ranges.items ≡ texts_of (codes "NAME=INT|LO..HI") rows)
-Holds rows (jobs.Expand template as_map values) =
-    (text_of (codes "TEMPLATE") rows ≡ Some template.now) × (as_map ≡ is_given (codes "map") rows)
-    × (map (λ w. w.now) values.items ≡ texts_of (codes "NAME=INT") rows)
-Holds rows (jobs.Migrate certs) = text_of (codes "CERTS") rows ≡ Some certs.now
+Holds rows (jobs.Prove prove) = HoldsProve rows prove
+Holds rows (jobs.Check check) = HoldsCheck rows check
+Holds rows (jobs.Notes notes) = HoldsNotes rows notes
+Holds rows (jobs.Show show) = HoldsShow rows show
+Holds rows (jobs.Conditions conditions) = HoldsConditions rows conditions
+Holds rows (jobs.Find find) = HoldsFind rows find
+Holds rows (jobs.Erase erase) = HoldsErase rows erase
+Holds rows (jobs.Run run) = HoldsRun rows run
+Holds rows (jobs.Explore explore) = HoldsExplore rows explore
+Holds rows (jobs.Expand expand) = HoldsExpand rows expand
+Holds rows (jobs.Migrate migrate) = HoldsMigrate rows migrate
 
 -- what words ask for
 pub record IsAsked (words : List (List ℕ)) (asked : Result Job Usage) : Type 0 where

@@ -15,4 +15,6 @@ IsBound old new = (rule : Rule) → IsArg rule old → IsArg (record rule { is_f
 
 -- the command is this one, without commands below it
 abbrev pub IsCommand : Shape → Command → Type 0
-IsCommand shape command = (app_of command ≡ record { top = shape; subs = [] }) × ((out-Command command).has_globals ≡ false)
+IsCommand shape command =
+    (app_of command ≡ record { top = shape; subs = [] })
+    × ((out-Command command).has_globals ≡ false)

@@ -22,8 +22,9 @@ fn with_arg<'a>(
     command: Result<Command<'a>, AllocError>,
     arg: Result<Arg<'a>, AllocError>,
 ) -> Result<Command<'a>, AllocError>
-    ensures { (s : Shape) (rule : Rule) → IfOk command.entry (IsCommand s) → IfOk arg.entry
-        (IsArg rule) → IfOk result (IsCommand (record s { rules = s.rules ++ rule ∷ [] })) }
+    ensures { (s : Shape) (rule : Rule) → IfOk command.entry (IsCommand s)
+        → IfOk arg.entry (IsArg rule)
+        → IfOk result (IsCommand (record s { rules = s.rules ++ rule ∷ [] })) }
 {
     command?.arg(arg?)
 }

@@ -29,130 +29,170 @@ pub enum Job<'a> {
     /// Check one input that holds the source and then the certificates.
     Joined,
     /// Search for the certificates of an outline, or of a template's, and judge it by them.
-    Prove {
-        source: &'a str,
-        /// How many steps each search may make.
-        budget: Budget,
-        /// How many threads work.
-        workers: Workers,
-        /// Whether the report is to be JSON.
-        json: bool,
-        /// Words that give constants their values, where the source is a template.
-        values: Vec<&'a str>,
-    },
-    /// The same, and look for runs that get to states in which conditions are false.
-    ProveRuns {
-        source: &'a str,
-        /// How many steps each search may make.
-        budget: Budget,
-        /// How many threads work.
-        workers: Workers,
-        /// Whether the report is to be JSON.
-        json: bool,
-        /// How many moments may be looked at.
-        limit: MomentLimit,
-        /// Words that give variables their values, or ranges of them, at the start.
-        ranges: Vec<&'a str>,
-    },
+    Prove(Prove<'a>),
     /// Check an outline by its certificates.
-    Check {
-        source: &'a str,
-        certs: &'a str,
-        /// How many threads check.
-        workers: Workers,
-        /// Whether the report is to be JSON.
-        json: bool,
-    },
-    /// Tell what a yes of an outline claims and what it does not.
-    Notes {
-        source: &'a str,
-        /// How many steps each search may make.
-        budget: Budget,
-    },
+    Check(Check<'a>),
+    /// Print what a yes of an outline claims and what it does not.
+    Notes(Notes<'a>),
     /// Search as to prove an outline, and print a page that shows it.
-    Show {
-        source: &'a str,
-        /// How many steps each search may make.
-        budget: Budget,
-        /// How many threads work.
-        workers: Workers,
-    },
-    /// The same, and look for runs that get to states in which conditions are false.
-    ShowRuns {
-        source: &'a str,
-        /// How many steps each search may make.
-        budget: Budget,
-        /// How many threads work.
-        workers: Workers,
-        /// How many moments may be looked at.
-        limit: MomentLimit,
-        /// Words that give variables their values, or ranges of them, at the start.
-        ranges: Vec<&'a str>,
-    },
+    Show(Show<'a>),
     /// Print conditions, with their facts where nothing else is asked for.
-    Conditions {
-        source: &'a str,
-        /// Whether each is to be a triple.
-        triples: bool,
-        /// Whether they are to be a script in SMT-LIB.
-        smt2: bool,
-        /// The word that has the numbers of those that are to be printed; else all are.
-        only: Option<&'a str>,
-    },
+    Conditions(Conditions<'a>),
     /// Print the certificates that are found.
-    Find {
-        source: &'a str,
-        /// How many steps each search may make.
-        budget: Budget,
-        /// How many threads work.
-        workers: Workers,
-        /// In which version the certificates are written.
-        version: CertVersion,
-    },
+    Find(Find<'a>),
     /// Print the program without its auxiliary variables.
-    Erase {
-        source: &'a str,
-        /// Whether relations are to have terms on both sides.
-        readable: bool,
-    },
+    Erase(Erase<'a>),
     /// Run the processes in threads, or by a schedule.
-    Run {
-        source: &'a str,
-        /// How many steps the history may have.
-        limit: RunLimit,
-        /// Whether the program without auxiliary variables is to be run.
-        erased: bool,
-        /// The certificates that are to prove the outline safe first.
-        certs: Option<&'a str>,
-        /// The word that names the processes that are to step, in order.
-        schedule: Option<&'a str>,
-        /// Words that give variables their values at the start.
-        values: Vec<&'a str>,
-    },
+    Run(Run<'a>),
     /// Look through the moments of all runs.
-    Explore {
-        source: &'a str,
-        /// How many moments may be looked at.
-        limit: MomentLimit,
-        /// Whether the program without auxiliary variables is to be explored.
-        erased: bool,
-        /// Whether the report is to be JSON.
-        json: bool,
-        /// Words that give variables their values, or ranges of them, at the start.
-        ranges: Vec<&'a str>,
-    },
+    Explore(Explore<'a>),
     /// Print the outline that a template means.
-    Expand {
-        template: &'a str,
-        /// Whether the places of its notes and statements are to be printed in its place.
-        as_map: bool,
-        /// Words that give constants their values.
-        values: Vec<&'a str>,
-    },
-    /// Print the certificates in version 2 of their format.
-    Migrate {
-        certs: &'a str,
-    },
+    Expand(Expand<'a>),
+    /// Print certificates in version 2 of their format.
+    Migrate(Migrate<'a>),
+}
+
+/// The arguments of `prove`.
+#[derive(Debug, Drop)]
+pub struct Prove<'a> {
+    /// The file of the outline or the template; `-` is standard input.
+    pub source: &'a str,
+    /// How many steps each search may make.
+    pub budget: Budget,
+    /// How many threads work.
+    pub workers: Workers,
+    /// Whether the report is to be JSON.
+    pub json: bool,
+    /// Words that give a template's constants their values and, where runs are looked for,
+    /// variables their values, or ranges of them, at the start.
+    pub words: Vec<&'a str>,
+    /// Where runs are to be looked for that get to states in which conditions are false: how many
+    /// moments may be looked at.
+    pub runs: Option<MomentLimit>,
+}
+
+/// The arguments of `check`.
+#[derive(Debug, Drop)]
+pub struct Check<'a> {
+    /// The file of the outline; `-` is standard input.
+    pub source: &'a str,
+    /// The file of the certificates; `-` is standard input, where the outline is a file.
+    pub certs: &'a str,
+    /// How many threads check.
+    pub workers: Workers,
+    /// Whether the report is to be JSON.
+    pub json: bool,
+}
+
+/// The arguments of `notes`.
+#[derive(Debug, Drop)]
+pub struct Notes<'a> {
+    /// The file of the outline; `-` is standard input.
+    pub source: &'a str,
+    /// How many steps each search may make.
+    pub budget: Budget,
+}
+
+/// The arguments of `show`.
+#[derive(Debug, Drop)]
+pub struct Show<'a> {
+    /// The file of the outline; `-` is standard input.
+    pub source: &'a str,
+    /// How many steps each search may make.
+    pub budget: Budget,
+    /// How many threads work.
+    pub workers: Workers,
+    /// Where runs are looked for, words that give variables their values, or ranges of them, at the
+    /// start.
+    pub words: Vec<&'a str>,
+    /// Where runs are to be looked for that get to states in which conditions are false: how many
+    /// moments may be looked at.
+    pub runs: Option<MomentLimit>,
+}
+
+/// The arguments of `conditions`.
+#[derive(Debug, Drop)]
+pub struct Conditions<'a> {
+    /// The file of the outline; `-` is standard input.
+    pub source: &'a str,
+    /// Whether each is to be a triple.
+    pub triples: bool,
+    /// Whether they are to be a script in SMT-LIB.
+    pub smt2: bool,
+    /// The word that has the numbers of those that are to be printed; else all are.
+    pub only: Option<&'a str>,
+}
+
+/// The arguments of `find`.
+#[derive(Debug, Drop)]
+pub struct Find<'a> {
+    /// The file of the outline; `-` is standard input.
+    pub source: &'a str,
+    /// How many steps each search may make.
+    pub budget: Budget,
+    /// How many threads work.
+    pub workers: Workers,
+    /// In which version the certificates are written.
+    pub version: CertVersion,
+}
+
+/// The arguments of `erase`.
+#[derive(Debug, Drop)]
+pub struct Erase<'a> {
+    /// The file of the outline; `-` is standard input.
+    pub source: &'a str,
+    /// Whether relations are to have terms on both sides.
+    pub readable: bool,
+}
+
+/// The arguments of `run`.
+#[derive(Debug, Drop)]
+pub struct Run<'a> {
+    /// The file of the outline; `-` is standard input.
+    pub source: &'a str,
+    /// How many steps the history may have.
+    pub limit: RunLimit,
+    /// Whether the program without auxiliary variables is to be run.
+    pub erased: bool,
+    /// The file of the certificates that are to prove the outline safe first; `-` as of `check`.
+    pub certs: Option<&'a str>,
+    /// The word that names the processes that are to step, in order.
+    pub schedule: Option<&'a str>,
+    /// Words that give variables their values at the start.
+    pub values: Vec<&'a str>,
+}
+
+/// The arguments of `explore`.
+#[derive(Debug, Drop)]
+pub struct Explore<'a> {
+    /// The file of the outline; `-` is standard input.
+    pub source: &'a str,
+    /// How many moments may be looked at.
+    pub limit: MomentLimit,
+    /// Whether the program without auxiliary variables is to be explored.
+    pub erased: bool,
+    /// Whether the report is to be JSON.
+    pub json: bool,
+    /// Words that give variables their values, or ranges of them, at the start.
+    pub ranges: Vec<&'a str>,
+}
+
+/// The arguments of `expand`.
+#[derive(Debug, Drop)]
+pub struct Expand<'a> {
+    /// The file of the template; `-` is standard input.
+    pub template: &'a str,
+    /// Whether the places of its notes and statements are to be printed in its place.
+    pub as_map: bool,
+    /// Words that give constants their values.
+    pub values: Vec<&'a str>,
+}
+
+/// The arguments of `migrate`.
+#[derive(Debug, Drop)]
+pub struct Migrate<'a> {
+    /// The file of the certificates; `-` is standard input.
+    pub certs: &'a str,
 }
 
 /// Why there is no job.

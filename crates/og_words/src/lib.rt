@@ -7,5 +7,7 @@ mod job;
 mod words;
 
 pub use given::given_words;
-pub use job::{Job, Usage};
+pub use job::{
+    Check, Conditions, Erase, Expand, Explore, Find, Job, Migrate, Notes, Prove, Run, Show, Usage,
+};
 pub use words::read_words;

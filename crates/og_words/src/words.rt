@@ -4,10 +4,13 @@ ghost use Rattle.std.specs.Prelude.{◌≡◌, IfOk, IfSome, Some, true, false, 
 ghost use Rattle.clap.specs.Words.{found_of, rows_of, subcommand_of, subcommand_rows_of};
 ghost use Rattle.og_words.specs.CommandLine.{og};
 ghost use Rattle.og_words.specs.Given.{rows_below, text_of, number_of, is_given, texts_of};
-ghost use Rattle.og_words.specs.Jobs.{verb_name, command_of, Holds, IsAsked};
+ghost use Rattle.og_words.specs.Jobs.{verb_name, command_of, word_bytes, HoldsRuns, Holds, IsAsked};
 
 use crate::commands::program;
-use crate::job::{Job, Usage, Verb};
+use crate::job::{
+    Check, Conditions, Erase, Expand, Explore, Find, Job, Migrate, Notes, Prove, Run, Show, Usage,
+    Verb,
+};
 use clap::ArgMatches;
 use clap::error::{Error, ErrorKind};
 use og_io::{Budget, CertVersion, MomentLimit, RunLimit, Workers};
@@ -76,17 +79,28 @@ fn moments_of(m: &ArgMatches<'_>) -> Option<MomentLimit>
     MomentLimit::new(m.get_one::<u32>("limit")?)
 }
 
+// How many moments may be looked at for runs, where the flag says to look for them.
+fn runs_of(m: &ArgMatches<'_>) -> Option<Option<MomentLimit>>
+    ensures { IfSome result (HoldsRuns (rows_of (found_of m.now))) }
+{
+    if has_flag(m, "runs") {
+        Some(Some(moments_of(m)?))
+    } else {
+        Some(None)
+    }
+}
+
 fn check_job<'a>(m: &ArgMatches<'a>) -> Option<Job<'a>>
     ensures command { IfSome result (λ job. command_of job ≡ Some (verb_name Verb.Check)) }
     ensures holds { IfSome result (Holds (rows_of (found_of m.now))) }
 {
     let (source, certs) = (text_of(m, "SOURCE")?, text_of(m, "CERTS")?);
-    Some(Job::Check {
+    Some(Job::Check(Check {
         source,
         certs,
         workers: workers_of(m)?,
         json: has_flag(m, "json"),
-    })
+    }))
 }
 
 fn notes_job<'a>(m: &ArgMatches<'a>) -> Option<Job<'a>>
@@ -95,7 +109,7 @@ fn notes_job<'a>(m: &ArgMatches<'a>) -> Option<Job<'a>>
 {
     let source = text_of(m, "SOURCE")?;
     let budget = budget_of(m)?;
-    Some(Job::Notes { source, budget })
+    Some(Job::Notes(Notes { source, budget }))
 }
 
 fn conditions_job<'a>(m: &ArgMatches<'a>) -> Option<Job<'a>>
@@ -105,12 +119,12 @@ fn conditions_job<'a>(m: &ArgMatches<'a>) -> Option<Job<'a>>
     let source = text_of(m, "SOURCE")?;
     let (triples, smt2) = (has_flag(m, "triples"), has_flag(m, "smt2"));
     let only = text_of(m, "only");
-    Some(Job::Conditions {
+    Some(Job::Conditions(Conditions {
         source,
         triples,
         smt2,
         only,
-    })
+    }))
 }
 
 fn find_job<'a>(m: &ArgMatches<'a>) -> Option<Job<'a>>
@@ -119,12 +133,12 @@ fn find_job<'a>(m: &ArgMatches<'a>) -> Option<Job<'a>>
 {
     let source = text_of(m, "SOURCE")?;
     let (budget, workers, version) = (budget_of(m)?, workers_of(m)?, version_of(m)?);
-    Some(Job::Find {
+    Some(Job::Find(Find {
         source,
         budget,
         workers,
         version,
-    })
+    }))
 }
 
 fn erase_job<'a>(m: &ArgMatches<'a>) -> Option<Job<'a>>
@@ -133,7 +147,7 @@ fn erase_job<'a>(m: &ArgMatches<'a>) -> Option<Job<'a>>
 {
     let source = text_of(m, "SOURCE")?;
     let readable = has_flag(m, "readable");
-    Some(Job::Erase { source, readable })
+    Some(Job::Erase(Erase { source, readable }))
 }
 
 fn migrate_job<'a>(m: &ArgMatches<'a>) -> Option<Job<'a>>
@@ -141,13 +155,12 @@ fn migrate_job<'a>(m: &ArgMatches<'a>) -> Option<Job<'a>>
     ensures holds { IfSome result (Holds (rows_of (found_of m.now))) }
 {
     let certs = text_of(m, "CERTS")?;
-    Some(Job::Migrate { certs })
+    Some(Job::Migrate(Migrate { certs }))
 }
 
 // The words for an argument, in their order.
 fn texts_of<'a>(alloc: Global, m: &ArgMatches<'a>, name: &str) -> Result<Vec<&'a str>, AllocError>
-    ensures { IfOk result (λ v.
-        map (λ w. w.now) v.items ≡ texts_of name.now (rows_of (found_of m.now))) }
+    ensures { IfOk result (λ v. word_bytes v.items ≡ texts_of name.now (rows_of (found_of m.now))) }
 {
     let mut texts = Vec::new(alloc);
     if let Some(words) = m.get_strs(name) {
@@ -156,169 +169,126 @@ fn texts_of<'a>(alloc: Global, m: &ArgMatches<'a>, name: &str) -> Result<Vec<&'a
     Ok(texts)
 }
 
-// The job of a proof without runs, with the words that give constants their values.
-fn prove_alone<'a>(m: &ArgMatches<'a>, values: Vec<&'a str>) -> Option<Job<'a>>
-    requires alone { is_given (codes "runs") (rows_of (found_of m.now)) ≡ false }
-    requires values { map (λ w. w.now) values.items
-        ≡ texts_of (codes "NAME=INT|LO..HI") (rows_of (found_of m.now)) }
+// The job of `prove` with the words that stand behind its source.
+fn prove_with<'a>(m: &ArgMatches<'a>, words: Vec<&'a str>) -> Option<Job<'a>>
+    requires { word_bytes words.items ≡ texts_of (codes "NAME=INT|LO..HI")
+        (rows_of (found_of m.now)) }
     ensures command { IfSome result (λ job. command_of job ≡ Some (verb_name Verb.Prove)) }
     ensures holds { IfSome result (Holds (rows_of (found_of m.now))) }
 {
     let source = text_of(m, "SOURCE")?;
     let (budget, workers) = (budget_of(m)?, workers_of(m)?);
-    let json = has_flag(m, "json");
-    Some(Job::Prove {
+    let (json, runs) = (has_flag(m, "json"), runs_of(m)?);
+    Some(Job::Prove(Prove {
         source,
         budget,
         workers,
         json,
-        values,
-    })
-}
-
-// The job of a proof with runs, with the words that give variables their ranges.
-fn prove_runs<'a>(m: &ArgMatches<'a>, ranges: Vec<&'a str>) -> Option<Job<'a>>
-    requires runs { is_given (codes "runs") (rows_of (found_of m.now)) ≡ true }
-    requires ranges { map (λ w. w.now) ranges.items
-        ≡ texts_of (codes "NAME=INT|LO..HI") (rows_of (found_of m.now)) }
-    ensures command { IfSome result (λ job. command_of job ≡ Some (verb_name Verb.Prove)) }
-    ensures holds { IfSome result (Holds (rows_of (found_of m.now))) }
-{
-    let (source, json) = (text_of(m, "SOURCE")?, has_flag(m, "json"));
-    let (budget, workers, limit) = (budget_of(m)?, workers_of(m)?, moments_of(m)?);
-    Some(Job::ProveRuns {
-        source,
-        budget,
-        workers,
-        json,
-        limit,
-        ranges,
-    })
+        words,
+        runs,
+    }))
 }
 
 fn prove_job<'a>(alloc: Global, m: &ArgMatches<'a>) -> Result<Option<Job<'a>>, AllocError>
-    ensures command { IfOk result (λ r.
-        IfSome r (λ job. command_of job ≡ Some (verb_name Verb.Prove))) }
+    ensures command { IfOk result
+        (λ r. IfSome r (λ job. command_of job ≡ Some (verb_name Verb.Prove))) }
     ensures holds { IfOk result (λ r. IfSome r (Holds (rows_of (found_of m.now)))) }
 {
-    let words = texts_of(alloc, m, "NAME=INT|LO..HI")?;
-    if has_flag(m, "runs") {
-        return Ok(prove_runs(m, words));
-    }
-    Ok(prove_alone(m, words))
+    Ok(prove_with(m, texts_of(alloc, m, "NAME=INT|LO..HI")?))
 }
 
-// The job of a page without runs.
-fn show_alone<'a>(m: &ArgMatches<'a>) -> Option<Job<'a>>
-    requires { is_given (codes "runs") (rows_of (found_of m.now)) ≡ false }
+// The job of `show` with the words that stand behind its source.
+fn show_with<'a>(m: &ArgMatches<'a>, words: Vec<&'a str>) -> Option<Job<'a>>
+    requires { word_bytes words.items ≡ texts_of (codes "NAME=INT|LO..HI")
+        (rows_of (found_of m.now)) }
     ensures command { IfSome result (λ job. command_of job ≡ Some (verb_name Verb.Show)) }
     ensures holds { IfSome result (Holds (rows_of (found_of m.now))) }
 {
-    Some(Job::Show {
+    Some(Job::Show(Show {
         source: text_of(m, "SOURCE")?,
         budget: budget_of(m)?,
         workers: workers_of(m)?,
-    })
-}
-
-// The job of a page with runs, with the words that give variables their ranges.
-fn show_runs<'a>(m: &ArgMatches<'a>, ranges: Vec<&'a str>) -> Option<Job<'a>>
-    requires runs { is_given (codes "runs") (rows_of (found_of m.now)) ≡ true }
-    requires ranges { map (λ w. w.now) ranges.items
-        ≡ texts_of (codes "NAME=INT|LO..HI") (rows_of (found_of m.now)) }
-    ensures command { IfSome result (λ job. command_of job ≡ Some (verb_name Verb.Show)) }
-    ensures holds { IfSome result (Holds (rows_of (found_of m.now))) }
-{
-    Some(Job::ShowRuns {
-        source: text_of(m, "SOURCE")?,
-        budget: budget_of(m)?,
-        workers: workers_of(m)?,
-        limit: moments_of(m)?,
-        ranges,
-    })
+        words,
+        runs: runs_of(m)?,
+    }))
 }
 
 fn show_job<'a>(alloc: Global, m: &ArgMatches<'a>) -> Result<Option<Job<'a>>, AllocError>
-    ensures command { IfOk result (λ r.
-        IfSome r (λ job. command_of job ≡ Some (verb_name Verb.Show))) }
+    ensures command { IfOk result
+        (λ r. IfSome r (λ job. command_of job ≡ Some (verb_name Verb.Show))) }
     ensures holds { IfOk result (λ r. IfSome r (Holds (rows_of (found_of m.now)))) }
 {
-    if !has_flag(m, "runs") {
-        return Ok(show_alone(m));
-    }
-    Ok(show_runs(m, texts_of(alloc, m, "NAME=INT|LO..HI")?))
+    Ok(show_with(m, texts_of(alloc, m, "NAME=INT|LO..HI")?))
 }
 
-// The job of a run, with the words that give variables their values.
+// The job of `run` with the words that stand behind its source.
 fn run_with<'a>(m: &ArgMatches<'a>, values: Vec<&'a str>) -> Option<Job<'a>>
-    requires { map (λ w. w.now) values.items
-        ≡ texts_of (codes "NAME=INT") (rows_of (found_of m.now)) }
+    requires { word_bytes values.items ≡ texts_of (codes "NAME=INT") (rows_of (found_of m.now)) }
     ensures command { IfSome result (λ job. command_of job ≡ Some (verb_name Verb.Run)) }
     ensures holds { IfSome result (Holds (rows_of (found_of m.now))) }
 {
-    Some(Job::Run {
+    Some(Job::Run(Run {
         source: text_of(m, "SOURCE")?,
         limit: limit_of(m)?,
         erased: has_flag(m, "erased"),
         certs: text_of(m, "certs"),
         schedule: text_of(m, "schedule"),
         values,
-    })
+    }))
 }
 
 fn run_job<'a>(alloc: Global, m: &ArgMatches<'a>) -> Result<Option<Job<'a>>, AllocError>
-    ensures command { IfOk result (λ r.
-        IfSome r (λ job. command_of job ≡ Some (verb_name Verb.Run))) }
+    ensures command { IfOk result
+        (λ r. IfSome r (λ job. command_of job ≡ Some (verb_name Verb.Run))) }
     ensures holds { IfOk result (λ r. IfSome r (Holds (rows_of (found_of m.now)))) }
 {
     Ok(run_with(m, texts_of(alloc, m, "NAME=INT")?))
 }
 
-// The job of an exploration, with the words that give variables their ranges.
+// The job of `explore` with the words that stand behind its source.
 fn explore_with<'a>(m: &ArgMatches<'a>, ranges: Vec<&'a str>) -> Option<Job<'a>>
-    requires { map (λ w. w.now) ranges.items
-        ≡ texts_of (codes "NAME=INT|LO..HI") (rows_of (found_of m.now)) }
+    requires { word_bytes ranges.items ≡ texts_of (codes "NAME=INT|LO..HI")
+        (rows_of (found_of m.now)) }
     ensures command { IfSome result (λ job. command_of job ≡ Some (verb_name Verb.Explore)) }
     ensures holds { IfSome result (Holds (rows_of (found_of m.now))) }
 {
     let (source, limit) = (text_of(m, "SOURCE")?, moments_of(m)?);
     let (erased, json) = (has_flag(m, "erased"), has_flag(m, "json"));
-    Some(Job::Explore {
+    Some(Job::Explore(Explore {
         source,
         limit,
         erased,
         json,
         ranges,
-    })
+    }))
 }
 
 fn explore_job<'a>(alloc: Global, m: &ArgMatches<'a>) -> Result<Option<Job<'a>>, AllocError>
-    ensures command { IfOk result (λ r.
-        IfSome r (λ job. command_of job ≡ Some (verb_name Verb.Explore))) }
+    ensures command { IfOk result
+        (λ r. IfSome r (λ job. command_of job ≡ Some (verb_name Verb.Explore))) }
     ensures holds { IfOk result (λ r. IfSome r (Holds (rows_of (found_of m.now)))) }
 {
     Ok(explore_with(m, texts_of(alloc, m, "NAME=INT|LO..HI")?))
 }
 
-// The job of an expansion, with the words that give constants their values.
+// The job of `expand` with the words that stand behind its source.
 fn expand_with<'a>(m: &ArgMatches<'a>, values: Vec<&'a str>) -> Option<Job<'a>>
-    requires { map (λ w. w.now) values.items
-        ≡ texts_of (codes "NAME=INT") (rows_of (found_of m.now)) }
+    requires { word_bytes values.items ≡ texts_of (codes "NAME=INT") (rows_of (found_of m.now)) }
     ensures command { IfSome result (λ job. command_of job ≡ Some (verb_name Verb.Expand)) }
     ensures holds { IfSome result (Holds (rows_of (found_of m.now))) }
 {
     let template = text_of(m, "TEMPLATE")?;
     let as_map = has_flag(m, "map");
-    Some(Job::Expand {
+    Some(Job::Expand(Expand {
         template,
         as_map,
         values,
-    })
+    }))
 }
 
 fn expand_job<'a>(alloc: Global, m: &ArgMatches<'a>) -> Result<Option<Job<'a>>, AllocError>
-    ensures command { IfOk result (λ r.
-        IfSome r (λ job. command_of job ≡ Some (verb_name Verb.Expand))) }
+    ensures command { IfOk result
+        (λ r. IfSome r (λ job. command_of job ≡ Some (verb_name Verb.Expand))) }
     ensures holds { IfOk result (λ r. IfSome r (Holds (rows_of (found_of m.now)))) }
 {
     Ok(expand_with(m, texts_of(alloc, m, "NAME=INT")?))
@@ -351,8 +321,8 @@ fn named_job<'a>(
     matches: &ArgMatches<'a>,
 ) -> Result<Option<Job<'a>>, AllocError>
     ensures command { IfOk result (λ r. IfSome r (λ job. command_of job ≡ Some name.now)) }
-    ensures holds { IfOk result (λ r.
-        IfSome r (Holds (rows_below (subcommand_rows_of matches.now)))) }
+    ensures holds { IfOk result
+        (λ r. IfSome r (Holds (rows_below (subcommand_rows_of matches.now)))) }
 {
     let Some(verb) = verb_of(name) else {
         return Ok(None);
@@ -425,8 +395,8 @@ fn shown_usage(alloc: Global, words: &[String], kind: ErrorKind) -> Result<Usage
 
 // What the words say by the command line.
 fn matches_of<'a>(alloc: Global, words: &'a [String]) -> Result<ArgMatches<'a>, Usage>
-    ensures { IfOk result (λ m.
-        subcommand_rows_of m ≡ subcommand_of og (map (λ w. string_bytes w) words.entry.now)) }
+    ensures { IfOk result
+        (λ m. subcommand_rows_of m ≡ subcommand_of og (map (λ w. string_bytes w) words.entry.now)) }
 {
     match program(alloc)?.try_get_matches_from(words) {
         Ok(matches) => Ok(matches),
