@@ -5,12 +5,10 @@ use Rattle.og_typed.specs.Syntax.{Program}
 use Rattle.og_cond.specs.Condition.{Condition}
 use Rattle.og_cond.specs.Conditions.{conditions}
 use Rattle.og_cond.specs.Limits.{condition_limit}
-use Rattle.og_cond.specs.declared.fault.TooMany.{TooMany}
 use Rattle.og_typed.specs.Source.{IsSource}
 use Rattle.og_report_text.specs.Told.{Says, IsTold, IsUnread}
 use Rattle.og_report_text.specs.declared.answer.Answer.{Answer}
 use Rattle.og_report_text.specs.declared.fault.InputFault.{InputFault}
-use Rattle.og_report_text.specs.declared.fault.InputFault.TheVariants as faults
 use Rattle.og_judge.specs.declared.entry.Entry.{Entry}
 use Rattle.og_judge.specs.Answered.{IsAnswered}
 use Rattle.og_judge.specs.NotJudged.{IsNotJudged}
@@ -24,7 +22,6 @@ use Rattle.og_report_text.specs.Yes.{SaysUnblocked}
 use Rattle.og_pool.specs.declared.fault.PoolFault.{PoolFault}
 use Rattle.og_command_check.specs.Answers.{report_in, status_of, IsOutput, IsChecked}
 use Rattle.og_command_check.specs.Written.{Writes}
-use Rattle.og_report_text.specs.Told.{HasTooMany}
 use Rattle.og_cert_read.specs.Shared.{shared_text}
 use Rattle.og_cert_text.specs.Files.{Entries}
 use Rattle.og_cert_text.specs.Shown.{shown}
@@ -63,13 +60,6 @@ refused json source certs refusal.Memory (Err e) h told = tt
 pub refused_is_not_0 : (P : Answer → Type 0) (source : List ℕ) (why : Refusal) (r : Result Answer PoolFault) → IsAnswered source why r → IfOk r (λ a. a.status ≡ 0 → P a)
 refused_is_not_0 P source why (Ok a) told = λ zero. let two : a.status ≡ 2 = refusal_status source why (Ok a) told in absurd (omega arith)
 refused_is_not_0 P source why (Err e) told = tt
-
--- an answer such as P says of it, or the line that says that there are too many conditions
-pub too_many : {E : Type 0} (P : Answer → Type 0) (source bytes : List ℕ) (o p : Program) (fault : TooMany) (r : Result Answer E) → bytes ≡ source → p ≡ o
-    → condition_limit < length (conditions p) → IfOk r (IsTold bytes (faults.Conditions fault)) → IfOk r (λ a. P a ⊎ HasTooMany o source a)
-too_many P source bytes o p fault (Err e) same_bytes same h told = tt
-too_many P source bytes o p fault (Ok a) same_bytes same h told =
-    inr (subst (λ (q : Program). condition_limit < length (conditions q)) same h, (fault, subst (λ (s : List ℕ). IsTold s (faults.Conditions fault) a) same_bytes told))
 
 -- the certificates of listed conditions are those of the outline's
 searched_of : (version limit : ℕ) (source : List ℕ) (o : Program) (reply : FindReply) → length (conditions o) ≤ condition_limit → IsSearched version limit (conditions o) reply → IsFoundOf version limit o source reply

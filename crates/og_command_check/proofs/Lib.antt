@@ -1,4 +1,3 @@
-pub mod AllTold
 pub mod Answering
 pub mod Promised
 pub mod Unfinished

@@ -6,7 +6,6 @@ pub mod Inputs
 pub mod Making
 pub mod Names
 pub mod Promised
-pub mod Proving
 pub mod Wrote
 pub mod Unfinished
 pub mod Warrants

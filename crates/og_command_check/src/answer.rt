@@ -28,10 +28,8 @@ fn report(
     in_json: bool,
 ) -> Result<Vec<u8>, AllocError>
     requires { length source.now ≤ 2 ^ 20 }
-    ensures report { IfOk result (λ t.
-        t.items ≡ report_in in_json source.now (entries_of judgement.now)) }
-    ensures unblocked { IfOk result (λ t.
-        SaysUnblocked in_json t.items → is_unblocked (entries_of judgement.now) ≡ true) }
+    ensures report { IfOk result (λ t. t.items ≡ report_in in_json source.now (entries_of judgement.now)) }
+    ensures unblocked { IfOk result (λ t. SaysUnblocked in_json t.items → is_unblocked (entries_of judgement.now) ≡ true) }
 {
     if !in_json {
         return text(alloc, judgement, source);
@@ -49,8 +47,7 @@ fn of_judgement(
     in_json: bool,
 ) -> Result<Answer, AllocError>
     requires { length source.now ≤ 2 ^ 20 }
-    ensures told { IfOk result (Says (report_in in_json source.now (entries_of judgement.now))
-        (status_of (entries_of judgement.now))) }
+    ensures told { IfOk result (Says (report_in in_json source.now (entries_of judgement.now)) (status_of (entries_of judgement.now))) }
     ensures promises { IfOk result (Promises in_json (outline_of judgement.now)) }
 {
     let text = report(alloc, judgement, source, in_json)?;
@@ -68,8 +65,7 @@ fn of_judged(
     in_json: bool,
 ) -> Result<Answer, AllocError>
     requires { length source.now ≤ 2 ^ 20 }
-    ensures told { IfOk result (Says (report_in in_json source.now (entries_of judgement))
-        (status_of (entries_of judgement))) }
+    ensures told { IfOk result (Says (report_in in_json source.now (entries_of judgement)) (status_of (entries_of judgement))) }
     ensures promises { IfOk result (Promises in_json (outline_of judgement)) }
 {
     let answer = of_judgement(alloc, &judgement, source, in_json);
@@ -96,8 +92,7 @@ pub fn checked<G: Gate, H: Threads + Wait + Sync>(
 ) -> Result<Answer, PoolFault>
     ensures answer { IfOk result (IsChecked options.json source.now certs.now) }
     ensures sound { IfOk result (λ answer. answer.status ≡ 0 → IsProvenSource source.now) }
-    ensures unblocked { IfOk result (λ answer. answer.status ≡ 0
-        → SaysUnblocked options.json answer.text.items → IsNeverStuckSource source.now) }
+    ensures unblocked { IfOk result (λ answer. answer.status ≡ 0 → SaysUnblocked options.json answer.text.items → IsNeverStuckSource source.now) }
     ensures spawn { IfErr result (λ e. e ≡ Spawn → 1 < options.workers) }
 {
     let workers = options.workers.count();

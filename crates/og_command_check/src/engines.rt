@@ -54,17 +54,13 @@ pub fn engine<R: Read, S: Read, W: Write, G: Gate, H: Threads + Wait + Sync>(
 ) -> Result<u8, EngineFault>
     ensures answer { IfOk result (λ status. Reads source_of (R.remaining source.old) (λ s. Reads certs_of (S.remaining certs.old) (λ c.
         Writes options.json s c (W.contents out.old) (W.contents out.new) status))) }
-    ensures sound { IfOk result (λ status.
-        status ≡ 0 → Reads source_of (R.remaining source.old) IsProvenSource) }
+    ensures sound { IfOk result (λ status. status ≡ 0 → Reads source_of (R.remaining source.old) IsProvenSource) }
     ensures unblocked { IfOk result (λ status. status ≡ 0 → Wrote (SaysUnblocked options.json) (W.contents out.old) (W.contents out.new)
         → Reads source_of (R.remaining source.old) IsNeverStuckSource) }
-    ensures source { IfOk result (λ _. IfSome (R.remaining source.old)
-        (λ s. Consumes (Some s) (R.remaining source.new) (source_of s))) }
-    ensures certs { IfOk result (λ _. IfSome (S.remaining certs.old)
-        (λ c. Consumes (Some c) (S.remaining certs.new) (certs_of c))) }
+    ensures source { IfOk result (λ _. IfSome (R.remaining source.old) (λ s. Consumes (Some s) (R.remaining source.new) (source_of s))) }
+    ensures certs { IfOk result (λ _. IfSome (S.remaining certs.old) (λ c. Consumes (Some c) (S.remaining certs.new) (certs_of c))) }
     ensures spawn { IfErr result (λ e. e ≡ EngineFault.Spawn → 1 < options.workers) }
-    ensures unwritten { IfErr result
-        (λ e. e ≢ EngineFault.WriteFailed → Keeps (W.contents out.old) (W.contents out.new)) }
+    ensures unwritten { IfErr result (λ e. e ≢ EngineFault.WriteFailed → Keeps (W.contents out.old) (W.contents out.new)) }
     ensures unfinished { IfErr result (λ e. e ≡ EngineFault.WriteFailed → Reads source_of (R.remaining source.old) (λ s. Reads certs_of (S.remaining certs.old) (λ c.
         WritesFront options.json s c (W.contents out.old) (W.contents out.new)))) }
 {
@@ -92,15 +88,12 @@ pub fn engine_joined<R: Read, W: Write, G: Gate, H: Threads + Wait + Sync>(
 ) -> Result<u8, EngineFault>
     ensures answer { IfOk result (λ status. Reads joined_of (R.remaining input.old) (λ i.
         WritesJoined options.json i (W.contents out.old) (W.contents out.new) status)) }
-    ensures sound { IfOk result (λ status.
-        status ≡ 0 → Reads joined_of (R.remaining input.old) HasProvenSource) }
+    ensures sound { IfOk result (λ status. status ≡ 0 → Reads joined_of (R.remaining input.old) HasProvenSource) }
     ensures unblocked { IfOk result (λ status. status ≡ 0 → Wrote (SaysUnblocked options.json) (W.contents out.old) (W.contents out.new)
         → Reads joined_of (R.remaining input.old) HasNeverStuckSource) }
-    ensures input { IfOk result (λ _. IfSome (R.remaining input.old)
-        (λ i. Consumes (Some i) (R.remaining input.new) (joined_of i))) }
+    ensures input { IfOk result (λ _. IfSome (R.remaining input.old) (λ i. Consumes (Some i) (R.remaining input.new) (joined_of i))) }
     ensures spawn { IfErr result (λ e. e ≡ EngineFault.Spawn → 1 < options.workers) }
-    ensures unwritten { IfErr result
-        (λ e. e ≢ EngineFault.WriteFailed → Keeps (W.contents out.old) (W.contents out.new)) }
+    ensures unwritten { IfErr result (λ e. e ≢ EngineFault.WriteFailed → Keeps (W.contents out.old) (W.contents out.new)) }
     ensures unfinished { IfErr result (λ e. e ≡ EngineFault.WriteFailed → Reads joined_of (R.remaining input.old) (λ i.
         WritesJoinedFront options.json i (W.contents out.old) (W.contents out.new))) }
 {

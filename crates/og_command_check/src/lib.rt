@@ -7,7 +7,6 @@ mod engines;
 mod fault;
 mod inputs;
 mod making;
-mod proving;
 mod writing;
 
 pub use answer::checked;
@@ -19,5 +18,4 @@ pub use making::{
     CertificateText, FindReply, FoundCertificates, LongText, Wanted, found, migrated,
 };
 pub use og_report_text::Answer;
-pub use proving::{Search, Texts, proved, proved_outline, tell_all, told_by};
 pub use writing::write_answer;

@@ -39,10 +39,8 @@ pub enum CertificateText {
 impl CertificateText {
     // Writes the text.
     fn write<W: Write>(&self, alloc: Global, out: &mut W) -> Result<(), OutputFault>
-        ensures written { OnOk result (Appends (W.contents out.old) (W.contents out.new)
-            (text_of self.now)) }
-        ensures unfinished { IfErr result
-            (λ _. AppendsFront (W.contents out.old) (W.contents out.new) (text_of self.now)) }
+        ensures written { OnOk result (Appends (W.contents out.old) (W.contents out.new) (text_of self.now)) }
+        ensures unfinished { IfErr result (λ _. AppendsFront (W.contents out.old) (W.contents out.new) (text_of self.now)) }
     {
         match self {
             CertificateText::First(certificates) => certificates.write(alloc, out),
@@ -77,11 +75,9 @@ impl FoundCertificates {
     /// An allocation was refused, or the writer failed; a front of the text may have been written
     /// then.
     pub fn write<W: Write>(&self, alloc: Global, out: &mut W) -> Result<u8, OutputFault>
-        ensures written { OnOk result (Appends (W.contents out.old) (W.contents out.new)
-            (text_of self.now.text)) }
+        ensures written { OnOk result (Appends (W.contents out.old) (W.contents out.new) (text_of self.now.text)) }
         ensures status { IfOk result (λ status. status ≡ status_of_found self.now) }
-        ensures unfinished { IfErr result
-            (λ _. AppendsFront (W.contents out.old) (W.contents out.new) (text_of self.now.text)) }
+        ensures unfinished { IfErr result (λ _. AppendsFront (W.contents out.old) (W.contents out.new) (text_of self.now.text)) }
     {
         self.text.write(alloc, out)?;
         Ok(self.status())
@@ -131,8 +127,7 @@ fn within(bytes: usize, limit: usize) -> Option<usize>
 // What is told of certificates whose text in version 1 is too long.
 fn of_long(alloc: Global, file: &CertFile, limit: usize) -> Result<LongText, AllocError>
     ensures limit { IfOk result (λ long. long.limit ≡ limit) }
-    ensures second { IfOk result (λ long.
-        IsLength limit (length (shared_text (shown file.now))) long.second) }
+    ensures second { IfOk result (λ long. IsLength limit (length (shared_text (shown file.now))) long.second) }
 {
     let text = write_certs_2(alloc, file)?;
     let second = within(text.len(), limit);
@@ -179,8 +174,7 @@ fn in_second<G: Gate, H: Threads + Wait + Sync>(
 
 // A text in version 1, or what is told of certificates for which it is too long.
 fn of_text(alloc: Global, text: FoundText, limit: usize) -> Result<FindReply, AllocError>
-    ensures { IfOk result (λ found.
-        (cs : List condition.Condition) → IsText limit cs text → IsSearched 1 limit cs found) }
+    ensures { IfOk result (λ found. (cs : List condition.Condition) → IsText limit cs text → IsSearched 1 limit cs found) }
 {
     match text {
         FoundText::Within(written) => {
@@ -241,8 +235,7 @@ fn found_of<G: Gate, H: Threads + Wait + Sync>(
     wanted: Wanted,
     gate: &G,
 ) -> Result<FindReply, PoolFault>
-    ensures found { IfOk result (IsFoundOf wanted.version wanted.limit source.now.outline
-        source.now.bytes) }
+    ensures found { IfOk result (IsFoundOf wanted.version wanted.limit source.now.outline source.now.bytes) }
     ensures spawn { IfErr result (λ e. e ≡ Spawn → 1 < wanted.workers) }
 {
     match conditions(alloc, source.outline()) {

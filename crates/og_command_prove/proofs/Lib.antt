@@ -1,7 +1,5 @@
-pub mod Alone
-pub mod Answered
 pub mod Lists
-pub mod PagePromised
-pub mod Promised
-pub mod Told
+pub mod Rows
+pub mod Tables
+pub mod Texts
 pub mod Warranted

@@ -1,6 +1,8 @@
-pub mod Followed
-pub mod Proof
-pub mod Proving
-pub mod Running
-pub mod Showing
-pub mod Shown
+pub mod Answer
+pub mod Found
+pub mod Moments
+pub mod Printed
+pub mod Reply
+pub mod Subject
+pub mod Table
+pub mod Warrants

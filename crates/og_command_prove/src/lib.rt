@@ -1,24 +1,24 @@
-//! The commands `prove` and `show`: of an outline or a template, with or without runs.
+//! The commands `prove` and `show`: a question gives findings, and these are printed in a form.
 //!
-//! specs/Proof.antt says what `prove` promises, Proving.antt, Followed.antt and Shown.antt what it
-//! promises with runs, Showing.antt and Running.antt what `show` does.
+//! A `Prover` is asked by a text and words (asking.rt). That is one outline in its texts
+//! (subject.rt), whose conditions are searched, and followed by runs where some are asked for
+//! (searching.rt, telling.rt). There is one row for each condition (finding.rt), and the rows are
+//! printed (printing.rt, answering.rt). specs/Reply.antt says what is promised of a reply.
 #![tactic(auto)]
 
-mod following;
-mod pages;
-mod pages_with_runs;
-mod proving;
+mod answering;
+mod asking;
+mod finding;
+mod form;
+mod printing;
+mod prover;
 mod reply;
-mod replying;
-mod showing;
-mod sources;
+mod searching;
 mod starting;
+mod subject;
 mod telling;
 
-pub use following::{Followed, follow};
-pub use pages::shown;
-pub use pages_with_runs::shown_with_runs;
+pub use finding::Finding;
+pub use form::ReportForm;
+pub use prover::{Prover, Search};
 pub use reply::Reply;
-pub use replying::proved_with_runs;
-pub use showing::Shows;
-pub use sources::prove;

@@ -1,12 +1,12 @@
-//! What comes of proving with runs.
+//! What comes of a question.
 
 use og_report_text::Answer;
 use og_template_outline::ExpandFault;
 
-/// What comes of proving with runs.
+/// What comes of a question.
 #[derive(Debug, Drop)]
 pub enum Reply<'a> {
-    /// The printed text, and the status.
+    /// What is printed, and the status.
     Answer(Answer),
     /// The line of this fault of a template, and the status.
     Refused(Answer, ExpandFault),

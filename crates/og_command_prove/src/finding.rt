@@ -1,0 +1,68 @@
+//! What is found of the conditions of an outline: one row for each.
+
+ghost use Rattle.std.specs.Prelude.{◌≡◌, map, IfOk};
+
+use og_cond::Condition;
+use og_report_prove::Told;
+use og_report_runs::{Explored, Run};
+use std::alloc::{AllocError, Global};
+
+/// What is found of a condition.
+#[derive(Debug, Drop)]
+pub struct Finding<'a> {
+    /// The condition.
+    pub condition: Condition<'a>,
+    /// Whether it is proved, false in a state, or neither.
+    pub told: Told<'a>,
+    /// What is known of the runs to a state in which it is false; nothing where none is asked for.
+    pub run: Run,
+}
+
+/// What is found of all conditions of an outline.
+#[derive(Drop)]
+pub(crate) struct Findings<'a> {
+    /// A row for each condition, in their order.
+    pub(crate) rows: Vec<Finding<'a>>,
+    /// How far runs were followed, where some were asked for.
+    pub(crate) explored: Option<Explored>,
+}
+
+/// The same by columns, as reports take them.
+#[derive(Drop)]
+pub(crate) struct Table<'a> {
+    pub(crate) conditions: Vec<Condition<'a>>,
+    pub(crate) told: Vec<Told<'a>>,
+    pub(crate) runs: Vec<Run>,
+    pub(crate) explored: Option<Explored>,
+}
+
+impl<'a> Findings<'a> {
+    /// The findings by columns.
+    ///
+    /// # Errors
+    ///
+    /// An allocation was refused.
+    pub(crate) fn into_table(self, alloc: Global) -> Result<Table<'a>, AllocError>
+        ensures conditions { IfOk result (λ t.
+            t.conditions.items ≡ map (λ r. r.condition) self.entry.rows.items) }
+        ensures told { IfOk result (λ t. t.told.items ≡ map (λ r. r.told) self.entry.rows.items) }
+        ensures runs { IfOk result (λ t. t.runs.items ≡ map (λ r. r.run) self.entry.rows.items) }
+        ensures explored { IfOk result (λ t. t.explored ≡ self.entry.explored) }
+    {
+        let Findings { rows, explored } = self;
+        let mut conditions = Vec::with_capacity(alloc, rows.len())?;
+        let mut told = Vec::with_capacity(alloc, rows.len())?;
+        let mut runs = Vec::with_capacity(alloc, rows.len())?;
+        for row in rows {
+            conditions.push(row.condition)?;
+            told.push(row.told)?;
+            runs.push(row.run)?;
+        }
+        Ok(Table {
+            conditions,
+            told,
+            runs,
+            explored,
+        })
+    }
+}

@@ -1,0 +1,12 @@
+//! The forms in which findings are printed.
+
+/// How the findings on the conditions of an outline are printed.
+#[derive(Clone, Copy, Debug, PartialEq, Eq)]
+pub enum ReportForm {
+    /// A text, with the places of the text that was given: an outline, or a template.
+    Text,
+    /// One line of JSON with an LF, with the places of the outline's own text.
+    Json,
+    /// A page of HTML that shows the outline's own text.
+    Page,
+}

@@ -1,0 +1,130 @@
+//! Findings in their forms.
+
+ghost use Rattle.std.specs.Prelude.{◌≡◌, ◌∷◌, ◌++◌, [], true, is_some, map, IfOk};
+ghost use Rattle.og_report_prove.specs.Report.{is_unblocked};
+ghost use Rattle.og_command_prove.specs.Printed.{json_in, text_in, IsAdded, IsPage, IsPrinted, SaysUnblockedIn};
+ghost use Rattle.og_command_prove.specs.Subject.{subject_of, IsShort};
+ghost use Rattle.og_command_prove.specs.Table.{columns_of, IsTable};
+
+use crate::finding::Table;
+use crate::form::ReportForm;
+use crate::subject::Subject;
+use og_report_html::{Additions, about, page, targets, told_runs};
+use std::alloc::{AllocError, Global};
+
+// The findings as a text, with runs where some were asked for.
+fn as_text(alloc: Global, subject: &Subject, table: &Table) -> Result<Vec<u8>, AllocError>
+    requires short { IsShort (subject_of subject.now) }
+    requires table { IsTable table.now }
+    ensures { IfOk result (λ t. t.items ≡ text_in (subject_of subject.now) (columns_of table.now)) }
+{
+    let (outline, source, rows) = (subject.outline, subject.told, subject.rows);
+    let (conditions, told) = (table.conditions.as_slice(), table.told.as_slice());
+    let Some(explored) = table.explored else {
+        return og_report_prove::report(alloc, outline, source, rows, conditions, told);
+    };
+    let runs = table.runs.as_slice();
+    og_report_runs::report(
+        alloc, outline, source, rows, explored, conditions, told, runs,
+    )
+}
+
+// The findings as JSON without an LF, with runs where some were asked for.
+fn as_json(alloc: Global, subject: &Subject, table: &Table) -> Result<Vec<u8>, AllocError>
+    requires short { IsShort (subject_of subject.now) }
+    requires table { IsTable table.now }
+    ensures json { IfOk result (λ t.
+        t.items ≡ json_in (subject_of subject.now) (columns_of table.now)) }
+    ensures says { IfOk result (λ t.
+        SaysUnblockedIn (is_some table.now.explored) ReportForm.Json (t.items ++ 10 ∷ [])
+        → is_unblocked table.now.told.items ≡ true) }
+{
+    let (outline, own) = (subject.outline, subject.own);
+    let (conditions, told) = (table.conditions.as_slice(), table.told.as_slice());
+    let Some(explored) = table.explored else {
+        return og_report_prove::json(alloc, outline, own, conditions, told);
+    };
+    let runs = table.runs.as_slice();
+    og_report_runs::json(alloc, outline, own, explored, conditions, told, runs)
+}
+
+// The same with an LF.
+fn as_line(alloc: Global, subject: &Subject, table: &Table) -> Result<Vec<u8>, AllocError>
+    requires short { IsShort (subject_of subject.now) }
+    requires table { IsTable table.now }
+    ensures line { IfOk result (λ t.
+        t.items ≡ json_in (subject_of subject.now) (columns_of table.now) ++ 10 ∷ []) }
+    ensures says { IfOk result (λ t.
+        SaysUnblockedIn (is_some table.now.explored) ReportForm.Json t.items
+        → is_unblocked table.now.told.items ≡ true) }
+{
+    let mut line = as_json(alloc, subject, table)?;
+    line.push(b'\n')?;
+    Ok(line)
+}
+
+// The page of the findings, with what is added to it.
+fn page_with(
+    alloc: Global,
+    subject: &Subject,
+    table: &Table,
+    additions: Additions,
+) -> Result<Vec<u8>, AllocError>
+    requires short { IsShort (subject_of subject.now) }
+    requires table { IsTable table.now }
+    requires added { IsAdded (subject_of subject.now) (columns_of table.now)
+        additions.before.now (map (λ t. t.items) additions.beneath.now) }
+    ensures { IfOk result (λ t. IsPage (subject_of subject.now) (columns_of table.now) t.items) }
+{
+    let (outline, own) = (subject.outline, subject.own);
+    let (conditions, told) = (table.conditions.as_slice(), table.told.as_slice());
+    let targets = targets(alloc, outline, conditions)?;
+    let text = page(alloc, outline, own, conditions, told, &targets, additions)?;
+    Ok(text)
+}
+
+// The page of the findings; with runs where some were asked for: how far they were followed, and
+// beneath each false condition whether one gets there, and a chart of it.
+fn as_page(alloc: Global, subject: &Subject, table: &Table) -> Result<Vec<u8>, AllocError>
+    requires short { IsShort (subject_of subject.now) }
+    requires table { IsTable table.now }
+    ensures { IfOk result (λ t. IsPage (subject_of subject.now) (columns_of table.now) t.items) }
+{
+    let Some(explored) = table.explored else {
+        return page_with(alloc, subject, table, Additions::none());
+    };
+    let (told, runs) = (table.told.as_slice(), table.runs.as_slice());
+    let before = about(alloc, explored, runs)?;
+    let beneath = told_runs(alloc, subject.outline, subject.own, explored, told, runs)?;
+    let additions = Additions {
+        before: &before,
+        beneath: &beneath,
+    };
+    page_with(alloc, subject, table, additions)
+}
+
+/// The findings in a form.
+///
+/// # Errors
+///
+/// An allocation was refused.
+pub(crate) fn printed(
+    alloc: Global,
+    subject: &Subject,
+    table: &Table,
+    form: ReportForm,
+) -> Result<Vec<u8>, AllocError>
+    requires short { IsShort (subject_of subject.now) }
+    requires table { IsTable table.now }
+    ensures printed { IfOk result (λ t.
+        IsPrinted form (subject_of subject.now) (columns_of table.now) t.items) }
+    ensures says { IfOk result (λ t.
+        SaysUnblockedIn (is_some table.now.explored) form t.items
+        → is_unblocked table.now.told.items ≡ true) }
+{
+    match form {
+        ReportForm::Text => as_text(alloc, subject, table),
+        ReportForm::Json => as_line(alloc, subject, table),
+        ReportForm::Page => as_page(alloc, subject, table),
+    }
+}
