@@ -3,7 +3,7 @@
 
 mod progress;
 
-use og_program::serve_words;
+use og_program::{Program, Streams, serve_words};
 use og_words::given_words;
 use progress::Progress;
 use std::fs::File;
@@ -23,20 +23,21 @@ fn folder(rt: &HostRuntime) -> Option<File> {
 fn main(rt: HostRuntime) -> ExitCode {
     let _streams = (folder(&rt), folder(&rt), folder(&rt));
     let words = given_words(&rt);
-    let (mut input, mut out, mut err) = (rt.stdin(), rt.stdout(), rt.stderr());
-    if matches!(&words, Ok(words) if words.is_empty()) && input.is_terminal() {
-        let _ = err.write_all(WAITING.as_bytes());
+    let mut streams = Streams {
+        input: rt.stdin(),
+        out: rt.stdout(),
+        err: rt.stderr(),
+    };
+    if matches!(&words, Ok(words) if words.is_empty()) && streams.input.is_terminal() {
+        let _ = streams.err.write_all(WAITING.as_bytes());
     }
     let progress = Progress::new(&rt);
-    let ended = serve_words(
-        &rt,
-        rt.alloc(),
-        &rt,
-        &progress,
-        words,
-        &mut input,
-        &mut out,
-        &mut err,
-    );
+    let program = Program {
+        rt: &rt,
+        alloc: rt.alloc(),
+        files: &rt,
+        gate: &progress,
+    };
+    let ended = serve_words(&program, words, &mut streams);
     ExitCode::from(ended.status)
 }

@@ -7,7 +7,7 @@ use crate::part::Part;
 use crate::pieces::{Input, Output};
 use crate::way::{WRONG, Way, ways};
 use og_pool::OpenGate;
-use og_program::serve_words;
+use og_program::{Program, Streams, serve_words};
 use std::alloc::{AllocError, Global};
 use std::sync::Wait;
 use std::thread::Threads;
@@ -135,11 +135,19 @@ impl Case {
     ) -> Result<Ends, AllocError> {
         let (alloc, size) = (folder.alloc(), way.size());
         let words = Ok(self.words(alloc, way)?);
-        let mut input = Input::new(&self.input, size);
-        let (mut out, mut err) = (Output::new(alloc, size), Output::new(alloc, size));
-        let ended = serve_words(
-            threads, alloc, folder, &OpenGate, words, &mut input, &mut out, &mut err,
-        );
+        let program = Program {
+            rt: threads,
+            alloc,
+            files: folder,
+            gate: &OpenGate,
+        };
+        let mut streams = Streams {
+            input: Input::new(&self.input, size),
+            out: Output::new(alloc, size),
+            err: Output::new(alloc, size),
+        };
+        let ended = serve_words(&program, words, &mut streams);
+        let Streams { out, err, .. } = streams;
         Ok(Ends {
             status: ended.status,
             out: out.into_bytes(),

@@ -1,5 +1,5 @@
 pub mod Faults
-pub mod Shown
+pub mod Along
 pub mod Ending
 pub mod Status
 pub mod Words

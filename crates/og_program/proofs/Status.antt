@@ -1,230 +1,194 @@
 -- What status 0 of the program says.
-use Rattle.std.proofs.Common.{◌≡◌, inl, inr, ℕ, List, Bool, true, false, None, Some, Option, map, sym, ap, subst, arith, ◌∙◌}
-use Rattle.std.specs.Prelude.{⊤}
+use Rattle.std.proofs.Common.{◌≡◌, inl, inr, ℕ, List, Bool, true, false, None, Some, Option, sym, ap, subst, arith, ◌∙◌}
+use Rattle.std.specs.Prelude.{⊤, IfSome, IfNone, is_some, codes}
 use Rattle.std.specs.Borrow.{Bor}
-use Rattle.og_report_text.specs.declared.answer.Answer.{Answer}
-use Rattle.og_command_check.proofs.Promised.{written_text, wrote_unblocked}
-use Rattle.og_template_outline.specs.declared.expanding.Reply.{Reply as Proving}
-use Rattle.og_template_outline.specs.declared.expanding.Reply.TheVariants as provings
-use Rattle.og_command_prove.specs.Proof.{IsProvenText, WarrantsReply, WarrantsText}
 use Rattle.og_report_text.specs.Yes.{SaysUnblocked}
-use Rattle.og_template.specs.Front.{is_template}
-use Rattle.og_command_run.proofs.Answering.{run_proven}
-use Rattle.og_command_run.specs.declared.reply.Reply.{Reply}
-use Rattle.og_command_run.specs.declared.reply.Reply.TheVariants as replies
-use Rattle.og_command_run.specs.Running.{IsRanProved}
+use Rattle.og_report_text.specs.declared.answer.Answer.{Answer}
 use Rattle.og_judge.specs.Proven.{IsProvenSource}
+use Rattle.og_judge.specs.NeverStuck.{IsNeverStuckSource}
+use Rattle.og_command_check.specs.Inputs.{source_of, Reads}
+use Rattle.og_command_check.specs.Wrote.{Wrote}
+use Rattle.og_template.specs.Front.{is_template}
+use Rattle.og_template_outline.specs.Expanded.{HoldsBy, HoldsOf}
+use Rattle.og_command_check.proofs.Promised.{written_text, wrote_unblocked}
+use Rattle.og_command_run.proofs.Answering.{run_proven}
+use Rattle.og_command_run.specs.Running.{IsRanProved}
+use Rattle.og_command_run.specs.declared.reply.Reply.{Reply as Running}
+use Rattle.og_command_run.specs.declared.reply.Reply.TheVariants as runnings
+use Rattle.og_command_prove.specs.Printed.{SaysUnblockedIn}
+use Rattle.og_command_prove.specs.Warrants.{WarrantsAnswer, WarrantsBy}
+use Rattle.og_command_prove.specs.declared.form.ReportForm.{ReportForm}
+use Rattle.og_command_prove.specs.declared.form.ReportForm.TheVariants as reports
+use Rattle.og_command_prove.specs.declared.reply.Reply.{Reply as Proving}
+use Rattle.og_command_prove.specs.declared.reply.Reply.TheVariants as provings
+use Rattle.og_report_refusal.specs.Remarks.{IsConditionsRemark, IsTooManyRemark}
 use Rattle.og_report_refusal.specs.Starting.{IsProvedRunRemark}
-use Rattle.og_command_explore.specs.declared.exploring.Reply.{Reply as Exploring}
-use Rattle.og_command_explore.specs.declared.exploring.Reply.TheVariants as explorings
-use Rattle.og_command_prove.specs.Proving as proving
-use Rattle.og_command_prove.specs.declared.reply.Reply.{Reply as Reaching}
-use Rattle.og_command_prove.specs.declared.reply.Reply.TheVariants as reachings
-use Rattle.og_command_prove.proofs.Promised.{reply_proven}
-use Rattle.og_command_prove.proofs.PagePromised.{shown_proven, shown_runs_proven}
-use Rattle.og_command_prove.specs.Running.{IsShowingRuns}
-use Rattle.og_report_refusal.specs.Remarks.{IsConditionsRemark}
 use Rattle.og_report_refusal.specs.Values.{IsValueRemark}
 use Rattle.og_report_refusal.specs.declared.values.Gives.TheVariants as gives
+use Rattle.og_words.specs.Jobs.{word_bytes}
 use Rattle.og_words.specs.declared.job.Job.{Job}
 use Rattle.og_words.specs.declared.job.Job.TheVariants as jobs
-use Rattle.og_program.specs.Served.{Remarks, IsExpansionNote, OnTold, OnBad, TellsMade, Comes, Does, EndsJob, IsWordRemark, Follows, FollowsExploring, FollowsProving, FollowsRuns, TellsRan, TellsProved, TellsProvedBy, IsProvenIn, IsNeverStuckIn}
-use Rattle.og_program.specs.Told.{Noted, Says}
+use Rattle.og_words.specs.declared.job.Prove.{Prove}
+use Rattle.og_words.specs.declared.job.Run.{Run}
+use Rattle.og_words.specs.declared.job.Show.{Show}
+use Rattle.og_program.specs.World.{World, Text, Stream, Trace, named, bytes_in}
+use Rattle.og_program.specs.Sound.{IsProven, IsProvenFile, IsProvenText}
+use Rattle.og_program.specs.Unblocked.{PrintsUnblocked, IsNeverStuck}
+use Rattle.og_program.specs.Written.{Gets, SaysWhy, Writes}
+use Rattle.og_program.specs.Beside.{Remarks, Noted, OnReport, OnBadValue}
+use Rattle.og_program.specs.Commands.{report_form, IsExpansionNote, IsCheckReport, IsRunReport, IsWordRemark, AnswersBy, FollowsProving, FollowsRunning, Proves, Shows, RunsBy, IsOutcome}
+use Rattle.og_program.specs.Served.{EndsJob}
 use Rattle.og_program.specs.declared.ended.Ended.{Ended}
 use Rattle.og_program.specs.declared.outcome.Outcome.{Outcome}
 use Rattle.og_program.specs.declared.outcome.Outcome.TheVariants as outcomes
-use Rattle.og_program.specs.declared.outcome.Told.{Told}
+use Rattle.og_program.specs.declared.outcome.Report.{Report}
 
--- ---- of an answer
+-- ---- of what is written
 
--- a run by certificates that ended with status 0
-proven_run : (limit : ℕ) (source certs : List ℕ) (words : List (List ℕ)) (R : Option (List ℕ) → Type 0) (V : List ℕ → List ℕ → Type 0) (reply : Reply) (t : Told) → IsRanProved limit source certs words reply
-    → Follows R V reply (outcomes.Told t) → t.answer.status ≡ 0 → IsProvenSource source
-proven_run limit source certs words R V (replies.Told ran) t is follows zero =
-    run_proven limit source certs words (replies.Told ran) is (inl (ap (λ a. a.status) (sym follows.0) ∙ zero))
-proven_run limit source certs words R V (replies.BadValue word) t is follows zero = absurd follows
-proven_run limit source certs words R V (replies.NotMade line) t is follows zero = let never : outcomes.Told t ≡ outcomes.NotMade line = follows in absurd (cc)
+three_not_0 : (text : List ℕ) (err : Stream) (ended : Ended) → SaysWhy text 3 err ended → ended.status ≡ 0 → ⊥
+three_not_0 text err ended (inl told) zero = let three = told.0 in omega (arith, three, zero)
+three_not_0 text err ended (inr told) zero = let four = told.0 in omega (arith, four, zero)
 
--- what is written as it is made: certificates and listings
-abbrev IsMade : Outcome → Type 0
-IsMade (outcomes.Told t) = ⊥
-IsMade (outcomes.Found t) = ⊤
-IsMade (outcomes.Listing text) = ⊤
-IsMade (outcomes.BadValue bad) = ⊥
-IsMade (outcomes.NotMade line) = ⊥
+four_not_0 : (text : List ℕ) (err : Stream) (ended : Ended) → SaysWhy text 4 err ended → ended.status ≡ 0 → ⊥
+four_not_0 text err ended (inl told) zero = let four = told.0 in omega (arith, four, zero)
+four_not_0 text err ended (inr told) zero = let four = told.0 in omega (arith, four, zero)
 
-is_made : (o : Outcome) (out out_after err err_after : Option (List ℕ)) (ended : Ended) → TellsMade o out out_after err err_after ended → IsMade o
-is_made (outcomes.Told t) out out_after err err_after ended told = told
-is_made (outcomes.Found t) out out_after err err_after ended told = tt
-is_made (outcomes.Listing text) out out_after err err_after ended told = tt
-is_made (outcomes.BadValue bad) out out_after err err_after ended told = told
-is_made (outcomes.NotMade line) out out_after err err_after ended told = told
+-- what status 0 says of an outcome that was written: a report is whole and has it, and a word or a step is not refused
+abbrev IsDone : Stream → Outcome → Type 0
+IsDone out (outcomes.Report r) = (r.answer.status ≡ 0) × Gets out r.answer.text.items
+IsDone out (outcomes.Certificates certs) = ⊤
+IsDone out (outcomes.Listing text) = ⊤
+IsDone out (outcomes.BadValue bad) = ⊥
+IsDone out (outcomes.NotMade line) = ⊥
 
--- it is no answer, and no word that gives no value
-no_answer : (P : Told → Type 0) (o : Outcome) → IsMade o → OnTold P o → ⊥
-no_answer P (outcomes.Told t) made h = made
-no_answer P (outcomes.Found t) made h = h
-no_answer P (outcomes.Listing text) made h = h
-no_answer P (outcomes.BadValue bad) made h = made
-no_answer P (outcomes.NotMade line) made h = made
+done : (o : Outcome) (t : Trace) → Writes o t → t.ended.status ≡ 0 → IsDone t.out o
+done (outcomes.Report r) t (inl prints) zero = (sym prints.1 ∙ zero, prints.0)
+done (outcomes.Report r) t (inr fails) zero = absurd (four_not_0 _ t.err t.ended fails.1.1.1 zero)
+done (outcomes.Certificates certs) t writes zero = tt
+done (outcomes.Listing text) t writes zero = tt
+done (outcomes.BadValue bad) t writes zero = three_not_0 _ t.err t.ended writes.1 zero
+done (outcomes.NotMade line) t writes zero = let three = writes.1.0 in omega (arith, three, zero)
 
-no_bad : (V : List ℕ → List ℕ → Type 0) (word : Bor (List ℕ)) (o : Outcome) → IsMade o → OnBad V word o → ⊥
-no_bad V word (outcomes.Told t) made h = made
-no_bad V word (outcomes.Found t) made h = h
-no_bad V word (outcomes.Listing text) made h = h
-no_bad V word (outcomes.BadValue bad) made h = made
-no_bad V word (outcomes.NotMade line) made h = made
+-- ---- of a report
 
--- a run comes to nothing of this kind
-no_run : (R : Option (List ℕ) → Type 0) (V : List ℕ → List ℕ → Type 0) (reply : Reply) (o : Outcome) → IsMade o → Follows R V reply o → ⊥
-no_run R V (replies.Told ran) o made follows = no_answer (TellsRan R ran) o made follows
-no_run R V (replies.BadValue word) o made follows = no_bad V word o made follows
-no_run R V (replies.NotMade line) o made follows = subst IsMade follows made
+on_report : (P : Report → Type 0) (out : Stream) (o : Outcome) → OnReport P o → IsDone out o
+    → (r : Report) × P r × (r.answer.status ≡ 0) × Gets out r.answer.text.items
+on_report P out (outcomes.Report r) h done = (r, h, done.0, done.1)
+on_report P out (outcomes.Certificates certs) h done = absurd h
+on_report P out (outcomes.Listing text) h done = absurd h
+on_report P out (outcomes.BadValue bad) h done = absurd h
+on_report P out (outcomes.NotMade line) h done = absurd h
 
--- nor does a proof
-no_proof : (name source : List ℕ) (reply : Proving) (o : Outcome) → IsMade o → FollowsProving name source reply o → ⊥
-no_proof name source (provings.Answer a) o made follows = no_answer (TellsProved name source a) o made follows
-no_proof name source (provings.Refused a fault) o made follows = no_answer (λ t. (t.answer ≡ a) × Noted (IsExpansionNote name source fault) t) o made follows
-no_proof name source (provings.BadValue word) o made follows = no_bad (λ _ _. ⊥) word o made follows
+-- a word that gives no value is refused
+no_word : (V : List ℕ → List ℕ → Type 0) (word : Bor (List ℕ)) (out : Stream) (o : Outcome) → OnBadValue V word o → IsDone out o → ⊥
+no_word V word out (outcomes.Report r) h done = h
+no_word V word out (outcomes.Certificates certs) h done = h
+no_word V word out (outcomes.Listing text) h done = h
+no_word V word out (outcomes.BadValue bad) h done = done
+no_word V word out (outcomes.NotMade line) h done = h
 
--- what a reply to `prove` says is said by what is told
-told_answer : (b : Bool) (name source : List ℕ) (a : Answer) (t : Told) → TellsProvedBy b name source a t → t.answer ≡ a
-told_answer true name source a t h = h.0
-told_answer false name source a t h = h.0
+-- a report of this answer, whatever stands beside it
+abbrev IsAnswer : Stream → Answer → Type 0
+IsAnswer out answer = (answer.status ≡ 0) × Gets out answer.text.items
 
-proved_warrants : (json : Bool) (name source : List ℕ) (reply : Proving) (t : Told) → WarrantsReply json source reply → FollowsProving name source reply (outcomes.Told t)
-    → WarrantsText json source t.answer.text.items t.answer.status
-proved_warrants json name source (provings.Answer a) t w follows =
-    subst (λ (x : Answer). WarrantsText json source x.text.items x.status) (sym (told_answer (is_template source) name source a t follows)) w
-proved_warrants json name source (provings.Refused a fault) t w follows = subst (λ (x : Answer). WarrantsText json source x.text.items x.status) (sym follows.0) w
-proved_warrants json name source (provings.BadValue word) t w follows = absurd follows
+answered : (X : Report → Type 0) (answer : Answer) (out : Stream) (o : Outcome) → OnReport (λ r. (r.answer ≡ answer) × X r) o → IsDone out o → IsAnswer out answer
+answered X answer out o h done =
+    let r = on_report (λ r. (r.answer ≡ answer) × X r) out o h done in
+    subst (IsAnswer out) r.1.0 (r.2, r.3)
 
--- a proof with runs that ended with status 0
-runs_proven : (json : Bool) (name source : List ℕ) (words : List (List ℕ)) (reply : Reaching) (t : Told) → proving.IsReply json source words reply → FollowsRuns name source reply (outcomes.Told t)
-    → t.answer.status ≡ 0 → IsProvenText source
-runs_proven json name source words (reachings.Answer a) t is follows zero =
-    reply_proven json source words (reachings.Answer a) is (ap (λ x. x.status) (sym (told_answer (is_template source) name source a t follows)) ∙ zero)
-runs_proven json name source words (reachings.Refused a fault) t is follows zero =
-    reply_proven json source words (reachings.Refused a fault) is (ap (λ x. x.status) (sym follows.0) ∙ zero)
-runs_proven json name source words (reachings.BadConstant word) t is follows zero = absurd follows
-runs_proven json name source words (reachings.BadStart word own) t is follows zero = absurd follows
+answered_by : (b : Bool) (source : Text) (answer : Answer) (out : Stream) (o : Outcome) → AnswersBy b source answer o → IsDone out o → IsAnswer out answer
+answered_by true source answer out o h done = answered (Remarks (IsTooManyRemark source.name source.bytes)) answer out o h done
+answered_by false source answer out o h done = answered (Remarks (IsConditionsRemark source.name source.bytes)) answer out o h done
 
-no_proof_with_runs : (name source : List ℕ) (reply : Reaching) (o : Outcome) → IsMade o → FollowsRuns name source reply o → ⊥
-no_proof_with_runs name source (reachings.Answer a) o made follows = no_answer (TellsProved name source a) o made follows
-no_proof_with_runs name source (reachings.Refused a fault) o made follows = no_answer (λ t. (t.answer ≡ a) × Noted (IsExpansionNote name source fault) t) o made follows
-no_proof_with_runs name source (reachings.BadConstant word) o made follows = no_bad (λ _ _. ⊥) word o made follows
-no_proof_with_runs name source (reachings.BadStart word own) o made follows = no_bad (IsValueRemark gives.Ranges own.items) word o made follows
+-- ---- of a command that proves
 
--- a page with runs that ended with status 0
-show_proven : (source : List ℕ) (words : List (List ℕ)) (R : Option (List ℕ) → Type 0) (V : List ℕ → List ℕ → Type 0) (reply : Exploring) (t : Told) → IsShowingRuns source words reply
-    → FollowsExploring R V reply (outcomes.Told t) → t.answer.status ≡ 0 → IsProvenSource source
-show_proven source words R V (explorings.Answer a) t is follows zero = shown_runs_proven source a is (ap (λ a. a.status) (sym follows.0) ∙ zero)
-show_proven source words R V (explorings.BadValue word) t is follows zero = absurd follows
+-- what an answer to `prove` or `show` warrants
+warranted : (b : Bool) (form : ReportForm) (runs : Bool) (text : List ℕ) (answer : Answer) (out : Stream) → WarrantsAnswer b form runs text answer → IsAnswer out answer
+    → HoldsBy b IsProvenSource text × (Wrote (SaysUnblockedIn runs form) out.before out.after → HoldsBy b IsNeverStuckSource text)
+warranted b form runs text answer out w is =
+    (w.0 is.0, λ wrote. w.1 is.0 (written_text (SaysUnblockedIn runs form) out.before out.after answer.text.items is.1 wrote))
 
-no_page : (R : Option (List ℕ) → Type 0) (V : List ℕ → List ℕ → Type 0) (reply : Exploring) (o : Outcome) → IsMade o → FollowsExploring R V reply o → ⊥
-no_page R V (explorings.Answer a) o made follows = no_answer (λ t. (t.answer ≡ a) × Remarks R t) o made follows
-no_page R V (explorings.BadValue word) o made follows = no_bad V word o made follows
+proved : (b : Bool) (form : ReportForm) (runs : Bool) (source : Text) (reply : Proving) (out : Stream) (o : Outcome) → WarrantsBy b form runs source.bytes reply
+    → FollowsProving b source reply o → IsDone out o
+    → HoldsBy b IsProvenSource source.bytes × (Wrote (SaysUnblockedIn runs form) out.before out.after → HoldsBy b IsNeverStuckSource source.bytes)
+proved b form runs source (provings.Answer a) out o w follows done =
+    warranted b form runs source.bytes a out w (answered_by b source a out o follows done)
+proved b form runs source (provings.Refused a fault) out o w follows done =
+    warranted b form runs source.bytes a out w (answered (Noted (IsExpansionNote source fault)) a out o follows done)
+proved b form runs source (provings.BadConstant word) out o w follows done = absurd (no_word (λ _ _. ⊥) word out o follows done)
+proved b form runs source (provings.BadStart word own) out o w follows done =
+    absurd (no_word (IsValueRemark gives.Ranges own.items) word out o follows done)
 
-sound_answer : (files : List ℕ → Option (List ℕ)) (input : Option (List ℕ)) (job : Job) (before after err err_after : Option (List ℕ)) (ended : Ended) → Does files input job before after err err_after ended
-    → ended.status ≡ 0 → IsProvenIn files input job
-sound_answer files input jobs.Joined before after err err_after ended h zero =
-    let w = h.1.2 in (h.1.0, h.1.1, (w.0, w.1, w.2, w.3.1.0 (sym h.2.1 ∙ zero)))
-sound_answer files input (jobs.Prove source budget workers json values) before after err err_after ended h zero =
-    let r = h.1.2 in (h.1.0, h.1.1, (proved_warrants json source.now h.1.0 r.0 h.0 r.2 r.3).0 (sym h.2.1 ∙ zero))
-sound_answer files input (jobs.ProveRuns source budget workers json limit ranges) before after err err_after ended h zero =
-    let r = h.1.2 in (h.1.0, h.1.1, runs_proven json source.now h.1.0 (map (λ w. w.now) ranges.items) r.0 h.0 r.1 r.2 (sym h.2.1 ∙ zero))
-sound_answer files input (jobs.Check source certs workers json) before after err err_after ended h zero = (h.1.0, h.1.1, h.1.2.2.1.0 (sym h.2.1 ∙ zero))
-sound_answer files input (jobs.Notes source budget) before after err err_after ended h zero = tt
-sound_answer files input (jobs.Show source budget workers) before after err err_after ended h zero = (h.1.0, h.1.1, shown_proven h.1.0 h.0.answer h.1.2.0 (sym h.2.1 ∙ zero))
-sound_answer files input (jobs.ShowRuns source budget workers limit ranges) before after err err_after ended h zero =
-    let r = h.1.2 in (h.1.0, h.1.1, show_proven h.1.0 (map (λ w. w.now) ranges.items) (IsConditionsRemark source.now h.1.0) (IsValueRemark gives.Ranges h.1.0) r.0 h.0 r.1 r.2 (sym h.2.1 ∙ zero))
-sound_answer files input (jobs.Conditions source triples smt2 only) before after err err_after ended h zero = tt
-sound_answer files input (jobs.Find source budget workers version) before after err err_after ended h zero = tt
-sound_answer files input (jobs.Erase source readable) before after err err_after ended h zero = tt
-sound_answer files input (jobs.Run source limit erased None schedule values) before after err err_after ended h zero = tt
-sound_answer files input (jobs.Run source limit erased (Some certs) schedule values) before after err err_after ended h zero =
-    let r = h.1.2.2 in (h.1.0, h.1.1, proven_run limit h.1.0 h.1.2.0 (map (λ x. x.now) values.items) (IsProvedRunRemark source.now certs.now h.1.0 h.1.2.0 (map (λ x. x.now) values.items)) (IsWordRemark h.1.0 None) r.0 h.0 r.1 r.2 (sym h.2.1 ∙ zero))
-sound_answer files input (jobs.Explore source limit erased json ranges) before after err err_after ended h zero = tt
-sound_answer files input (jobs.Expand template as_map values) before after err err_after ended h zero = tt
-sound_answer files input (jobs.Migrate certs) before after err err_after ended h zero = tt
+-- a text or JSON without runs says it as a check does
+says_in : (json : Bool) (before after : Option (List ℕ)) → Wrote (SaysUnblocked json) before after → Wrote (SaysUnblockedIn false (report_form json)) before after
+says_in true before after wrote = wrote
+says_in false before after wrote = wrote
 
-unblocked_answer : (files : List ℕ → Option (List ℕ)) (input : Option (List ℕ)) (job : Job) (before after err err_after : Option (List ℕ)) (ended : Ended) → Does files input job before after err err_after ended
-    → ended.status ≡ 0 → IsNeverStuckIn files input before after job
-unblocked_answer files input jobs.Joined before after err err_after ended h zero = λ wrote.
-    let w = h.1.2 in (h.1.0, h.1.1, (w.0, w.1, w.2, wrote_unblocked false w.0 h.0.answer.text.items before after h.0.answer.status w.3.1 h.2.0 (sym h.2.1 ∙ zero) wrote))
-unblocked_answer files input (jobs.Prove source budget workers json values) before after err err_after ended h zero = λ wrote.
-    let r = h.1.2 in
-    (h.1.0, h.1.1, (proved_warrants json source.now h.1.0 r.0 h.0 r.2 r.3).1 (sym h.2.1 ∙ zero) (written_text (SaysUnblocked json) before after h.0.answer.text.items h.2.0 wrote))
-unblocked_answer files input (jobs.ProveRuns source budget workers json limit ranges) before after err err_after ended h zero = tt
-unblocked_answer files input (jobs.Check source certs workers json) before after err err_after ended h zero = λ wrote.
-    (h.1.0, h.1.1, wrote_unblocked json h.1.0 h.0.answer.text.items before after h.0.answer.status h.1.2.2.1 h.2.0 (sym h.2.1 ∙ zero) wrote)
-unblocked_answer files input (jobs.Notes source budget) before after err err_after ended h zero = tt
-unblocked_answer files input (jobs.Show source budget workers) before after err err_after ended h zero = tt
-unblocked_answer files input (jobs.ShowRuns source budget workers limit ranges) before after err err_after ended h zero = tt
-unblocked_answer files input (jobs.Conditions source triples smt2 only) before after err err_after ended h zero = tt
-unblocked_answer files input (jobs.Find source budget workers version) before after err err_after ended h zero = tt
-unblocked_answer files input (jobs.Erase source readable) before after err err_after ended h zero = tt
-unblocked_answer files input (jobs.Run source limit erased certs schedule values) before after err err_after ended h zero = tt
-unblocked_answer files input (jobs.Explore source limit erased json ranges) before after err err_after ended h zero = tt
-unblocked_answer files input (jobs.Expand template as_map values) before after err err_after ended h zero = tt
-unblocked_answer files input (jobs.Migrate certs) before after err err_after ended h zero = tt
+unblocked_by : (runs : Option ℕ) (json : Bool) (out : Stream) (P : Type 0) → (Wrote (SaysUnblockedIn (is_some runs) (report_form json)) out.before out.after → P)
+    → IfNone runs (PrintsUnblocked json out → P)
+unblocked_by None json out P f = λ wrote. f (says_in json out.before out.after wrote)
+unblocked_by (Some limit) json out P f = tt
 
--- ---- of what is written as it is made
+ran_proved : (limit : ℕ) (source certs : List ℕ) (words : List (List ℕ)) (R : Option (List ℕ) → Type 0) (V : List ℕ → List ℕ → Type 0) (reply : Running) (out : Stream) (o : Outcome)
+    → IsRanProved limit source certs words reply → FollowsRunning R V reply o → IsDone out o → IsProvenSource source
+ran_proved limit source certs words R V (runnings.Told ran) out o is follows done =
+    let r = on_report (IsRunReport R ran) out o follows done in
+    run_proven limit source certs words (runnings.Told ran) is (inl (ap (λ a. a.status) (sym r.1.0) ∙ r.2))
+ran_proved limit source certs words R V (runnings.BadValue word) out o is follows done = absurd (no_word V word out o follows done)
+ran_proved limit source certs words R V (runnings.NotMade line) out o is follows done = absurd (subst (IsDone out) follows done)
 
-sound_made : (files : List ℕ → Option (List ℕ)) (input : Option (List ℕ)) (job : Job) (o : Outcome) → IsMade o → Comes files input job o → IsProvenIn files input job
-sound_made files input jobs.Joined o made came = absurd (no_answer _ o made came.2.3)
-sound_made files input (jobs.Prove source budget workers json values) o made came =
-    absurd (no_proof source.now came.0 came.2.0 o made came.2.3)
-sound_made files input (jobs.ProveRuns source budget workers json limit ranges) o made came =
-    absurd (no_proof_with_runs source.now came.0 came.2.0 o made came.2.2)
-sound_made files input (jobs.Check source certs workers json) o made came = absurd (no_answer _ o made came.2.2)
-sound_made files input (jobs.Notes source budget) o made came = tt
-sound_made files input (jobs.Show source budget workers) o made came = absurd (no_answer _ o made came.2)
-sound_made files input (jobs.ShowRuns source budget workers limit ranges) o made came =
-    let r = came.2 in absurd (no_page (IsConditionsRemark source.now came.0) (IsValueRemark gives.Ranges came.0) r.0 o made r.2)
-sound_made files input (jobs.Conditions source triples smt2 only) o made came = tt
-sound_made files input (jobs.Find source budget workers version) o made came = tt
-sound_made files input (jobs.Erase source readable) o made came = tt
-sound_made files input (jobs.Run source limit erased None schedule values) o made came = tt
-sound_made files input (jobs.Run source limit erased (Some certs) schedule values) o made came =
-    let r = came.2.2 in absurd (no_run (IsProvedRunRemark source.now certs.now came.0 came.2.0 (map (λ x. x.now) values.items)) (IsWordRemark came.0 None) r.0 o made r.2)
-sound_made files input (jobs.Explore source limit erased json ranges) o made came = tt
-sound_made files input (jobs.Expand template as_map values) o made came = tt
-sound_made files input (jobs.Migrate certs) o made came = tt
+-- ---- of a job
 
-unblocked_made : (files : List ℕ → Option (List ℕ)) (input before after : Option (List ℕ)) (job : Job) (o : Outcome) → IsMade o → Comes files input job o → IsNeverStuckIn files input before after job
-unblocked_made files input before after jobs.Joined o made came = absurd (no_answer _ o made came.2.3)
-unblocked_made files input before after (jobs.Prove source budget workers json values) o made came =
-    absurd (no_proof source.now came.0 came.2.0 o made came.2.3)
-unblocked_made files input before after (jobs.ProveRuns source budget workers json limit ranges) o made came = tt
-unblocked_made files input before after (jobs.Check source certs workers json) o made came = absurd (no_answer _ o made came.2.2)
-unblocked_made files input before after (jobs.Notes source budget) o made came = tt
-unblocked_made files input before after (jobs.Show source budget workers) o made came = tt
-unblocked_made files input before after (jobs.ShowRuns source budget workers limit ranges) o made came = tt
-unblocked_made files input before after (jobs.Conditions source triples smt2 only) o made came = tt
-unblocked_made files input before after (jobs.Find source budget workers version) o made came = tt
-unblocked_made files input before after (jobs.Erase source readable) o made came = tt
-unblocked_made files input before after (jobs.Run source limit erased certs schedule values) o made came = tt
-unblocked_made files input before after (jobs.Explore source limit erased json ranges) o made came = tt
-unblocked_made files input before after (jobs.Expand template as_map values) o made came = tt
-unblocked_made files input before after (jobs.Migrate certs) o made came = tt
+of_prove : (world : World) (out : Stream) (prove : Prove) (o : Outcome) → Proves world prove o → IsDone out o
+    → IsProvenText world prove.source.now
+    × IfNone prove.runs (PrintsUnblocked prove.json out → Reads source_of (bytes_in world prove.source.now) (HoldsOf IsNeverStuckSource))
+of_prove world out prove o h done =
+    let source = named prove.source.now h.0 in
+    let w = proved (is_template h.0) (report_form prove.json) (is_some prove.runs) source h.2.0 out o h.2.2 h.2.3 done in (
+      (h.0, h.1, w.0),
+      unblocked_by prove.runs prove.json out (Reads source_of (bytes_in world prove.source.now) (HoldsOf IsNeverStuckSource))
+          (λ wrote. (h.0, h.1, w.1 wrote)),
+    )
+
+of_show : (world : World) (out : Stream) (show : Show) (o : Outcome) → Shows world show o → IsDone out o → IsProvenFile world show.source.now
+of_show world out show o h done =
+    let w = proved false reports.Page (is_some show.runs) (named show.source.now h.0) h.2.0 out o h.2.2 h.2.3 done in
+    (h.0, h.1, w.0)
+
+of_run : (certs schedule : Option (Bor (List ℕ))) (world : World) (out : Stream) (run : Run) (o : Outcome) → RunsBy certs schedule world run o → IsDone out o
+    → IfSome certs (λ _. IsProvenFile world run.source.now)
+of_run None schedule world out run o h done = tt
+of_run (Some certs) schedule world out run o h done =
+    let words = word_bytes run.values.items in
+    let r = h.2.2 in
+    (h.0, h.1, ran_proved run.limit h.0 h.2.0 words (IsProvedRunRemark run.source.now certs.now h.0 h.2.0 words) (IsWordRemark h.0 None) r.0 out o r.1 r.2 done)
+
+of_check : (json : Bool) (source certs : Text) (out : Stream) (o : Outcome) → OnReport (IsCheckReport json source certs) o → IsDone out o
+    → IsProvenSource source.bytes × (PrintsUnblocked json out → IsNeverStuckSource source.bytes)
+of_check json source certs out o h done =
+    let r = on_report (IsCheckReport json source certs) out o h done in
+    (r.1.1.0 r.2, λ wrote. wrote_unblocked json source.bytes r.0.answer.text.items out.before out.after r.0.answer.status r.1.1 r.3 r.2 wrote)
+
+of_done : (world : World) (out : Stream) (job : Job) (o : Outcome) → IsOutcome world job o → IsDone out o → IsProven world job × IsNeverStuck world out job
+of_done world out jobs.Joined o h done =
+    let w = of_check false (named (codes "-") h.2.0) (named (codes "-") h.2.1) out o h.2.3 done in
+    ((h.0, h.1, (h.2.0, h.2.1, h.2.2, w.0)), λ wrote. (h.0, h.1, (h.2.0, h.2.1, h.2.2, w.1 wrote)))
+of_done world out (jobs.Prove prove) o h done = of_prove world out prove o h done
+of_done world out (jobs.Check check) o h done =
+    let w = of_check check.json (named check.source.now h.0) (named check.certs.now h.2.0) out o h.2.2 done in
+    ((h.0, h.1, w.0), λ wrote. (h.0, h.1, w.1 wrote))
+of_done world out (jobs.Show show) o h done = (of_show world out show o h done, tt)
+of_done world out (jobs.Run run) o h done = (of_run run.certs run.schedule world out run o h done, tt)
+of_done world out _ o h done = (tt, tt)
 
 -- ---- of the program
 
-four_not_0 : (text : List ℕ) (err err_after : Option (List ℕ)) (ended : Ended) → Says text 4 err err_after ended → ended.status ≡ 0 → ⊥
-four_not_0 text err err_after ended (inl told) zero = let four = told.0 in omega (arith, four, zero)
-four_not_0 text err err_after ended (inr told) zero = let four = told.0 in omega (arith, four, zero)
+of_ends : (world : World) (job : Job) (t : Trace) → EndsJob world job t → t.ended.status ≡ 0 → IsProven world job × IsNeverStuck world t.out job
+of_ends world job t (inl e) zero = of_done world t.out job e.0 e.1 (done e.0 t e.2 zero)
+of_ends world job t (inr f) zero = absurd (four_not_0 _ t.err t.ended f.2.1 zero)
 
-pub sound_job : (files : List ℕ → Option (List ℕ)) (input : Option (List ℕ)) (job : Job) (out out_after err err_after : Option (List ℕ)) (ended : Ended)
-    → EndsJob files input job out out_after err err_after ended → ended.status ≡ 0 → IsProvenIn files input job
-sound_job files input job out out_after err err_after ended (inl done) zero = sound_answer files input job out out_after err err_after ended done zero
-sound_job files input job out out_after err err_after ended (inr (inl refused)) zero = let three = refused.3.0 in absurd (omega (arith, three, zero))
-sound_job files input job out out_after err err_after ended (inr (inr (inl failed))) zero = absurd (four_not_0 _ err err_after ended failed.2.1 zero)
-sound_job files input job out out_after err err_after ended (inr (inr (inr m))) zero = sound_made files input job m.0 (is_made m.0 out out_after err err_after ended m.2) m.1
+pub sound_job : (world : World) (job : Job) (t : Trace) → EndsJob world job t → t.ended.status ≡ 0 → IsProven world job
+sound_job world job t ends zero = (of_ends world job t ends zero).0
 
-pub unblocked_job : (files : List ℕ → Option (List ℕ)) (input : Option (List ℕ)) (job : Job) (out out_after err err_after : Option (List ℕ)) (ended : Ended)
-    → EndsJob files input job out out_after err err_after ended → ended.status ≡ 0 → IsNeverStuckIn files input out out_after job
-unblocked_job files input job out out_after err err_after ended (inl done) zero = unblocked_answer files input job out out_after err err_after ended done zero
-unblocked_job files input job out out_after err err_after ended (inr (inl refused)) zero = let three = refused.3.0 in absurd (omega (arith, three, zero))
-unblocked_job files input job out out_after err err_after ended (inr (inr (inl failed))) zero = absurd (four_not_0 _ err err_after ended failed.2.1 zero)
-unblocked_job files input job out out_after err err_after ended (inr (inr (inr m))) zero = unblocked_made files input out out_after job m.0 (is_made m.0 out out_after err err_after ended m.2) m.1
+pub unblocked_job : (world : World) (job : Job) (t : Trace) → EndsJob world job t → t.ended.status ≡ 0 → IsNeverStuck world t.out job
+unblocked_job world job t ends zero = (of_ends world job t ends zero).1

@@ -1,10 +1,10 @@
--- Why a word of a run is told as bad.
+-- Why a word of a run is refused.
 use Rattle.std.proofs.Common.{◌≡◌, inl, inr, ℕ, List, Option, Some, None, Vec}
 use Rattle.std.specs.Prelude.{IfSome}
 use Rattle.std.specs.Global.{Global}
 use Rattle.og_report_refusal.specs.Values.{schedule_text, reason_line, IsValueRemark}
 use Rattle.og_report_refusal.specs.declared.values.Gives.TheVariants as gives
-use Rattle.og_program.specs.Served.{IsWordRemark}
+use Rattle.og_program.specs.Commands.{IsWordRemark}
 use denote.Ref.{Bor}
 
 -- it gives no value

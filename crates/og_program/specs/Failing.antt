@@ -1,5 +1,5 @@
--- Why a job cannot be done, and how that is told.
-use Rattle.std.specs.Prelude.{◌≡◌, ◌⊎◌, ℕ, Bool, true, false, List, [], codes, Result, Ok, Err, ⊤}
+-- Why a job cannot be done, and the text that says so.
+use Rattle.std.specs.Prelude.{◌≡◌, ℕ, Bool, true, false, List, [], codes, Result, Ok, Err, ⊤}
 use Rattle.og_io.specs.declared.fault.WriteFault.TheVariants as writes
 use Rattle.og_report_text.specs.Places.{◌&◌}
 use Rattle.og_report_refusal.specs.Names.{shown_name}
@@ -7,6 +7,7 @@ use Rattle.og_io.specs.declared.fault.OutputFault.{OutputFault}
 use Rattle.og_io.specs.declared.fault.OutputFault.TheVariants as outputs
 use Rattle.og_pool.specs.declared.fault.PoolFault.{PoolFault}
 use Rattle.og_pool.specs.declared.fault.PoolFault.TheVariants as pool
+use Rattle.og_program.specs.Opened.{FileNames, Opens}
 use Rattle.og_program.specs.declared.fault.Fault.{Fault}
 use Rattle.og_program.specs.declared.fault.Fault.TheVariants as faults
 use Rattle.og_program.specs.declared.fault.Why.{Why}
@@ -19,38 +20,28 @@ why_text whys.Directory = codes "is a directory"
 why_text whys.Failed = codes "cannot be read"
 
 abbrev pub fault_text : Fault → List ℕ
-fault_text (faults.NotRead name why) = codes "og: " & shown_name name.now & codes ": " & why_text why & codes "\n"
+fault_text (faults.NotRead name why) =
+    codes "og: " & shown_name name.now & codes ": " & why_text why & codes "\n"
 fault_text (faults.NotWritten writes.Closed) = []
 fault_text (faults.NotWritten writes.Failed) = codes "og: write failed\n"
 fault_text faults.Memory = codes "og: out of memory\n"
 fault_text faults.Spawn = codes "og: no thread\n"
 
--- a file that was not read has such a name N; W where standard output was not written, and S where a thread could not be started
-abbrev pub IsFault : (List ℕ → Type 0) → Type 0 → Type 0 → Fault → Type 0
-IsFault N W S (faults.NotRead name why) = N name.now
-IsFault N W S (faults.NotWritten fault) = W
-IsFault N W S faults.Memory = ⊤
-IsFault N W S faults.Spawn = S
-
--- a file of one name was not read, or memory ran out
-abbrev pub IsReading : List ℕ → Fault → Type 0
-IsReading name fault = IsFault (λ n. n ≡ name) ⊥ ⊥ fault
-
--- a file of one of two names was not read, or memory ran out
-abbrev pub IsReadingBoth : List ℕ → List ℕ → Fault → Type 0
-IsReadingBoth source certs fault = IsFault (λ n. (n ≡ source) ⊎ (n ≡ certs)) ⊥ ⊥ fault
+-- a job that opens these files was not done: one of them was not read, memory ran out, or, only
+-- where S, a thread was not started; nothing is written yet
+abbrev pub IsFault : FileNames → Type 0 → Fault → Type 0
+IsFault files S (faults.NotRead name why) = Opens files name.now
+IsFault files S (faults.NotWritten fault) = ⊥
+IsFault files S faults.Memory = ⊤
+IsFault files S faults.Spawn = S
 
 abbrev pub is_not_read : Fault → Bool
 is_not_read (faults.NotRead name why) = true
-is_not_read (faults.NotWritten fault) = false
-is_not_read faults.Memory = false
-is_not_read faults.Spawn = false
+is_not_read _ = false
 
 abbrev pub is_not_written : Fault → Bool
-is_not_written (faults.NotRead name why) = false
 is_not_written (faults.NotWritten fault) = true
-is_not_written faults.Memory = false
-is_not_written faults.Spawn = false
+is_not_written _ = false
 
 -- a file was not read
 abbrev pub IsUnread : {A : Type 0} → Result A Fault → Type 0

@@ -1,4 +1,10 @@
-pub mod Named
+pub mod World
+pub mod Sound
+pub mod Unblocked
+pub mod Opened
+pub mod Threads
 pub mod Failing
-pub mod Told
+pub mod Written
+pub mod Beside
+pub mod Commands
 pub mod Served

@@ -1,16 +1,20 @@
-//! What goes to standard error beside an answer.
+//! From what the libraries answer to outcomes: what goes to standard error beside an answer.
 
-ghost use Rattle.std.specs.Prelude.{◌≡◌, ◌≢◌, [], map, option_map, Ok, None, IfOk, IfSome};
+ghost use Rattle.std.specs.Prelude.{◌≡◌, ◌≢◌, [], map, Ok, None, IfSome};
 ghost use Rattle.og_report_refusal.specs.Missing.{IsMissingRemark};
 ghost use Rattle.og_report_refusal.specs.Remarks.{IsSourceRemark, IsConditionsRemark, IsTooManyRemark, IsCheckRemark, IsCertificatesRemark};
 ghost use Rattle.og_report_refusal.specs.Starting.{IsRunRemark, IsProvedRunRemark};
 ghost use Rattle.og_report_refusal.specs.Values.{schedule_text, reason_line, IsValueRemark};
 ghost use Rattle.og_report_refusal.specs.declared.values.Gives.TheVariants as gives;
 ghost use Rattle.og_report_text.specs.Told.{Says};
-ghost use Rattle.og_program.specs.Told.{IsNote, Noted};
-ghost use Rattle.og_program.specs.Served.{Remarks, RemarksBoth, IsMissingNote, IsLongNote, TellsMissing, FollowsFinding, TellsRan, IsWordRemark, IsExpansionNote, Follows, FollowsExploring, FollowsExpanding, FollowsListing, FollowsProving, FollowsRuns, TellsProved, OnBad};
+ghost use Rattle.og_words.specs.Jobs.{word_bytes};
+ghost use Rattle.og_program.specs.World.{named};
+ghost use Rattle.og_program.specs.Beside.{IsNote, Noted, Remarks, RemarksBoth, OnBadValue};
+ghost use Rattle.og_program.specs.Commands.{IsExpansionNote, IsMissingNote, NotesMissing, IsLongNote, IsRunReport, IsWordRemark, AnswersBy, FollowsFinding, FollowsRunning, FollowsExploring, FollowsExpanding, FollowsListing, FollowsProving};
 
-use crate::outcome::{BadValue, Outcome, Told, ToldFound};
+use crate::files::Files;
+use crate::outcome::{BadValue, Certificates, Outcome, Report};
+use crate::program::Program;
 use og_command_check::{FindReply, FoundCertificates, LongText};
 use og_command_explore::Reply as Explored;
 use og_command_prove::Reply as Proved;
@@ -23,7 +27,6 @@ use og_report_refusal::{
     source_remark, too_many_remark, value_remark,
 };
 use og_report_text::Answer;
-use og_template::is_template;
 use og_template_outline::{ExpandFault, Reply as Expanded};
 use std::alloc::{AllocError, Global};
 use std::sync::Wait;
@@ -36,7 +39,7 @@ const REFUSED: u8 = 2;
 const LACKING: u8 = 1;
 
 /// An answer about a source, and why it is refused where it is.
-pub(crate) fn beside_source(alloc: Global, name: &str, source: &[u8], answer: Answer) -> Told
+pub(crate) fn beside_source(alloc: Global, name: &str, source: &[u8], answer: Answer) -> Report
     ensures answer { result.answer ≡ answer }
     ensures remark { Remarks (IsSourceRemark name.now source.now) result }
 {
@@ -45,11 +48,11 @@ pub(crate) fn beside_source(alloc: Global, name: &str, source: &[u8], answer: An
     } else {
         Ok(None)
     };
-    Told { answer, note }
+    Report { answer, note }
 }
 
 /// An answer about the conditions of a source, and why they are refused where they are.
-pub(crate) fn beside_conditions(alloc: Global, name: &str, source: &[u8], answer: Answer) -> Told
+pub(crate) fn beside_conditions(alloc: Global, name: &str, source: &[u8], answer: Answer) -> Report
     ensures answer { result.answer ≡ answer }
     ensures remark { Remarks (IsConditionsRemark name.now source.now) result }
 {
@@ -58,11 +61,11 @@ pub(crate) fn beside_conditions(alloc: Global, name: &str, source: &[u8], answer
     } else {
         Ok(None)
     };
-    Told { answer, note }
+    Report { answer, note }
 }
 
 /// An answer about certificates, and why they are refused where they are.
-pub(crate) fn beside_certificates(alloc: Global, name: &str, certs: &[u8], answer: Answer) -> Told
+pub(crate) fn beside_certificates(alloc: Global, name: &str, certs: &[u8], answer: Answer) -> Report
     ensures answer { result.answer ≡ answer }
     ensures remark { Remarks (IsCertificatesRemark name.now certs.now) result }
 {
@@ -71,7 +74,7 @@ pub(crate) fn beside_certificates(alloc: Global, name: &str, certs: &[u8], answe
     } else {
         Ok(None)
     };
-    Told { answer, note }
+    Report { answer, note }
 }
 
 // How many conditions have no certificate, if some have none.
@@ -86,16 +89,16 @@ fn missing_note(alloc: Global, name: &str, missing: Missing) -> Result<Option<Ve
 }
 
 // The certificates that are found, and how many conditions have none.
-fn beside_certificates_found(alloc: Global, name: &str, found: FoundCertificates) -> ToldFound
+fn beside_certificates_found(alloc: Global, name: &str, found: FoundCertificates) -> Certificates
     ensures found { result.found ≡ found }
-    ensures note { TellsMissing name.now result }
+    ensures note { NotesMissing name.now result }
 {
     let note = missing_note(alloc, name, found.missing);
-    ToldFound { found, note }
+    Certificates { found, note }
 }
 
 // That the certificates that are found take more bytes than they may; nothing of them is printed.
-fn of_long_text(alloc: Global, name: &str, long: LongText) -> Told
+fn of_long_text(alloc: Global, name: &str, long: LongText) -> Report
     ensures answer { Says [] 1 result.answer }
     ensures note { IsNote (IsLongNote name.now long) result.note }
 {
@@ -104,62 +107,42 @@ fn of_long_text(alloc: Global, name: &str, long: LongText) -> Told
         status: LACKING,
     };
     let note = long_line(alloc, name, long.limit, long.second).map(Some);
-    Told { answer, note }
+    Report { answer, note }
 }
 
-/// What is told of the reply to whoever asks for certificates of a source.
+/// The outcome of a search for certificates of a source.
 pub(crate) fn beside_found<'a>(
     alloc: Global,
     name: &str,
     source: &[u8],
     reply: FindReply,
 ) -> Outcome<'a>
-    ensures { FollowsFinding name.now source.now reply result }
+    ensures { FollowsFinding (named name.now source.now) reply result }
 {
     match reply {
-        FindReply::Found(found) => { Outcome::Found(beside_certificates_found(alloc, name, found)) }
-        FindReply::TooLong(long) => Outcome::Told(of_long_text(alloc, name, long)),
+        FindReply::Found(found) => {
+            Outcome::Certificates(beside_certificates_found(alloc, name, found))
+        }
+        FindReply::TooLong(long) => Outcome::Report(of_long_text(alloc, name, long)),
         FindReply::Refused(answer) => {
             let note = conditions_remark(alloc, name, source);
-            Outcome::Told(Told { answer, note })
+            Outcome::Report(Report { answer, note })
         }
     }
 }
 
-/// The answer of a check, and how many conditions have no certificate, or why the source or the
-/// certificates are refused.
-pub(crate) fn beside_check<H: Threads + Wait + Sync>(
-    rt: &H,
-    alloc: Global,
-    names: Names<'_>,
-    source: &[u8],
-    certs: &[u8],
-    answer: Answer,
-) -> Told
-    ensures answer { result.answer ≡ answer }
-    ensures remark { RemarksBoth (IsCheckRemark names.entry.source.now names.entry.certs.now
-        source.now certs.now) (IsMissingRemark names.entry.source.now source.now certs.now) result }
-{
-    let note = match answer.status {
-        REFUSED => check_remark(rt, alloc, names, source, certs),
-        LACKING => missing_remark(alloc, names.source, source, certs),
-        _ => Ok(None),
-    };
-    Told { answer, note }
-}
-
-/// What is told of the reply to whoever asks for the conditions of a source.
+/// The outcome of a listing of the conditions of a source.
 pub(crate) fn beside_listing<'a>(
     alloc: Global,
     name: &str,
     source: &[u8],
     reply: Listed<'a>,
 ) -> Outcome<'a>
-    ensures { FollowsListing name.now source.now reply.entry result }
+    ensures { FollowsListing (named name.now source.now) reply.entry result }
 {
     match reply {
         Listed::Listing(listing) => Outcome::Listing(listing),
-        Listed::Refused(answer) => Outcome::Told(beside_conditions(alloc, name, source, answer)),
+        Listed::Refused(answer) => Outcome::Report(beside_conditions(alloc, name, source, answer)),
         Listed::Bad(word, line) => {
             let why = Some(line);
             Outcome::BadValue(BadValue { word, why })
@@ -193,7 +176,7 @@ fn bad_schedule(alloc: Global, word: &str) -> BadValue<'_>
 }
 
 // A word of a run that gives no value or is no schedule; which of both, if it may be either, is
-// not told.
+// not said.
 #[tactic(auto, using(crate::proofs::Words::of_value, crate::proofs::Words::of_schedule))]
 fn bad_word<'a>(
     alloc: Global,
@@ -219,8 +202,8 @@ fn bad_word<'a>(
 }
 
 // The answer of a run, and beside it why it is refused, or its line.
-fn beside_ran(alloc: Global, name: &str, source: &[u8], words: &[&str], ran: Ran) -> Told
-    ensures { TellsRan (IsRunRemark name.now source.now (map (λ w. w.now) words.now)) ran result }
+fn beside_ran(alloc: Global, name: &str, source: &[u8], words: &[&str], ran: Ran) -> Report
+    ensures { IsRunReport (IsRunRemark name.now source.now (word_bytes words.now)) ran result }
 {
     let Ran { answer, note } = ran;
     let note = if answer.status == REFUSED {
@@ -228,10 +211,10 @@ fn beside_ran(alloc: Global, name: &str, source: &[u8], words: &[&str], ran: Ran
     } else {
         Ok(note)
     };
-    Told { answer, note }
+    Report { answer, note }
 }
 
-/// What is told of the reply to a run of a source.
+/// The outcome of a run of a source.
 pub(crate) fn beside_run<'a>(
     alloc: Global,
     name: &str,
@@ -240,11 +223,11 @@ pub(crate) fn beside_run<'a>(
     schedule: Option<&str>,
     reply: Reply<'a>,
 ) -> Outcome<'a>
-    ensures { Follows (IsRunRemark name.now source.now (map (λ w. w.now) words.now))
+    ensures { FollowsRunning (IsRunRemark name.now source.now (word_bytes words.now))
         (IsWordRemark source.now schedule.entry) reply.entry result }
 {
     match reply {
-        Reply::Told(ran) => Outcome::Told(beside_ran(alloc, name, source, words, ran)),
+        Reply::Told(ran) => Outcome::Report(beside_ran(alloc, name, source, words, ran)),
         Reply::BadValue(word) => {
             Outcome::BadValue(bad_word(alloc, source, words, schedule, word))
         }
@@ -252,87 +235,24 @@ pub(crate) fn beside_run<'a>(
     }
 }
 
-// The answer of a run by certificates, and beside it why it is refused, or its line.
-fn beside_proved_ran<H: Threads + Wait + Sync>(
-    rt: &H,
-    alloc: Global,
-    names: Names<'_>,
-    source: &[u8],
-    certs: &[u8],
-    words: &[&str],
-    ran: Ran,
-) -> Told
-    ensures { TellsRan (IsProvedRunRemark names.entry.source.now names.entry.certs.now source.now
-        certs.now (map (λ w. w.now) words.now)) ran result }
-{
-    let Ran { answer, note } = ran;
-    let note = if answer.status == REFUSED {
-        proved_run_remark(rt, alloc, names, source, certs, words)
-    } else {
-        Ok(note)
-    };
-    Told { answer, note }
-}
-
-/// What is told of the reply to a run of a source that certificates are to prove safe.
-pub(crate) fn beside_proved_run<'a, H: Threads + Wait + Sync>(
-    rt: &H,
-    alloc: Global,
-    names: Names<'_>,
-    source: &[u8],
-    certs: &[u8],
-    words: &[&str],
-    reply: Reply<'a>,
-) -> Outcome<'a>
-    ensures { Follows (IsProvedRunRemark names.entry.source.now names.entry.certs.now source.now
-        certs.now (map (λ w. w.now) words.now)) (IsWordRemark source.now None) reply.entry result }
-{
-    match reply {
-        Reply::Told(ran) => {
-            Outcome::Told(beside_proved_ran(rt, alloc, names, source, certs, words, ran))
-        }
-        Reply::BadValue(word) => {
-            Outcome::BadValue(bad_value(alloc, Gives::Values, source, word))
-        }
-        Reply::NotMade(line) => Outcome::NotMade(line),
-    }
-}
-
 // A word that gives no variable a range.
 fn bad_range<'a>(alloc: Global, source: &[u8], word: &'a str) -> Outcome<'a>
-    ensures { OnBad (IsValueRemark gives.Ranges source.now) word.entry result }
+    ensures { OnBadValue (IsValueRemark gives.Ranges source.now) word.entry result }
 {
     Outcome::BadValue(bad_value(alloc, Gives::Ranges, source, word))
 }
 
-/// What is told of the reply to whoever asks for a page with runs.
-pub(crate) fn beside_page<'a>(
-    alloc: Global,
-    name: &str,
-    source: &[u8],
-    reply: Explored<'a>,
-) -> Outcome<'a>
-    ensures { FollowsExploring (IsConditionsRemark name.now source.now)
-        (IsValueRemark gives.Ranges source.now) reply.entry result }
-{
-    match reply {
-        Explored::Answer(answer) => Outcome::Told(beside_conditions(alloc, name, source, answer)),
-        Explored::BadValue(word) => bad_range(alloc, source, word),
-    }
-}
-
-/// What is told of the reply to an exploration of a source.
+/// The outcome of an exploration of a source.
 pub(crate) fn beside_exploration<'a>(
     alloc: Global,
     name: &str,
     source: &[u8],
     reply: Explored<'a>,
 ) -> Outcome<'a>
-    ensures { FollowsExploring (IsSourceRemark name.now source.now)
-        (IsValueRemark gives.Ranges source.now) reply.entry result }
+    ensures { FollowsExploring (named name.now source.now) reply.entry result }
 {
     match reply {
-        Explored::Answer(answer) => Outcome::Told(beside_source(alloc, name, source, answer)),
+        Explored::Answer(answer) => Outcome::Report(beside_source(alloc, name, source, answer)),
         Explored::BadValue(word) => bad_range(alloc, source, word),
     }
 }
@@ -344,16 +264,16 @@ fn beside_fault(
     template: &[u8],
     answer: Answer,
     fault: &ExpandFault,
-) -> Told
+) -> Report
     ensures answer { result.answer ≡ answer }
-    ensures note { Noted (IsExpansionNote name.now template.now fault.now) result }
+    ensures note { Noted (IsExpansionNote (named name.now template.now) fault.now) result }
 {
     match expansion_remark(alloc, name, template, fault) {
-        Ok(text) => Told {
+        Ok(text) => Report {
             answer,
             note: Ok(Some(text)),
         },
-        Err(refused) => Told {
+        Err(refused) => Report {
             answer,
             note: Err(refused),
         },
@@ -362,13 +282,13 @@ fn beside_fault(
 
 // A word that gives no constant a value, and no line why.
 fn bad_constant(word: &str) -> Outcome<'_>
-    ensures { OnBad (λ _ _. ⊥) word.entry result }
+    ensures { OnBadValue (λ _ _. ⊥) word.entry result }
 {
     Outcome::BadValue(BadValue { word, why: None })
 }
 
 // An answer about a template, and why its outline is refused where it is.
-fn beside_template(alloc: Global, name: &str, template: &[u8], answer: Answer) -> Told
+fn beside_template(alloc: Global, name: &str, template: &[u8], answer: Answer) -> Report
     ensures answer { result.answer ≡ answer }
     ensures remark { Remarks (IsTooManyRemark name.now template.now) result }
 {
@@ -377,70 +297,129 @@ fn beside_template(alloc: Global, name: &str, template: &[u8], answer: Answer) -
     } else {
         Ok(None)
     };
-    Told { answer, note }
+    Report { answer, note }
 }
 
-// An answer about a source or a template, and why its conditions are refused where they are.
-fn beside_proved(alloc: Global, name: &str, source: &[u8], answer: Answer) -> Told
-    ensures { TellsProved name.now source.now answer result }
+// An answer about a source, or about a template, and why its conditions are refused where they are.
+fn beside_proved<'a>(
+    alloc: Global,
+    name: &str,
+    source: &[u8],
+    template: bool,
+    answer: Answer,
+) -> Outcome<'a>
+    ensures { AnswersBy template (named name.now source.now) answer result }
 {
-    if is_template(source) {
-        return beside_template(alloc, name, source, answer);
+    if template {
+        return Outcome::Report(beside_template(alloc, name, source, answer));
     }
-    beside_conditions(alloc, name, source, answer)
+    Outcome::Report(beside_conditions(alloc, name, source, answer))
 }
 
-/// What is told of the reply to a proof of a source or of a template.
+/// The outcome of a proof of a source, or of a template where it is read as one.
 pub(crate) fn beside_proof<'a>(
     alloc: Global,
     name: &str,
     source: &[u8],
-    reply: Expanded<'a>,
-) -> Outcome<'a>
-    ensures { FollowsProving name.now source.now reply.entry result }
-{
-    match reply {
-        Expanded::Answer(answer) => Outcome::Told(beside_proved(alloc, name, source, answer)),
-        Expanded::Refused(answer, fault) => {
-            Outcome::Told(beside_fault(alloc, name, source, answer, &fault))
-        }
-        Expanded::BadValue(word) => bad_constant(word),
-    }
-}
-
-/// What is told of the reply to a proof of a source or of a template with runs.
-pub(crate) fn beside_runs<'a>(
-    alloc: Global,
-    name: &str,
-    source: &[u8],
+    template: bool,
     reply: Proved<'a>,
 ) -> Outcome<'a>
-    ensures { FollowsRuns name.now source.now reply.entry result }
+    ensures { FollowsProving template (named name.now source.now) reply.entry result }
 {
     match reply {
-        Proved::Answer(answer) => Outcome::Told(beside_proved(alloc, name, source, answer)),
+        Proved::Answer(answer) => beside_proved(alloc, name, source, template, answer),
         Proved::Refused(answer, fault) => {
-            Outcome::Told(beside_fault(alloc, name, source, answer, &fault))
+            Outcome::Report(beside_fault(alloc, name, source, answer, &fault))
         }
         Proved::BadConstant(word) => bad_constant(word),
         Proved::BadStart(word, outline) => bad_range(alloc, &outline, word),
     }
 }
 
-/// What is told of the reply to an expansion of a template.
+/// The outcome of an expansion of a template.
 pub(crate) fn beside_expansion<'a>(
     alloc: Global,
     name: &str,
     template: &[u8],
     reply: Expanded<'a>,
 ) -> Outcome<'a>
-    ensures { FollowsExpanding name.now template.now reply.entry result }
+    ensures { FollowsExpanding (named name.now template.now) reply.entry result }
 {
     match reply {
-        Expanded::Answer(answer) => Outcome::Told(beside_source(alloc, name, template, answer)),
+        Expanded::Answer(answer) => Outcome::Report(beside_source(alloc, name, template, answer)),
         Expanded::Refused(answer, fault) => {
-            Outcome::Told(beside_fault(alloc, name, template, answer, &fault))
+            Outcome::Report(beside_fault(alloc, name, template, answer, &fault))
         }
         Expanded::BadValue(word) => bad_constant(word),
+    }
+}
+
+impl<'r, F: Files, G, H: Threads + Wait + Sync> Program<'r, F, G, H> {
+    /// The answer of a check, and how many conditions have no certificate, or why the source or the
+    /// certificates are refused.
+    pub(crate) fn beside_check(
+        &self,
+        names: Names<'_>,
+        source: &[u8],
+        certs: &[u8],
+        answer: Answer,
+    ) -> Report
+        ensures answer { result.answer ≡ answer }
+        ensures remark { RemarksBoth
+            (IsCheckRemark names.entry.source.now names.entry.certs.now source.now certs.now)
+            (IsMissingRemark names.entry.source.now source.now certs.now) result }
+    {
+        let note = match answer.status {
+            REFUSED => check_remark(self.rt, self.alloc, names, source, certs),
+            LACKING => missing_remark(self.alloc, names.source, source, certs),
+            _ => Ok(None),
+        };
+        Report { answer, note }
+    }
+
+    // The answer of a run by certificates, and beside it why it is refused, or its line.
+    fn beside_proved_ran(
+        &self,
+        names: Names<'_>,
+        source: &[u8],
+        certs: &[u8],
+        words: &[&str],
+        ran: Ran,
+    ) -> Report
+        ensures { IsRunReport
+            (IsProvedRunRemark names.entry.source.now names.entry.certs.now source.now certs.now
+            (word_bytes words.now)) ran result }
+    {
+        let Ran { answer, note } = ran;
+        let note = if answer.status == REFUSED {
+            proved_run_remark(self.rt, self.alloc, names, source, certs, words)
+        } else {
+            Ok(note)
+        };
+        Report { answer, note }
+    }
+
+    /// The outcome of a run of a source that certificates are to prove safe.
+    pub(crate) fn beside_proved_run<'a>(
+        &self,
+        names: Names<'_>,
+        source: &[u8],
+        certs: &[u8],
+        words: &[&str],
+        reply: Reply<'a>,
+    ) -> Outcome<'a>
+        ensures { FollowsRunning
+            (IsProvedRunRemark names.entry.source.now names.entry.certs.now source.now certs.now
+            (word_bytes words.now)) (IsWordRemark source.now None) reply.entry result }
+    {
+        match reply {
+            Reply::Told(ran) => {
+                Outcome::Report(self.beside_proved_ran(names, source, certs, words, ran))
+            }
+            Reply::BadValue(word) => {
+                Outcome::BadValue(bad_value(self.alloc, Gives::Values, source, word))
+            }
+            Reply::NotMade(line) => Outcome::NotMade(line),
+        }
     }
 }

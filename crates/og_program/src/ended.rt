@@ -5,6 +5,6 @@
 pub struct Ended {
     /// The status.
     pub status: u8,
-    /// Whether the text for standard error was written; true where there is none.
-    pub told: bool,
+    /// Whether the text for standard error was written whole; true where there is none.
+    pub written: bool,
 }

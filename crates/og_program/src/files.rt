@@ -23,7 +23,8 @@ pub trait Files {
     ///
     /// There is no such file, it cannot be opened, or it is a directory.
     fn open(&self, name: &str) -> io::Result<Self::File>
-        ensures bytes { IfOk result (λ file. Self.File.remaining file ≡ contents self.now name.now) }
+        ensures bytes { IfOk result
+            (λ file. Self.File.remaining file ≡ contents self.now name.now) }
         ensures missing { is_missing self.now name.now ≡ true → IsErr result };
 }
 

@@ -1,11 +1,10 @@
-//! The program: from a job and files to what is written and the status.
+//! The program: words and files in, output and a status out.
 #![tactic(auto)]
 
 mod beside;
+mod checking;
 mod commands;
 mod ended;
-mod expanding;
-mod exploring;
 mod fault;
 mod files;
 mod outcome;
@@ -14,10 +13,11 @@ mod reading;
 mod running;
 mod searching;
 mod serving;
-mod telling;
+mod writing;
 
 pub use ended::Ended;
 pub use fault::{Fault, Why};
 pub use files::Files;
-pub use outcome::{BadValue, Outcome, Told, ToldFound};
+pub use outcome::{BadValue, Certificates, Outcome, Report};
+pub use program::{Program, Streams};
 pub use serving::{serve, serve_words};

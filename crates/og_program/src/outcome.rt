@@ -1,4 +1,4 @@
-//! What a job comes to, before anything of it is written.
+//! The outcome of a job, before anything of it is written.
 
 use og_command_check::FoundCertificates;
 use og_report_conditions::Listing;
@@ -7,8 +7,8 @@ use std::alloc::AllocError;
 
 /// An answer, and what goes to standard error beside it.
 #[derive(Debug, Drop)]
-pub struct Told {
-    /// The printed text, and the status.
+pub struct Report {
+    /// What is printed, and the status.
     pub answer: Answer,
     /// What goes to standard error, if anything does; or that memory for it was refused.
     pub note: Result<Option<Vec<u8>>, AllocError>,
@@ -16,7 +16,7 @@ pub struct Told {
 
 /// Certificates that were found, and what goes to standard error beside them.
 #[derive(Debug, Drop)]
-pub struct ToldFound {
+pub struct Certificates {
     /// The certificates, of which nothing is written yet.
     pub found: FoundCertificates,
     /// What goes to standard error, if anything does; or that memory for it was refused.
@@ -33,13 +33,13 @@ pub struct BadValue<'a> {
     pub why: Option<Vec<u8>>,
 }
 
-/// What a job comes to.
+/// The outcome of a job.
 #[derive(Debug, Drop)]
 pub enum Outcome<'a> {
     /// An answer.
-    Told(Told),
+    Report(Report),
     /// Certificates.
-    Found(ToldFound),
+    Certificates(Certificates),
     /// A listing of conditions.
     Listing(Listing),
     /// The first word that gives no value.

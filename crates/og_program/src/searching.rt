@@ -1,137 +1,123 @@
-//! What the commands come to that search, by threads.
+//! Commands that search, by threads.
 
-ghost use Rattle.std.specs.Prelude.{◌≡◌, ◌<◌, true, map, IfErr, IfOk};
+ghost use Rattle.std.specs.Prelude.{◌≡◌, ◌<◌, true, IfErr, IfOk};
+ghost use Rattle.og_program.specs.World.{world_of};
+ghost use Rattle.og_program.specs.Opened.{One, LeavesInput, lacks};
 ghost use Rattle.og_program.specs.Failing.{IsFault, IsUnread};
-ghost use Rattle.og_program.specs.Named.{is_file, lacks_bytes};
-ghost use Rattle.og_program.specs.Served.{OfSource, OnTold, Proves, ProvesRuns, Shows, ShowsRuns, Finds};
+ghost use Rattle.og_program.specs.Commands.{report_form, Finds, Proves, Shows};
 
-use crate::beside::{beside_conditions, beside_found, beside_page, beside_proof, beside_runs};
+use crate::beside::{beside_found, beside_proof};
 use crate::fault::Fault;
 use crate::files::Files;
 use crate::outcome::Outcome;
 use crate::program::Program;
-use crate::reading::source_bytes;
-use og_command_check::{CERTS_LIMIT, Search, Wanted, found};
-use og_command_prove::{prove, proved_with_runs, shown, shown_with_runs};
-use og_io::{Budget, CertVersion, MomentLimit, Workers};
+use og_command_check::{CERTS_LIMIT, Wanted, found};
+use og_command_prove::{Prover, ReportForm, Search};
 use og_pool::Gate;
+use og_template::is_template;
+use og_words::{Find, Prove, Show};
 use std::io::Read;
 use std::sync::Wait;
 use std::thread::Threads;
 
+// The form of a report, by whether it is to be JSON.
+fn report_form(json: bool) -> ReportForm
+    ensures { result ≡ report_form json }
+{
+    if json {
+        ReportForm::Json
+    } else {
+        ReportForm::Text
+    }
+}
+
 impl<'r, F: Files, G: Gate, H: Threads + Wait + Sync> Program<'r, F, G, H> {
-    /// What searches tell of the conditions of a source, or of a template under the values that the
-    /// words give.
+    // A prover that searches so.
+    fn prover(&self, search: Search) -> Prover<'r, G, H>
+        ensures { result.search ≡ search }
+    {
+        Prover {
+            rt: self.rt,
+            alloc: self.alloc,
+            gate: self.gate,
+            search,
+        }
+    }
+
+    /// What searches find of the conditions of a source, or of a template under the values that the
+    /// words give, and of runs where they are to be looked for.
     pub(crate) fn prove<'a, I: Read>(
         &self,
-        source: &'a str,
-        words: &[&'a str],
-        search: Search,
+        prove: &Prove<'a>,
         input: &mut I,
     ) -> Result<Outcome<'a>, Fault<'a>>
-        ensures came { IfOk result (OfSource (F.contents self.now.files.now) (I.remaining input.old)
-            source.now (Proves search.json (map (λ w. w.now) words.now) source.now)) }
-        ensures fault { IfErr result (IsFault (λ n. n ≡ source.now) ⊥ (1 < search.workers)) }
-        ensures missing { lacks_bytes (F.is_missing self.now.files.now) source.now ≡ true
+        ensures outcome { IfOk result (Proves
+            (world_of F.contents F.is_missing I.remaining self.now input.old) prove.now) }
+        ensures fault { IfErr result (IsFault (One prove.now.source.now) (1 < prove.now.workers)) }
+        ensures missing { lacks (F.is_missing self.now.files.now) (One prove.now.source.now) ≡ true
             → IsUnread result }
-        ensures kept { is_file source.now ≡ true → I.remaining input.new ≡ I.remaining input.old }
+        ensures kept { LeavesInput (One prove.now.source.now)
+            → I.remaining input.new ≡ I.remaining input.old }
     {
-        let bytes = source_bytes(self.alloc, self.files, source, input)?;
-        let reply = prove(self.rt, self.alloc, &bytes, words, search, self.gate)?;
-        Ok(beside_proof(self.alloc, source, &bytes, reply))
+        let bytes = self.source_bytes(prove.source, input)?;
+        let search = Search {
+            budget: prove.budget,
+            workers: prove.workers,
+            runs: prove.runs,
+        };
+        let form = report_form(prove.json);
+        let reply = self.prover(search).prove(&bytes, &prove.words, form)?;
+        let template = is_template(&bytes);
+        Ok(beside_proof(self.alloc, prove.source, &bytes, template, reply))
     }
 
-    /// What searches tell of the conditions of a source, or of a template, and of the runs that get
-    /// to states in which they are false, under the values and from the starts that the words give.
-    pub(crate) fn prove_runs<'a, I: Read>(
-        &self,
-        source: &'a str,
-        words: &[&'a str],
-        search: Search,
-        limit: MomentLimit,
-        input: &mut I,
-    ) -> Result<Outcome<'a>, Fault<'a>>
-        ensures came { IfOk result (OfSource (F.contents self.now.files.now) (I.remaining input.old)
-            source.now (ProvesRuns search.json (map (λ w. w.now) words.now) source.now)) }
-        ensures fault { IfErr result (IsFault (λ n. n ≡ source.now) ⊥ (1 < search.workers)) }
-        ensures missing { lacks_bytes (F.is_missing self.now.files.now) source.now ≡ true
-            → IsUnread result }
-        ensures kept { is_file source.now ≡ true → I.remaining input.new ≡ I.remaining input.old }
-    {
-        let bytes = source_bytes(self.alloc, self.files, source, input)?;
-        let limit = limit.moments();
-        let reply = proved_with_runs(self.rt, self.alloc, &bytes, words, search, limit, self.gate)?;
-        Ok(beside_runs(self.alloc, source, &bytes, reply))
-    }
-
-    /// A page of what searches tell of the conditions of a source.
+    /// A page of what searches find of the conditions of a source, and of runs where they are to be
+    /// looked for.
     pub(crate) fn show<'a, I: Read>(
         &self,
-        source: &'a str,
-        budget: Budget,
-        workers: Workers,
+        show: &Show<'a>,
         input: &mut I,
     ) -> Result<Outcome<'a>, Fault<'a>>
-        ensures came { IfOk result (OfSource (F.contents self.now.files.now) (I.remaining input.old)
-            source.now (λ s. OnTold (Shows source.now s))) }
-        ensures fault { IfErr result (IsFault (λ n. n ≡ source.now) ⊥ (1 < workers)) }
-        ensures missing { lacks_bytes (F.is_missing self.now.files.now) source.now ≡ true
+        ensures outcome { IfOk result (Shows
+            (world_of F.contents F.is_missing I.remaining self.now input.old) show.now) }
+        ensures fault { IfErr result (IsFault (One show.now.source.now) (1 < show.now.workers)) }
+        ensures missing { lacks (F.is_missing self.now.files.now) (One show.now.source.now) ≡ true
             → IsUnread result }
-        ensures kept { is_file source.now ≡ true → I.remaining input.new ≡ I.remaining input.old }
+        ensures kept { LeavesInput (One show.now.source.now)
+            → I.remaining input.new ≡ I.remaining input.old }
     {
-        let bytes = source_bytes(self.alloc, self.files, source, input)?;
-        let answer = shown(self.rt, self.alloc, &bytes, budget, workers, self.gate)?;
-        let told = beside_conditions(self.alloc, source, &bytes, answer);
-        Ok(Outcome::Told(told))
-    }
-
-    /// The same page with the runs that get to states in which conditions are false, from the
-    /// starts that the words give.
-    pub(crate) fn show_runs<'a, I: Read>(
-        &self,
-        source: &'a str,
-        words: &[&'a str],
-        search: Search,
-        limit: MomentLimit,
-        input: &mut I,
-    ) -> Result<Outcome<'a>, Fault<'a>>
-        ensures came { IfOk result (OfSource (F.contents self.now.files.now) (I.remaining input.old)
-            source.now (ShowsRuns (map (λ w. w.now) words.now) source.now)) }
-        ensures fault { IfErr result (IsFault (λ n. n ≡ source.now) ⊥ (1 < search.workers)) }
-        ensures missing { lacks_bytes (F.is_missing self.now.files.now) source.now ≡ true
-            → IsUnread result }
-        ensures kept { is_file source.now ≡ true → I.remaining input.new ≡ I.remaining input.old }
-    {
-        let bytes = source_bytes(self.alloc, self.files, source, input)?;
-        let limit = limit.moments();
-        let reply = shown_with_runs(self.rt, self.alloc, &bytes, words, search, limit, self.gate)?;
-        Ok(beside_page(self.alloc, source, &bytes, reply))
+        let bytes = self.source_bytes(show.source, input)?;
+        let search = Search {
+            budget: show.budget,
+            workers: show.workers,
+            runs: show.runs,
+        };
+        let reply = self.prover(search).show(&bytes, &show.words)?;
+        Ok(beside_proof(self.alloc, show.source, &bytes, false, reply))
     }
 
     /// The certificates that are found for a source.
     pub(crate) fn find<'a, I: Read>(
         &self,
-        source: &'a str,
-        budget: Budget,
-        workers: Workers,
-        version: CertVersion,
+        find: &Find<'a>,
         input: &mut I,
     ) -> Result<Outcome<'a>, Fault<'a>>
-        ensures came { IfOk result (OfSource (F.contents self.now.files.now) (I.remaining input.old)
-            source.now (Finds version source.now)) }
-        ensures fault { IfErr result (IsFault (λ n. n ≡ source.now) ⊥ (1 < workers)) }
-        ensures missing { lacks_bytes (F.is_missing self.now.files.now) source.now ≡ true
+        ensures outcome { IfOk result (Finds
+            (world_of F.contents F.is_missing I.remaining self.now input.old) find.now) }
+        ensures fault { IfErr result (IsFault (One find.now.source.now) (1 < find.now.workers)) }
+        ensures missing { lacks (F.is_missing self.now.files.now) (One find.now.source.now) ≡ true
             → IsUnread result }
-        ensures kept { is_file source.now ≡ true → I.remaining input.new ≡ I.remaining input.old }
+        ensures kept { LeavesInput (One find.now.source.now)
+            → I.remaining input.new ≡ I.remaining input.old }
     {
-        let bytes = source_bytes(self.alloc, self.files, source, input)?;
+        let bytes = self.source_bytes(find.source, input)?;
         let wanted = Wanted {
-            budget,
-            workers,
-            version,
+            budget: find.budget,
+            workers: find.workers,
+            version: find.version,
             limit: CERTS_LIMIT,
         };
         let reply = found(self.rt, self.alloc, &bytes, wanted, self.gate)?;
-        Ok(beside_found(self.alloc, source, &bytes, reply))
+        Ok(beside_found(self.alloc, find.source, &bytes, reply))
     }
 }

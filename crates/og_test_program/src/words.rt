@@ -9,146 +9,150 @@ const JOBS: &[(&str, &str)] = &[
     ("", "Joined"),
     (
         "prove a",
-        "Prove { source: \"a\", budget: Budget { facts: 100000 }, workers: Workers { count: 1 }, json: false, values: [] }",
+        "Prove(Prove { source: \"a\", budget: Budget { facts: 100000 }, workers: Workers { count: 1 }, json: false, words: [], runs: None })",
     ),
     (
         "prove - --budget 1 --workers 64 --json",
-        "Prove { source: \"-\", budget: Budget { facts: 1 }, workers: Workers { count: 64 }, json: true, values: [] }",
+        "Prove(Prove { source: \"-\", budget: Budget { facts: 1 }, workers: Workers { count: 64 }, json: true, words: [], runs: None })",
     ),
     (
         "prove --json --workers 2 --budget 1000000000 a",
-        "Prove { source: \"a\", budget: Budget { facts: 1000000000 }, workers: Workers { count: 2 }, json: true, values: [] }",
+        "Prove(Prove { source: \"a\", budget: Budget { facts: 1000000000 }, workers: Workers { count: 2 }, json: true, words: [], runs: None })",
     ),
     (
         "prove a b",
-        "Prove { source: \"a\", budget: Budget { facts: 100000 }, workers: Workers { count: 1 }, json: false, values: [\"b\"] }",
+        "Prove(Prove { source: \"a\", budget: Budget { facts: 100000 }, workers: Workers { count: 1 }, json: false, words: [\"b\"], runs: None })",
     ),
     (
         "prove a N=3 M=-2 --budget 7",
-        "Prove { source: \"a\", budget: Budget { facts: 7 }, workers: Workers { count: 1 }, json: false, values: [\"N=3\", \"M=-2\"] }",
+        "Prove(Prove { source: \"a\", budget: Budget { facts: 7 }, workers: Workers { count: 1 }, json: false, words: [\"N=3\", \"M=-2\"], runs: None })",
     ),
     (
         "prove a --runs",
-        "ProveRuns { source: \"a\", budget: Budget { facts: 100000 }, workers: Workers { count: 1 }, json: false, limit: MomentLimit { moments: 100000 }, ranges: [] }",
+        "Prove(Prove { source: \"a\", budget: Budget { facts: 100000 }, workers: Workers { count: 1 }, json: false, words: [], runs: Some(MomentLimit { moments: 100000 }) })",
     ),
     (
         "prove a x=1 --runs --limit 5 --json y=2..3 --workers 2",
-        "ProveRuns { source: \"a\", budget: Budget { facts: 100000 }, workers: Workers { count: 2 }, json: true, limit: MomentLimit { moments: 5 }, ranges: [\"x=1\", \"y=2..3\"] }",
+        "Prove(Prove { source: \"a\", budget: Budget { facts: 100000 }, workers: Workers { count: 2 }, json: true, words: [\"x=1\", \"y=2..3\"], runs: Some(MomentLimit { moments: 5 }) })",
     ),
     (
         "check a b",
-        "Check { source: \"a\", certs: \"b\", workers: Workers { count: 1 }, json: false }",
+        "Check(Check { source: \"a\", certs: \"b\", workers: Workers { count: 1 }, json: false })",
     ),
     (
         "check - b --workers 64 --json",
-        "Check { source: \"-\", certs: \"b\", workers: Workers { count: 64 }, json: true }",
+        "Check(Check { source: \"-\", certs: \"b\", workers: Workers { count: 64 }, json: true })",
     ),
     (
         "check --workers 2 a b",
-        "Check { source: \"a\", certs: \"b\", workers: Workers { count: 2 }, json: false }",
+        "Check(Check { source: \"a\", certs: \"b\", workers: Workers { count: 2 }, json: false })",
     ),
     (
         "conditions a",
-        "Conditions { source: \"a\", triples: false, smt2: false, only: None }",
+        "Conditions(Conditions { source: \"a\", triples: false, smt2: false, only: None })",
     ),
     (
         "conditions --triples a",
-        "Conditions { source: \"a\", triples: true, smt2: false, only: None }",
+        "Conditions(Conditions { source: \"a\", triples: true, smt2: false, only: None })",
     ),
     (
         "conditions a --smt2",
-        "Conditions { source: \"a\", triples: false, smt2: true, only: None }",
+        "Conditions(Conditions { source: \"a\", triples: false, smt2: true, only: None })",
     ),
     (
         "conditions a --triples --only 7,3",
-        "Conditions { source: \"a\", triples: true, smt2: false, only: Some(\"7,3\") }",
+        "Conditions(Conditions { source: \"a\", triples: true, smt2: false, only: Some(\"7,3\") })",
     ),
     (
         "conditions --smt2 --only=x a",
-        "Conditions { source: \"a\", triples: false, smt2: true, only: Some(\"x\") }",
+        "Conditions(Conditions { source: \"a\", triples: false, smt2: true, only: Some(\"x\") })",
     ),
     (
         "show a",
-        "Show { source: \"a\", budget: Budget { facts: 100000 }, workers: Workers { count: 1 } }",
+        "Show(Show { source: \"a\", budget: Budget { facts: 100000 }, workers: Workers { count: 1 }, words: [], runs: None })",
     ),
     (
         "show --workers 2 --budget 7 -",
-        "Show { source: \"-\", budget: Budget { facts: 7 }, workers: Workers { count: 2 } }",
+        "Show(Show { source: \"-\", budget: Budget { facts: 7 }, workers: Workers { count: 2 }, words: [], runs: None })",
+    ),
+    (
+        "show a --runs --limit 7 x=1",
+        "Show(Show { source: \"a\", budget: Budget { facts: 100000 }, workers: Workers { count: 1 }, words: [\"x=1\"], runs: Some(MomentLimit { moments: 7 }) })",
     ),
     (
         "find a",
-        "Find { source: \"a\", budget: Budget { facts: 100000 }, workers: Workers { count: 1 }, version: CertVersion { number: 1 } }",
+        "Find(Find { source: \"a\", budget: Budget { facts: 100000 }, workers: Workers { count: 1 }, version: CertVersion { number: 1 } })",
     ),
     (
         "find a --budget 1000000000",
-        "Find { source: \"a\", budget: Budget { facts: 1000000000 }, workers: Workers { count: 1 }, version: CertVersion { number: 1 } }",
+        "Find(Find { source: \"a\", budget: Budget { facts: 1000000000 }, workers: Workers { count: 1 }, version: CertVersion { number: 1 } })",
     ),
     (
         "find a --workers 64",
-        "Find { source: \"a\", budget: Budget { facts: 100000 }, workers: Workers { count: 64 }, version: CertVersion { number: 1 } }",
+        "Find(Find { source: \"a\", budget: Budget { facts: 100000 }, workers: Workers { count: 64 }, version: CertVersion { number: 1 } })",
     ),
     (
         "find --workers 2 --budget 7 -",
-        "Find { source: \"-\", budget: Budget { facts: 7 }, workers: Workers { count: 2 }, version: CertVersion { number: 1 } }",
+        "Find(Find { source: \"-\", budget: Budget { facts: 7 }, workers: Workers { count: 2 }, version: CertVersion { number: 1 } })",
     ),
     (
         "find a --version 2",
-        "Find { source: \"a\", budget: Budget { facts: 100000 }, workers: Workers { count: 1 }, version: CertVersion { number: 2 } }",
+        "Find(Find { source: \"a\", budget: Budget { facts: 100000 }, workers: Workers { count: 1 }, version: CertVersion { number: 2 } })",
     ),
-    ("erase a", "Erase { source: \"a\", readable: false }"),
+    ("erase a", "Erase(Erase { source: \"a\", readable: false })"),
     (
         "erase a --readable",
-        "Erase { source: \"a\", readable: true }",
+        "Erase(Erase { source: \"a\", readable: true })",
     ),
     (
         "run a x=1 y=-2 --limit 0",
-        "Run { source: \"a\", limit: RunLimit { steps: 0 }, erased: false, certs: None, schedule: None, values: [\"x=1\", \"y=-2\"] }",
+        "Run(Run { source: \"a\", limit: RunLimit { steps: 0 }, erased: false, certs: None, schedule: None, values: [\"x=1\", \"y=-2\"] })",
     ),
     (
         "run a --certs f",
-        "Run { source: \"a\", limit: RunLimit { steps: 1000 }, erased: false, certs: Some(\"f\"), schedule: None, values: [] }",
+        "Run(Run { source: \"a\", limit: RunLimit { steps: 1000 }, erased: false, certs: Some(\"f\"), schedule: None, values: [] })",
     ),
     (
         "run a --erased",
-        "Run { source: \"a\", limit: RunLimit { steps: 1000 }, erased: true, certs: None, schedule: None, values: [] }",
+        "Run(Run { source: \"a\", limit: RunLimit { steps: 1000 }, erased: true, certs: None, schedule: None, values: [] })",
     ),
     (
         "run --limit 1000000 a",
-        "Run { source: \"a\", limit: RunLimit { steps: 1000000 }, erased: false, certs: None, schedule: None, values: [] }",
+        "Run(Run { source: \"a\", limit: RunLimit { steps: 1000000 }, erased: false, certs: None, schedule: None, values: [] })",
     ),
     (
         "run a i=1 h=2 g=3 f=4 e=5 d=6 c=7 b=8 a=9 i=10",
-        "Run { source: \"a\", limit: RunLimit { steps: 1000 }, erased: false, certs: None, schedule: None, values: [\"i=1\", \"h=2\", \"g=3\", \"f=4\", \"e=5\", \"d=6\", \"c=7\", \"b=8\", \"a=9\", \"i=10\"] }",
+        "Run(Run { source: \"a\", limit: RunLimit { steps: 1000 }, erased: false, certs: None, schedule: None, values: [\"i=1\", \"h=2\", \"g=3\", \"f=4\", \"e=5\", \"d=6\", \"c=7\", \"b=8\", \"a=9\", \"i=10\"] })",
     ),
     (
         "run a --schedule 1,2,0 x=1",
-        "Run { source: \"a\", limit: RunLimit { steps: 1000 }, erased: false, certs: None, schedule: Some(\"1,2,0\"), values: [\"x=1\"] }",
+        "Run(Run { source: \"a\", limit: RunLimit { steps: 1000 }, erased: false, certs: None, schedule: Some(\"1,2,0\"), values: [\"x=1\"] })",
     ),
     (
         "run a --erased --schedule 1",
-        "Run { source: \"a\", limit: RunLimit { steps: 1000 }, erased: true, certs: None, schedule: Some(\"1\"), values: [] }",
+        "Run(Run { source: \"a\", limit: RunLimit { steps: 1000 }, erased: true, certs: None, schedule: Some(\"1\"), values: [] })",
     ),
     (
         "explore a",
-        "Explore { source: \"a\", limit: MomentLimit { moments: 100000 }, erased: false, json: false, ranges: [] }",
+        "Explore(Explore { source: \"a\", limit: MomentLimit { moments: 100000 }, erased: false, json: false, ranges: [] })",
     ),
     (
         "explore - x=1 y=-2..3 --limit 1",
-        "Explore { source: \"-\", limit: MomentLimit { moments: 1 }, erased: false, json: false, ranges: [\"x=1\", \"y=-2..3\"] }",
+        "Explore(Explore { source: \"-\", limit: MomentLimit { moments: 1 }, erased: false, json: false, ranges: [\"x=1\", \"y=-2..3\"] })",
     ),
     (
         "explore --json --limit 1000000 --erased a",
-        "Explore { source: \"a\", limit: MomentLimit { moments: 1000000 }, erased: true, json: true, ranges: [] }",
+        "Explore(Explore { source: \"a\", limit: MomentLimit { moments: 1000000 }, erased: true, json: true, ranges: [] })",
     ),
     (
         "expand a",
-        "Expand { template: \"a\", as_map: false, values: [] }",
+        "Expand(Expand { template: \"a\", as_map: false, values: [] })",
     ),
     (
         "expand - --map N=2 K=3",
-        "Expand { template: \"-\", as_map: true, values: [\"N=2\", \"K=3\"] }",
+        "Expand(Expand { template: \"-\", as_map: true, values: [\"N=2\", \"K=3\"] })",
     ),
-    ("migrate c", "Migrate { certs: \"c\" }"),
+    ("migrate c", "Migrate(Migrate { certs: \"c\" })"),
 ];
 
 // The words of a line, cut at single blanks.

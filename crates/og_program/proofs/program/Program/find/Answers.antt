@@ -1,17 +1,16 @@
 use Rattle.std.proofs.Common.{ℕ, List, subst}
 use Rattle.og_command_check.specs.Making.{IsFound}
-use Rattle.og_program.specs.Served.{FollowsFinding}
+use Rattle.og_program.specs.World.{named}
+use Rattle.og_program.specs.Commands.{FollowsFinding}
 use Rattle.og_program.proofs.program.Program.find.Goals as goal
 
-pub returns-clause-came : goal.returns-clause-came
-returns-clause-came g c =
-    let reply = c.in_ok-reply.reply in
-    let outcome = c.beside_found.result in (
-      c.in_ok-bytes.bytes.items,
-      c.in_ok-bytes.ensures.text,
-      (
-        reply,
-        subst (λ (s : List ℕ). IsFound c.args.version 67108864 s reply) c.deref.ensures.value c.in_ok-reply.ensures.found,
-        subst (λ (s : List ℕ). FollowsFinding c.args.source.now s reply outcome) c.deref-2.ensures.value c.beside_found.ensures,
-      ),
-    )
+pub returns-clause-outcome : goal.returns-clause-outcome
+returns-clause-outcome g c = (
+  c.in_ok-bytes.bytes.items,
+  c.in_ok-bytes.ensures.text,
+  (
+    c.in_ok-reply.reply,
+    subst (λ (s : List ℕ). IsFound c.args.find.now.version 67108864 s c.in_ok-reply.reply) c.deref.ensures.value c.in_ok-reply.ensures.found,
+    subst (λ (s : List ℕ). FollowsFinding (named c.args.find.now.source.now s) c.in_ok-reply.reply c.beside_found.result) c.deref-2.ensures.value c.beside_found.ensures,
+  ),
+)

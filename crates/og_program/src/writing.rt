@@ -1,12 +1,13 @@
-//! What is written of what a job comes to, of a fault or of wrong words.
+//! Writes an outcome, a fault, or why words are wrong.
 
 ghost use Rattle.std.specs.Prelude.{◌≡◌, ◌++◌, IfOk, IfErr, OnOk};
+ghost use Rattle.og_program.specs.World.{stream, trace};
 ghost use Rattle.og_program.specs.Failing.{fault_text};
-ghost use Rattle.og_program.specs.Told.{line_or_nothing, bad_value_text, Complains, Notes, Says, Fails, TellsAnswer, TellsFound, TellsListing, TellsOutcome};
+ghost use Rattle.og_program.specs.Written.{line_or_nothing, bad_value_text, Complains, GetsNote, SaysWhy, Fails, WritesReport, WritesCertificates, WritesListing, Writes};
 
 use crate::ended::Ended;
 use crate::fault::{Fault, Why};
-use crate::outcome::{BadValue, Outcome, Told, ToldFound};
+use crate::outcome::{BadValue, Certificates, Outcome, Report};
 use og_command_check::write_answer;
 use og_io::{WriteFault, write_text};
 use og_report_conditions::Listing;
@@ -17,35 +18,37 @@ use std::io::Write;
 // The status of wrong words.
 const WRONG: u8 = 3;
 
-// The status where a file cannot be read or written, memory runs out, or a thread cannot be
-// started.
+// The status where a file cannot be read or written, memory runs out, or a thread is not started.
 const FAULT: u8 = 4;
 
 const OUT_OF_MEMORY: &str = "og: out of memory\n";
 
 // Ends with a text on standard error.
 fn complain<E: Write>(text: &[u8], status: u8, err: &mut E) -> Ended
-    ensures { Complains text.now status (E.contents err.old) (E.contents err.new) result }
+    ensures { Complains text.now status (stream E.contents err.old err.new) result }
 {
     match write_text(err, text) {
-        Ok(()) => Ended { status, told: true },
+        Ok(()) => Ended {
+            status,
+            written: true,
+        },
         Err(_) => Ended {
             status,
-            told: false,
+            written: false,
         },
     }
 }
 
-/// Ends with what is wrong with the words.
+/// Ends with why the words are wrong.
 pub(crate) fn refuse<E: Write>(text: &str, err: &mut E) -> Ended
-    ensures { Complains text.now 3 (E.contents err.old) (E.contents err.new) result }
+    ensures { Complains text.now 3 (stream E.contents err.old err.new) result }
 {
     complain(text.as_bytes(), WRONG, err)
 }
 
 // Ends with the text of a fault.
 fn end<E: Write>(text: &str, err: &mut E) -> Ended
-    ensures { Complains text.now 4 (E.contents err.old) (E.contents err.new) result }
+    ensures { Complains text.now 4 (stream E.contents err.old err.new) result }
 {
     complain(text.as_bytes(), FAULT, err)
 }
@@ -64,8 +67,8 @@ fn not_read_text(alloc: Global, name: &str, why: Why) -> Result<Vec<u8>, AllocEr
 
 // Ends with a file that was not read.
 fn fail_to_read<E: Write>(alloc: Global, name: &str, why: Why, err: &mut E) -> Ended
-    ensures { Says (fault_text (Fault.NotRead name.entry why)) 4 (E.contents err.old)
-        (E.contents err.new) result }
+    ensures { SaysWhy (fault_text (Fault.NotRead name.entry why)) 4
+        (stream E.contents err.old err.new) result }
 {
     match not_read_text(alloc, name, why) {
         Ok(text) => complain(&text, FAULT, err),
@@ -75,7 +78,7 @@ fn fail_to_read<E: Write>(alloc: Global, name: &str, why: Why, err: &mut E) -> E
 
 /// Ends with a fault.
 pub(crate) fn fail<E: Write>(alloc: Global, fault: Fault<'_>, err: &mut E) -> Ended
-    ensures { Says (fault_text fault.entry) 4 (E.contents err.old) (E.contents err.new) result }
+    ensures { SaysWhy (fault_text fault.entry) 4 (stream E.contents err.old err.new) result }
 {
     match fault {
         Fault::NotRead(name, why) => fail_to_read(alloc, name, why, err),
@@ -89,10 +92,13 @@ pub(crate) fn fail<E: Write>(alloc: Global, fault: Fault<'_>, err: &mut E) -> En
 // Writes what goes to standard error beside an answer, if anything does.
 fn note<E: Write>(note: &Result<Option<Vec<u8>>, AllocError>, status: u8, err: &mut E) -> Ended
     ensures status { result.status ≡ status }
-    ensures told { Notes note.now (E.contents err.old) (E.contents err.new) result }
+    ensures note { GetsNote note.now (stream E.contents err.old err.new) result }
 {
     match note {
-        Ok(None) => Ended { status, told: true },
+        Ok(None) => Ended {
+            status,
+            written: true,
+        },
         Ok(Some(text)) => complain(text, status, err),
         Err(_) => complain(OUT_OF_MEMORY.as_bytes(), status, err),
     }
@@ -101,15 +107,15 @@ fn note<E: Write>(note: &Result<Option<Vec<u8>>, AllocError>, status: u8, err: &
 /// Prints an answer, and then what goes to standard error beside it, which changes nothing else.
 pub(crate) fn print<O: Write, E: Write>(
     alloc: Global,
-    told: &Told,
+    report: &Report,
     out: &mut O,
     err: &mut E,
 ) -> Ended
-    ensures { TellsAnswer told.now (O.contents out.old) (O.contents out.new) (E.contents err.old)
-        (E.contents err.new) result }
+    ensures { WritesReport report.now
+        (trace (stream O.contents out.old out.new) (stream E.contents err.old err.new) result) }
 {
-    match write_answer(out, &told.answer) {
-        Ok(status) => note(&told.note, status, err),
+    match write_answer(out, &report.answer) {
+        Ok(status) => note(&report.note, status, err),
         Err(fault) => fail(alloc, Fault::NotWritten(fault), err),
     }
 }
@@ -135,9 +141,9 @@ fn bad_value_text(alloc: Global, bad: &BadValue<'_>) -> Result<Vec<u8>, AllocErr
     Ok(text)
 }
 
-// Tells of a word that gives no value.
+// Refuses a word that gives no value.
 fn refuse_value<E: Write>(alloc: Global, bad: &BadValue<'_>, err: &mut E) -> Ended
-    ensures { Says (bad_value_text bad.now) 3 (E.contents err.old) (E.contents err.new) result }
+    ensures { SaysWhy (bad_value_text bad.now) 3 (stream E.contents err.old err.new) result }
 {
     match bad_value_text(alloc, bad) {
         Ok(text) => complain(&text, WRONG, err),
@@ -145,27 +151,30 @@ fn refuse_value<E: Write>(alloc: Global, bad: &BadValue<'_>, err: &mut E) -> End
     }
 }
 
-// Writes a listing as it is made, or tells why it is not written whole.
+// Writes a listing as it is made, or says why it is not written whole.
 fn list<O: Write, E: Write>(alloc: Global, listing: &Listing, out: &mut O, err: &mut E) -> Ended
-    ensures { TellsListing listing.now (O.contents out.old) (O.contents out.new)
-        (E.contents err.old) (E.contents err.new) result }
+    ensures { WritesListing listing.now
+        (trace (stream O.contents out.old out.new) (stream E.contents err.old err.new) result) }
 {
     match listing.write(alloc, out) {
-        Ok(status) => Ended { status, told: true },
+        Ok(status) => Ended {
+            status,
+            written: true,
+        },
         Err(fault) => fail(alloc, Fault::from(fault), err),
     }
 }
 
 // Writes certificates as their text is made, and then what goes to standard error beside them; or
-// tells why they are not written whole.
+// says why they are not written whole.
 fn print_found<O: Write, E: Write>(
     alloc: Global,
-    certificates: &ToldFound,
+    certificates: &Certificates,
     out: &mut O,
     err: &mut E,
 ) -> Ended
-    ensures { TellsFound certificates.now (O.contents out.old) (O.contents out.new)
-        (E.contents err.old) (E.contents err.new) result }
+    ensures { WritesCertificates certificates.now
+        (trace (stream O.contents out.old out.new) (stream E.contents err.old err.new) result) }
 {
     match certificates.found.write(alloc, out) {
         Ok(status) => note(&certificates.note, status, err),
@@ -173,39 +182,41 @@ fn print_found<O: Write, E: Write>(
     }
 }
 
-// Tells what a job comes to.
-fn tell_outcome<O: Write, E: Write>(
+// Writes an outcome.
+fn write_outcome<O: Write, E: Write>(
     alloc: Global,
     outcome: &Outcome<'_>,
     out: &mut O,
     err: &mut E,
 ) -> Ended
-    ensures { TellsOutcome outcome.now (O.contents out.old) (O.contents out.new)
-        (E.contents err.old) (E.contents err.new) result }
+    ensures { Writes outcome.now
+        (trace (stream O.contents out.old out.new) (stream E.contents err.old err.new) result) }
 {
     match outcome {
-        Outcome::Told(told) => print(alloc, told, out, err),
-        Outcome::Found(certificates) => print_found(alloc, certificates, out, err),
+        Outcome::Report(report) => print(alloc, report, out, err),
+        Outcome::Certificates(certificates) => print_found(alloc, certificates, out, err),
         Outcome::Listing(listing) => list(alloc, listing, out, err),
         Outcome::BadValue(bad) => refuse_value(alloc, bad, err),
         Outcome::NotMade(line) => complain(line, WRONG, err),
     }
 }
 
-/// Tells what a job comes to, or why it cannot be done.
-pub(crate) fn tell<O: Write, E: Write>(
+/// Writes an outcome, or why there is none.
+pub(crate) fn write_result<O: Write, E: Write>(
     alloc: Global,
     outcome: Result<Outcome<'_>, Fault<'_>>,
     out: &mut O,
     err: &mut E,
 ) -> Ended
-    ensures ok { IfOk outcome.entry (λ o. TellsOutcome o (O.contents out.old) (O.contents out.new)
-        (E.contents err.old) (E.contents err.new) result) }
-    ensures err { IfErr outcome.entry (λ fault. Fails fault (O.contents out.old)
-        (O.contents out.new) (E.contents err.old) (E.contents err.new) result) }
+    ensures ok { IfOk outcome.entry
+        (λ o. Writes o
+        (trace (stream O.contents out.old out.new) (stream E.contents err.old err.new) result)) }
+    ensures err { IfErr outcome.entry
+        (λ fault. Fails fault
+        (trace (stream O.contents out.old out.new) (stream E.contents err.old err.new) result)) }
 {
     match outcome {
-        Ok(outcome) => tell_outcome(alloc, &outcome, out, err),
+        Ok(outcome) => write_outcome(alloc, &outcome, out, err),
         Err(fault) => fail(alloc, fault, err),
     }
 }
