@@ -10,18 +10,21 @@ ghost use Rattle.og_cond.specs.Seen.{seen};
 ghost use Rattle.og_find_all.specs.Written.{IsText};
 ghost use Rattle.og_io.specs.Written.{AppendsFront};
 ghost use Rattle.og_pool.specs.declared.fault.PoolFault.TheVariants.{Spawn};
-ghost use Rattle.og_command_check.specs.Making.{text_of, status_of_found, IsLength, IsSecond, IsSearched, IsFoundOf, IsFound, IsMigrated};
+ghost use Rattle.og_judge.specs.NotJudged.{OnInput};
+ghost use Rattle.og_judge.specs.declared.refusal.Refusal.TheVariants as refusals;
+ghost use Rattle.og_report_text.specs.InputErrors.{OnFault, IsFaultOfCount};
+ghost use Rattle.og_command_check.specs.Making.{text_of, status_of_found, IsLength, IsSecond, IsSearched, IsFound, IsMigrated, IsFaultOfCerts};
 
 use og_cert_read::write_certs_2;
-use og_cert_text::{CertFile, CertTextError};
-use og_cond::{Condition, ConditionsError, conditions};
+use og_cert_text::CertFile;
+use og_cond::{Condition, conditions};
 use og_find::Missing;
 use og_find_all::{Certificates, FoundText, Written, examine_all, find_all};
 use og_io::{Budget, CertVersion, OutputFault, Workers, write_whole};
-use og_judge::migrate;
+use og_judge::{Refusal, migrate};
 use og_pool::{Gate, PoolFault};
-use og_report_text::{Answer, InputFault};
-use og_typed::Source;
+use og_report_text::{Answer, InputError};
+use og_typed::Outline;
 use std::alloc::{AllocError, Global};
 use std::io::Write;
 use std::sync::Wait;
@@ -93,15 +96,13 @@ pub struct LongText {
     pub second: Option<usize>,
 }
 
-/// What is answered to whoever asks for certificates of a source.
+/// The certificates of a source that searches find.
 #[derive(Debug, Drop)]
 pub enum FindReply {
     /// Those that were found.
     Found(FoundCertificates),
     /// Their text would be too long.
     TooLong(LongText),
-    /// The line of a refusal, with status 2.
-    Refused(Answer),
 }
 
 /// Which certificates are wanted, and how they are searched.
@@ -134,8 +135,8 @@ fn of_long(alloc: Global, file: &CertFile, limit: usize) -> Result<LongText, All
     Ok(LongText { limit, second })
 }
 
-// The text in version 2 of a file of the certificates of so many conditions, where it has at most
-// so many bytes.
+// The text in version 2 of a file of the certificates of so many conditions, where it has at most so
+// many bytes.
 fn of_file(
     alloc: Global,
     file: &CertFile,
@@ -227,72 +228,39 @@ fn of_search<G: Gate, H: Threads + Wait + Sync>(
     }
 }
 
-// The answer for the outline of a source.
-fn found_of<G: Gate, H: Threads + Wait + Sync>(
-    rt: &H,
-    alloc: Global,
-    source: &Source,
-    wanted: Wanted,
-    gate: &G,
-) -> Result<FindReply, PoolFault>
-    ensures found { IfOk result (IsFoundOf wanted.version wanted.limit source.now.outline source.now.bytes) }
-    ensures spawn { IfErr result (λ e. e ≡ Spawn → 1 < wanted.workers) }
-{
-    match conditions(alloc, source.outline()) {
-        Ok(conditions) => of_search(rt, alloc, &conditions, wanted, gate),
-        Err(ConditionsError::Fault(fault)) => {
-            let why = InputFault::Conditions(fault);
-            let answer = Answer::refused(alloc, &why, source.bytes())?;
-            Ok(FindReply::Refused(answer))
-        }
-        Err(ConditionsError::Memory) => Err(PoolFault::Memory),
-    }
-}
-
-/// The certificates that searches find for the conditions of the outline of a source, in the wanted
-/// version of their text, and how many conditions have none; that this text would have more bytes
-/// than it may have; or the line of a refusal and status 2. The text is the same for every number
-/// of workers. The gate is told of the searches as by `og_find_all::examine_all`.
+/// The certificates that searches find for the conditions of an outline, in the wanted version of
+/// their text, and how many conditions have none; or that this text would have more bytes than it may
+/// have. The text is the same for every number of workers. The gate hears of the searches as by
+/// `og_find_all::examine_all`.
 ///
 /// # Errors
 ///
-/// `Spawn`, of two workers or more, where a thread could not be started. `Memory` where an
-/// allocation was refused.
+/// `Input` where the outline has more than 4,000,000 conditions. `Spawn`, of two workers or more,
+/// where a thread could not be started. `Memory` where an allocation was refused.
 pub fn found<G: Gate, H: Threads + Wait + Sync>(
     rt: &H,
     alloc: Global,
-    source: &[u8],
+    outline: &Outline,
     wanted: Wanted,
     gate: &G,
-) -> Result<FindReply, PoolFault>
-    ensures found { IfOk result (IsFound wanted.version wanted.limit source.now) }
-    ensures spawn { IfErr result (λ e. e ≡ Spawn → 1 < wanted.workers) }
+) -> Result<FindReply, Refusal>
+    ensures found { IfOk result (IsFound wanted.version wanted.limit outline.now) }
+    ensures refused { IfErr result (OnInput (IsFaultOfCount outline.now)) }
+    ensures spawn { IfErr result (λ e. e ≡ refusals.Spawn → 1 < wanted.workers) }
 {
-    match Source::read(alloc, source) {
-        Ok(source) => {
-            let found = found_of(rt, alloc, &source, wanted, gate);
-            drop(source);
-            found
-        }
-        Err(error) => {
-            let answer = Answer::unread(alloc, &error, source)?;
-            Ok(FindReply::Refused(answer))
-        }
-    }
+    let conditions = conditions(alloc, outline)?;
+    Ok(of_search(rt, alloc, &conditions, wanted, gate)?)
 }
 
-/// A text of certificates in version 2, as `og_judge::migrate` gives it, and status 0; or the line
-/// of a refusal and status 2.
+/// A text of certificates in version 2, as `og_judge::migrate` makes it, and status 0.
 ///
 /// # Errors
 ///
-/// An allocation was refused.
-pub fn migrated(alloc: Global, certs: &[u8]) -> Result<Answer, AllocError>
-    ensures { IfOk result (IsMigrated certs.now) }
+/// `Fault`, why the text is not read. `Memory` where an allocation was refused.
+pub fn migrated(alloc: Global, certs: &[u8]) -> Result<Answer, InputError>
+    ensures migrated { IfOk result (IsMigrated certs.now) }
+    ensures refused { IfErr result (OnFault (IsFaultOfCerts certs.now)) }
 {
-    match migrate(alloc, certs) {
-        Ok(text) => Ok(Answer { text, status: 0 }),
-        Err(CertTextError::Memory) => Err(AllocError),
-        Err(CertTextError::Fault(fault)) => Answer::refused(alloc, &InputFault::Certs(fault), b""),
-    }
+    let text = migrate(alloc, certs)?;
+    Ok(Answer { text, status: 0 })
 }

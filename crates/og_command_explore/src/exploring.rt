@@ -90,14 +90,25 @@ fn of_program(
     of_outline(alloc, outline, source, &conditions, ranges, request)
 }
 
-// The reply for a source that was read.
-fn of_source<'a>(
+/// Explores the program of a source, breadth first, from all starts within the ranges that the
+/// words give, each NAME=INT or NAME=LO..HI. Any other variable has one value in all starts: that
+/// of a state which a search finds for the precondition, and 0 where it finds none.
+///
+/// The answer is what was found, with runs that lead there, and the totals, with status 0 where all
+/// was explored and nothing found, and else 1, as a text or as JSON in one line; or, only where no
+/// start lies within the ranges, the line of 50 NotPre, with status 2. `BadValue` holds the first
+/// word that gives no range.
+///
+/// # Errors
+///
+/// An allocation was refused.
+pub fn explored<'a>(
     alloc: Global,
     source: &Source,
     words: &[&'a str],
     request: Request,
 ) -> Result<Reply<'a>, AllocError>
-    ensures { IfOk result (IsReply request.json source.now.bytes request.erased
+    ensures { IfOk result (IsReply request.json source.now.outline source.now.bytes request.erased
         (map (λ w. w.now) words.now)) }
 {
     let outline = source.outline();
@@ -109,36 +120,5 @@ fn of_source<'a>(
         }
         Err(WordsError::Bad(word)) => Ok(Reply::BadValue(word)),
         Err(WordsError::Memory) => Err(AllocError),
-    }
-}
-
-/// Explores the program of a source, breadth first, from all starts within the ranges that the
-/// words give, each NAME=INT or NAME=LO..HI. Any other variable has one value in all starts: that
-/// of a state which a search finds for the precondition, and 0 where it finds none.
-///
-/// The answer is what was found, with runs that lead there, and the totals, with status 0 where all
-/// was explored and nothing found, and else 1, as a text or as JSON in one line; or the line of a
-/// refusal, with status 2: 50 NotPre only where no start lies within the ranges. `BadValue` holds
-/// the first word that gives no range.
-///
-/// # Errors
-///
-/// An allocation was refused.
-pub fn explored<'a>(
-    alloc: Global,
-    source: &[u8],
-    words: &[&'a str],
-    request: Request,
-) -> Result<Reply<'a>, AllocError>
-    ensures { IfOk result (IsReply request.json source.now request.erased
-        (map (λ w. w.now) words.now)) }
-{
-    match Source::read(alloc, source) {
-        Ok(source) => {
-            let reply = of_source(alloc, &source, words, request);
-            drop(source);
-            reply
-        }
-        Err(error) => Ok(Reply::Answer(Answer::unread(alloc, &error, source)?)),
     }
 }

@@ -1,8 +1,6 @@
 -- The promise of an answer.
-use Rattle.std.specs.Prelude.{◌≡◌, ◌⊎◌, ℕ, List}
+use Rattle.std.specs.Prelude.{◌≡◌, ℕ, List}
 use Rattle.og_typed.specs.Syntax.{Program}
-use Rattle.og_typed.specs.Source.{IsSource}
-use Rattle.og_report_text.specs.Told.{IsUnread}
 use Rattle.og_report_text.specs.declared.answer.Answer.{Answer}
 use Rattle.og_command_notes.specs.Claims.{Claim, AreClaims}
 use Rattle.og_command_notes.specs.Notes.{notes_text}
@@ -14,7 +12,3 @@ IsNotesText o source text = (claims : List Claim) × AreClaims o claims × (text
 -- these, with status 0
 abbrev pub IsNotes : Program → List ℕ → Answer → Type 0
 IsNotes o source answer = IsNotesText o source answer.text.items × (answer.status ≡ 0)
-
--- those on the source's outline, or the line of a refusal
-abbrev pub IsNoted : List ℕ → Answer → Type 0
-IsNoted source answer = IsUnread source answer ⊎ ((o : Program) × IsSource source o × IsNotes o source answer)

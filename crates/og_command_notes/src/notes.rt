@@ -5,7 +5,7 @@ ghost use Rattle.og_erase.specs.Collected.{raw_of};
 ghost use Rattle.og_parse.specs.TreeOf.{tree_of};
 ghost use Rattle.og_print.specs.Print.{program_text};
 ghost use Rattle.og_typed.specs.Erase.{erased};
-ghost use Rattle.og_command_notes.specs.Noted.{IsNotesText, IsNotes, IsNoted};
+ghost use Rattle.og_command_notes.specs.Noted.{IsNotesText, IsNotes};
 ghost use Rattle.og_command_notes.specs.Notes as wanted;
 ghost use Rattle.og_command_notes.specs.Seen.{claims_of, steps_of};
 ghost use Rattle.og_command_notes.specs.Steps.{all_steps};
@@ -140,18 +140,9 @@ fn notes_text(
     Ok(text)
 }
 
-// The notes on the outline of a source.
-fn of_source(alloc: Global, source: &Source, budget: Budget) -> Result<Answer, AllocError>
-    ensures { IfOk result (IsNotes source.now.outline source.now.bytes) }
-{
-    let text = notes_text(alloc, source.outline(), source.bytes(), budget)?;
-    Ok(Answer { text, status: 0 })
-}
-
-/// Notes on the outline of a source for whoever reviews a yes, and status 0; or the line of a
-/// refusal and status 2.
+/// Notes on the outline of a source for whoever reviews a yes, and status 0.
 ///
-/// They tell the precondition and the postcondition; each assertion for which a search within the
+/// They have the precondition and the postcondition; each assertion for which a search within the
 /// budget finds a certificate that no state meets it; each step of a process that touches more than
 /// one variable which other processes assign; and the auxiliary variables, with the program that is
 /// left without them.
@@ -159,15 +150,9 @@ fn of_source(alloc: Global, source: &Source, budget: Budget) -> Result<Answer, A
 /// # Errors
 ///
 /// An allocation was refused.
-pub fn noted(alloc: Global, source: &[u8], budget: Budget) -> Result<Answer, AllocError>
-    ensures { IfOk result (IsNoted source.now) }
+pub fn noted(alloc: Global, source: &Source, budget: Budget) -> Result<Answer, AllocError>
+    ensures { IfOk result (IsNotes source.now.outline source.now.bytes) }
 {
-    match Source::read(alloc, source) {
-        Ok(source) => {
-            let answer = of_source(alloc, &source, budget);
-            drop(source);
-            answer
-        }
-        Err(error) => Answer::unread(alloc, &error, source),
-    }
+    let text = notes_text(alloc, source.outline(), source.bytes(), budget)?;
+    Ok(Answer { text, status: 0 })
 }

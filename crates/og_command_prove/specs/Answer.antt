@@ -1,12 +1,11 @@
 -- What is answered for an outline, and what its status says.
-use Rattle.std.specs.Prelude.{◌≡◌, ◌≤◌, ◌⊎◌, ℕ, Bool, true, if◌then◌else◌, List, length, Option, is_some}
+use Rattle.std.specs.Prelude.{◌≡◌, ◌≤◌, ℕ, Bool, true, if◌then◌else◌, List, length, Option, is_some}
 use Rattle.og_typed.specs.Erase.{erased}
 use Rattle.og_cond.specs.Conditions.{conditions}
 use Rattle.og_cond.specs.Limits.{condition_limit}
 use Rattle.og_report_prove.specs.Report.{is_safe, is_unblocked}
 use Rattle.og_report_prove.specs.declared.telling.Told.{Told}
 use Rattle.og_report_runs.specs.declared.lines.Explored.{Explored}
-use Rattle.og_report_text.specs.Told.{HasTooMany}
 use Rattle.og_report_text.specs.declared.answer.Answer.{Answer}
 use Rattle.og_theorem.specs.NeverStuck.{IsNeverStuck}
 use Rattle.og_theorem.specs.Sound.{IsSound, IsSoundErased}
@@ -38,7 +37,3 @@ pub record IsReported (form : ReportForm) (runs : Bool) (s : Subject)
       → IsNeverStuck s.outline × IsNeverStuck (erased s.outline)
   -- as it is where the text says so
   pub says : SaysUnblockedIn runs form answer.text.items → is_unblocked (told_in findings) ≡ true
-
--- that, or the line that says that there are too many conditions
-abbrev pub IsAnswer : ReportForm → Bool → Subject → Answer → Type 0
-IsAnswer form runs s answer = IsReported form runs s answer ⊎ HasTooMany s.outline s.own answer

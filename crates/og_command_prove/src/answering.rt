@@ -10,7 +10,10 @@ ghost use Rattle.og_report_prove.specs.Report.{is_unblocked};
 ghost use Rattle.og_report_prove.specs.Told.{AreTold};
 ghost use Rattle.og_theorem.specs.NeverStuck.{IsNeverStuck};
 ghost use Rattle.og_theorem.specs.Sound.{IsSound, IsSoundErased};
-ghost use Rattle.og_command_prove.specs.Answer.{status_of, IsAnswer, IsReported};
+ghost use Rattle.og_judge.specs.NotJudged.{OnInput};
+ghost use Rattle.og_judge.specs.declared.refusal.Refusal.TheVariants as refusals;
+ghost use Rattle.og_report_text.specs.InputErrors.{IsFaultOfCount};
+ghost use Rattle.og_command_prove.specs.Answer.{status_of, IsReported};
 ghost use Rattle.og_command_prove.specs.Found.{AreFound};
 ghost use Rattle.og_command_prove.specs.Subject.{subject_of, IsShort};
 
@@ -20,10 +23,11 @@ use crate::printing::printed;
 use crate::prover::Prover;
 use crate::searching::AskedRuns;
 use crate::subject::Subject;
-use og_cond::{Condition, ConditionsError, conditions};
+use og_cond::{Condition, conditions};
+use og_judge::Refusal;
 use og_pool::{Gate, PoolFault};
 use og_report_prove::{Told, is_safe, is_unblocked};
-use og_report_text::{Answer, InputFault};
+use og_report_text::Answer;
 use og_theorem::Proved;
 use og_typed::Outline;
 use std::alloc::{AllocError, Global};
@@ -59,8 +63,7 @@ fn answer_of(
     requires few { length (conditions_of subject.now.outline.now) ≤ condition_limit }
     requires found { AreFound subject.now.outline.now (conditions_of subject.now.outline.now)
         findings.rows.items findings.explored }
-    ensures { IfOk result
-        (IsReported form (is_some findings.entry.explored) (subject_of subject.now)) }
+    ensures { IfOk result (IsReported form (is_some findings.entry.explored) (subject_of subject.now)) }
 {
     let table = findings.into_table(alloc)?;
     let text = printed(alloc, subject, &table, form)?;
@@ -80,8 +83,7 @@ impl<'r, G: Gate, H: Threads + Wait + Sync> Prover<'r, G, H> {
         requires short { IsShort (subject_of subject.now) }
         requires listed { map seen conditions.items ≡ conditions_of subject.now.outline.now }
         requires few { length conditions.items ≤ condition_limit }
-        ensures answer { IfOk result
-            (IsReported form (is_some asked.entry) (subject_of subject.now)) }
+        ensures answer { IfOk result (IsReported form (is_some asked.entry) (subject_of subject.now)) }
         ensures spawn { IfErr result (λ e. e ≡ Spawn → 1 < self.now.search.workers) }
     {
         let findings = self.findings(subject.outline, conditions, asked)?;
@@ -89,34 +91,27 @@ impl<'r, G: Gate, H: Threads + Wait + Sync> Prover<'r, G, H> {
         Ok(answer)
     }
 
-    /// What is found of the conditions of an outline, in a form, and the status: 0 where every
-    /// condition but the last is proved, and 1 where one is not; or the line that says that there
-    /// are too many conditions, with status 2. Status 0 says that every run of the outline is as
-    /// promised, with its auxiliaries and without them; and a text that says then that it is
-    /// unblocked, that none gets stuck. The texts have at most 1,048,576 bytes.
+    /// What is found of the conditions of an outline, in a form, and the status: 0 where every condition
+    /// but the last is proved, and 1 where one is not. Status 0 says that every run of the outline is as
+    /// promised, with its auxiliaries and without them; and a text that says then that it is unblocked,
+    /// that none gets stuck. The texts have at most 1,048,576 bytes.
     ///
     /// # Errors
     ///
-    /// `Spawn`, of two workers or more, where a thread could not be started. `Memory` where an
-    /// allocation was refused.
+    /// `Input` where the outline has more than 4,000,000 conditions. `Spawn`, of two workers or more,
+    /// where a thread could not be started. `Memory` where an allocation was refused.
     pub(crate) fn answer(
         &self,
         subject: &Subject<'_>,
         asked: Option<&AskedRuns<'_>>,
         form: ReportForm,
-    ) -> Result<Answer, PoolFault>
+    ) -> Result<Answer, Refusal>
         requires { IsShort (subject_of subject.now) }
-        ensures answer { IfOk result
-            (IsAnswer form (is_some asked.entry) (subject_of subject.now)) }
-        ensures spawn { IfErr result (λ e. e ≡ Spawn → 1 < self.now.search.workers) }
+        ensures answer { IfOk result (IsReported form (is_some asked.entry) (subject_of subject.now)) }
+        ensures refused { IfErr result (OnInput (IsFaultOfCount subject.now.outline.now)) }
+        ensures spawn { IfErr result (λ e. e ≡ refusals.Spawn → 1 < self.now.search.workers) }
     {
-        match conditions(self.alloc, subject.outline) {
-            Ok(list) => self.reported(subject, list, asked, form),
-            Err(ConditionsError::Fault(fault)) => {
-                let fault = InputFault::Conditions(fault);
-                Ok(Answer::refused(self.alloc, &fault, subject.own)?)
-            }
-            Err(ConditionsError::Memory) => Err(PoolFault::Memory),
-        }
+        let list = conditions(self.alloc, subject.outline)?;
+        Ok(self.reported(subject, list, asked, form)?)
     }
 }

@@ -15,13 +15,11 @@ use Rattle.og_run.specs.declared.fault.RunFault.TheVariants as faults
 use Rattle.og_run.specs.declared.fault.RunError.{RunError}
 use Rattle.og_run.specs.declared.fault.RunError.TheVariants as errors
 use Rattle.og_judge.specs.declared.entry.Entry.{Entry}
-use Rattle.og_judge.specs.Entries.{AreEntries, AreRefused, is_safe, is_unblocked}
+use Rattle.og_judge.specs.Entries.{AreEntries, is_safe, is_unblocked}
 use Rattle.og_report_text.specs.Places.{◌&◌}
-use Rattle.og_typed.specs.Source.{IsSource}
 use Rattle.og_report_text.specs.Line.{opening_text}
-use Rattle.og_report_text.specs.Told.{Says, IsTold, IsUnread}
+use Rattle.og_report_text.specs.Told.{Says}
 use Rattle.og_report_text.specs.declared.answer.Answer.{Answer}
-use Rattle.og_report_text.specs.declared.fault.InputFault.{InputFault}
 use Rattle.og_command_run.specs.Words.{Give, IsBadIn}
 use Rattle.og_command_run.specs.Texts.{outcome_text, finish_status}
 use Rattle.og_command_run.specs.Asked.{IsNote}
@@ -93,40 +91,34 @@ OnTold P (replies.Told ran) = P ran
 OnTold P (replies.BadValue word) = ⊥
 OnTold P (replies.NotMade line) = ⊥
 
--- the source has no outline; or a word gives no value
-abbrev pub IsEarly : List ℕ → List (List ℕ) → Reply → Type 0
-IsEarly source words (replies.Told ran) = IsQuiet (IsUnread source) ran
-IsEarly source words (replies.BadValue word) = (o : Program) × IsSource source o × IsBadIn o words word.now
-IsEarly source words (replies.NotMade line) = ⊥
+-- a word gives no value
+abbrev pub IsEarly : Program → List (List ℕ) → Reply → Type 0
+IsEarly o words (replies.BadValue word) = IsBadIn o words word.now
+IsEarly o words _ = ⊥
 
--- neither, and then the reply is one of these
-pub record Goes (P : Program → List ℤ → Reply → Type 0) (source : List ℕ) (words : List (List ℕ)) (r : Reply) : Type 0 where
-  pub outline : Program
-  pub values : List ℤ
-  pub read : IsSource source outline
-  pub given : Give outline words values
-  pub told : P outline values r
+-- the words give values, and P of these and of the reply
+abbrev pub Goes : (List ℤ → Reply → Type 0) → Program → List (List ℕ) → Reply → Type 0
+Goes P o words r = (values : List ℤ) × Give o words values × P values r
 
 -- the program that runs: the outline, or it without auxiliaries
 abbrev pub program_of : Bool → Program → Program
 program_of without_auxiliaries o = if without_auxiliaries then erased o else o
 
--- the outcome of a run of the source's outline, with its auxiliaries or without them
-abbrev pub IsRan : Bool → ℕ → List ℕ → List (List ℕ) → Reply → Type 0
-IsRan without_auxiliaries limit source words r =
-    IsEarly source words r
-    ⊎ Goes (λ o values reply. OnTold (Tells source (given (program_of without_auxiliaries o) values limit)) reply) source words r
+-- the outcome of a run of an outline in this text, with its auxiliaries or without them
+abbrev pub IsRan : Bool → ℕ → Program → List ℕ → List (List ℕ) → Reply → Type 0
+IsRan without_auxiliaries limit o source words r =
+    let program = program_of without_auxiliaries o in
+    IsEarly o words r ⊎ Goes (λ values. OnTold (Tells source (given program values limit))) o words r
 
--- a refusal of the outline with the certificates; or the report of its judgement
-abbrev pub IsRefusedOrJudged : List ℕ → List ℕ → Program → List ℤ → ℕ → Ran → Type 0
-IsRefusedOrJudged source certs o values limit r =
-    ((why : InputFault) × AreRefused certs o why × IsQuiet (IsTold source why) r)
-    ⊎ ((entries : List Entry) × AreEntries certs o entries × TellsJudged source entries (given o values limit) r)
+-- the report of the judgement of an outline by certificates
+abbrev pub IsJudged : List ℕ → List ℕ → Program → List ℤ → ℕ → Ran → Type 0
+IsJudged source certs o values limit r =
+    (entries : List Entry) × AreEntries certs o entries × TellsJudged source entries (given o values limit) r
 
--- the outcome of a run of the source's outline, which the certificates prove safe
-abbrev pub IsRanProved : ℕ → List ℕ → List ℕ → List (List ℕ) → Reply → Type 0
-IsRanProved limit source certs words r =
-    IsEarly source words r ⊎ Goes (λ o values reply. OnTold (IsRefusedOrJudged source certs o values limit) reply) source words r
+-- the outcome of a run of the outline, which the certificates prove safe
+abbrev pub IsRanProved : ℕ → Program → List ℕ → List ℕ → List (List ℕ) → Reply → Type 0
+IsRanProved limit o source certs words r =
+    IsEarly o words r ⊎ Goes (λ values. OnTold (IsJudged source certs o values limit)) o words r
 
 -- the answer is that of a run: its status is 0, or 1 with another text than `not safe`
 abbrev pub IsOfRun : Reply → Type 0

@@ -53,7 +53,7 @@ Follows source word o values (replies.BadValue bad) = (bad.now ≡ word) × ((st
 Follows source word o values (replies.NotMade line) =
     (steps : List ℕ) × IsSchedule word steps × TellsNotMade source (given o values (length steps)) steps line.items
 
--- what comes of a schedule of the source's outline, with its auxiliaries or without them
-abbrev pub IsScheduled : Bool → List ℕ → List (List ℕ) → List ℕ → Reply → Type 0
-IsScheduled without_auxiliaries source words schedule r =
-    IsEarly source words r ⊎ Goes (λ o values reply. Follows source schedule (program_of without_auxiliaries o) values reply) source words r
+-- what comes of a schedule of an outline in this text, with its auxiliaries or without them
+abbrev pub IsScheduled : Bool → Program → List ℕ → List (List ℕ) → List ℕ → Reply → Type 0
+IsScheduled without_auxiliaries o source words schedule r =
+    IsEarly o words r ⊎ Goes (Follows source schedule (program_of without_auxiliaries o)) o words r

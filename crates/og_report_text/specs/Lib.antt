@@ -1,6 +1,7 @@
 pub mod Assertions
 pub mod Conjuncts
 pub mod Faults
+pub mod InputErrors
 pub mod Line
 pub mod Listing
 pub mod Origins

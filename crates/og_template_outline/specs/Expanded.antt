@@ -1,5 +1,5 @@
 -- The promise of an answer.
-use Rattle.std.specs.Prelude.{◌≡◌, ℕ, ◌≤◌, ◌^◌, ◌⊎◌, length, List, [], Bool, true, false, ◌++◌, Some, Contains, codes, if◌then◌else◌}
+use Rattle.std.specs.Prelude.{◌≡◌, ℕ, ◌≤◌, ◌^◌, length, List, [], Bool, true, false, ◌++◌, Some, Contains, codes, if◌then◌else◌}
 use Rattle.og_text.specs.declared.token.Token.{Token}
 use Rattle.og_parse.specs.Trees.{Outline}
 use Rattle.og_parse.specs.Grammar.{IsOutline}
@@ -12,7 +12,7 @@ use Rattle.og_typed.specs.declared.source_fault.SourceFault.TheVariants as sourc
 use Rattle.og_report_text.specs.declared.fault.InputFault.TheVariants as inputs
 use Rattle.og_report_text.specs.declared.answer.Answer.{Answer}
 use Rattle.og_report_text.specs.Line.{opening_text, place_text, refused_line}
-use Rattle.og_report_text.specs.Told.{Says, IsUnread}
+use Rattle.og_report_text.specs.Told.{Says}
 use Rattle.og_template.specs.Faults.{number_of_kind, name_of_kind}
 use Rattle.og_template.specs.Front.{is_template}
 use Rattle.og_template_outline.specs.Faults.{number_of_fault, name_of_fault}
@@ -70,10 +70,10 @@ pub record HasOutline (text : List ℕ) : Type 0 where
   pub outline : Program
   pub source : IsSource text outline
 
--- of an outline: its refusal as a source, or its bytes; a word has no constant to name
+-- of an outline: its bytes; a word has no constant to name
 abbrev pub IsOfOutline : Bool → List ℕ → List (List ℕ) → Reply → Type 0
 IsOfOutline is_map text words (replies.Answer a) =
-    IsUnread text a ⊎ ((words ≡ []) × HasOutline text × Says (if is_map then [] else text) 0 a)
+    (words ≡ []) × HasOutline text × Says (if is_map then [] else text) 0 a
 IsOfOutline is_map text words (replies.Refused a fault) = ⊥
 IsOfOutline is_map text words (replies.BadValue word) = Contains words word.now
 
