@@ -5,7 +5,7 @@ use std::io::{self, IsTerminal, Write};
 use std::sync::atomic::{AtomicBool, AtomicU64, Ordering};
 use std::time::Instant;
 
-/// Tells on standard error, where that is a terminal, how many of how many conditions are done, or
+/// Shows on standard error, where that is a terminal, how many of how many conditions are done, or
 /// how many steps a run has made: after the first second of work, and then once a second. The line
 /// is taken away when all are done, or the run has ended.
 #[derive(Drop)]
@@ -16,7 +16,7 @@ pub(crate) struct Progress<'r> {
     count: AtomicU64,
     done: AtomicU64,
     // The last second in which it was reported; 0 before the first report.
-    told: AtomicU64,
+    shown: AtomicU64,
 }
 
 impl<'r> Progress<'r> {
@@ -33,7 +33,7 @@ impl<'r> Progress<'r> {
             runs: AtomicBool::new(false),
             count: AtomicU64::new(0),
             done: AtomicU64::new(0),
-            told: AtomicU64::new(0),
+            shown: AtomicU64::new(0),
         }
     }
 
@@ -50,16 +50,16 @@ impl<'r> Progress<'r> {
 
     // Whether nobody else reports this second.
     fn takes(&self, second: u64) -> bool {
-        let told = self.told.load(Ordering::SeqCst);
-        told < second
+        let shown = self.shown.load(Ordering::SeqCst);
+        shown < second
             && self
-                .told
-                .compare_exchange(told, second, Ordering::SeqCst, Ordering::SeqCst)
+                .shown
+                .compare_exchange(shown, second, Ordering::SeqCst, Ordering::SeqCst)
                 .is_ok()
     }
 
     // Writes how many are done in place of what stood in the line.
-    fn tell(&self, done: u64) -> io::Result<()> {
+    fn show(&self, done: u64) -> io::Result<()> {
         let count = self.count.load(Ordering::SeqCst);
         if self.runs.load(Ordering::SeqCst) {
             write!(self.rt.stderr(), "\rog: {done} of at most {count} steps")
@@ -70,7 +70,7 @@ impl<'r> Progress<'r> {
 
     // Takes the line away, if there is one.
     fn clear(&self) -> io::Result<()> {
-        if self.told.load(Ordering::SeqCst) == 0 {
+        if self.shown.load(Ordering::SeqCst) == 0 {
             return Ok(());
         }
         self.rt.stderr().write_all(b"\r\x1b[K")
@@ -93,7 +93,7 @@ impl<'r> Gate for Progress<'r> {
     fn after(&self, _task: u32) {
         let done = self.done.fetch_add(1, Ordering::SeqCst).wrapping_add(1);
         if self.takes(self.seconds()) {
-            let _ = self.tell(done);
+            let _ = self.show(done);
         }
         if done == self.count.load(Ordering::SeqCst) {
             let _ = self.clear();

@@ -37,7 +37,7 @@ fn print(rt: &HostRuntime, text: &str) -> Option<()> {
 }
 
 // Prints how many conditions there are, and how many are proved.
-fn tell<H: Threads + Wait + Sync>(
+fn judge<H: Threads + Wait + Sync>(
     rt: &HostRuntime,
     threads: &H,
     conditions: &[Condition],
@@ -109,12 +109,12 @@ fn measure<H: Threads + Wait + Sync>(
     certs: &CertFile,
 ) -> Option<()> {
     let list = conditions(rt.alloc(), outline).ok()?;
-    let told = match tell(rt, threads, &list, certs) {
+    let judged = match judge(rt, threads, &list, certs) {
         Some(()) => time_all(rt, threads, &list, certs),
         None => None,
     };
     drop(list);
-    told
+    judged
 }
 
 fn measure_files<H: Threads + Wait + Sync>(
@@ -127,9 +127,9 @@ fn measure_files<H: Threads + Wait + Sync>(
     let certs = bytes(rt, certs)?;
     let file = read_certs(rt.alloc(), &certs).ok()?;
     let source = Source::read(rt.alloc(), &source).ok()?;
-    let told = measure(rt, threads, source.outline(), &file);
+    let judged = measure(rt, threads, source.outline(), &file);
     drop(source);
-    told
+    judged
 }
 
 fn run<H: Threads + Wait + Sync>(rt: &HostRuntime, threads: &H) -> Option<()> {

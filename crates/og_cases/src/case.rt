@@ -3,9 +3,9 @@
 use crate::ends::{Ends, Expected};
 use crate::failure::Failure;
 use crate::folder::Folder;
+use crate::implementation::{Implementation, WRONG, ways};
 use crate::part::Part;
 use crate::pieces::{Input, Output};
-use crate::way::{WRONG, Way, ways};
 use og_pool::OpenGate;
 use og_program::{Program, Streams, serve_words};
 use std::alloc::{AllocError, Global};
@@ -105,17 +105,21 @@ impl Case {
     }
 
     /// The ways in which it is run.
-    pub(crate) fn ways(&self) -> &'static [Way] {
+    pub(crate) fn ways(&self) -> &'static [Implementation] {
         ways(self.words.as_str(), self.expected.status)
     }
 
     // The words of a run.
-    fn words(&self, alloc: Global, way: Way) -> Result<Vec<String>, AllocError> {
+    fn words(
+        &self,
+        alloc: Global,
+        implementation: Implementation,
+    ) -> Result<Vec<String>, AllocError> {
         let mut words = Vec::new(alloc);
         for word in self.words.split_terminator('\n') {
             words.push(String::from_str(alloc, word)?)?;
         }
-        if let Some(count) = way.workers() {
+        if let Some(count) = implementation.workers() {
             words.push(String::from_str(alloc, "--workers")?)?;
             words.push(String::from_str(alloc, count)?)?;
         }
@@ -131,10 +135,10 @@ impl Case {
         &self,
         threads: &H,
         folder: &Folder<'_>,
-        way: Way,
+        implementation: Implementation,
     ) -> Result<Ends, AllocError> {
-        let (alloc, size) = (folder.alloc(), way.size());
-        let words = Ok(self.words(alloc, way)?);
+        let (alloc, size) = (folder.alloc(), implementation.size());
+        let words = Ok(self.words(alloc, implementation)?);
         let program = Program {
             rt: threads,
             alloc,

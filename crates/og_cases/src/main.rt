@@ -10,10 +10,10 @@ mod case;
 mod ends;
 mod failure;
 mod folder;
+mod implementation;
 mod part;
 mod pieces;
 mod total;
-mod way;
 
 use folder::Folder;
 use std::io::Write;

@@ -21,15 +21,15 @@ impl fmt::Display for Total {
     }
 }
 
-// Tells of a failure.
-fn tell<W: fmt::Display>(
+// Prints a failure.
+fn print_failure<W: fmt::Display>(
     folder: &Folder<'_>,
     name: &str,
-    way: &W,
+    implementation: &W,
     failure: Failure<'_>,
 ) -> io::Result<()> {
     let path = folder.path();
-    folder.print(format_args!("{path}/{name}{way}: {failure}"))
+    folder.print(format_args!("{path}/{name}{implementation}: {failure}"))
 }
 
 // Runs a case in each of its ways, and reports failures. Whether there were none.
@@ -40,10 +40,10 @@ fn passes<H: Threads + Wait + Sync>(
     case: &Case,
 ) -> io::Result<bool> {
     let mut passes = true;
-    for way in case.ways() {
-        let ends = case.run(threads, folder, *way)?;
+    for implementation in case.ways() {
+        let ends = case.run(threads, folder, *implementation)?;
         if let Some(failure) = case.failure(&ends) {
-            tell(folder, name, way, failure)?;
+            print_failure(folder, name, implementation, failure)?;
             passes = false;
         }
     }
@@ -75,7 +75,7 @@ impl Total {
         match Case::read(folder, name) {
             Ok(case) => self.add(passes(threads, folder, name, &case)?),
             Err(failure) => {
-                tell(folder, name, &"", failure)?;
+                print_failure(folder, name, &"", failure)?;
                 self.add(false);
             }
         }

@@ -7,5 +7,5 @@ pub mod Terms
 pub mod Lines
 pub mod Answering
 pub mod Written
-pub mod Sights
+pub mod Opposites
 pub mod Sums

@@ -4,7 +4,7 @@ pub mod Closes
 pub mod Faults
 pub mod Steps
 pub mod Held
-pub mod Sight
+pub mod Opposite
 pub mod Sums
 pub mod Answer
 pub mod Law

@@ -6,13 +6,13 @@ ghost use Rattle.og_cert_text.specs.Tree.{Low, High};
 ghost use Rattle.og_cert_text.specs.Plain.{ref_of, combination_of};
 ghost use Rattle.og_cert.specs.Checks as check;
 ghost use Rattle.og_cert.specs.Held.{facts_held};
-ghost use Rattle.og_cert.specs.Sight.{single_form};
+ghost use Rattle.og_cert.specs.Opposite.{single_form};
 ghost use Rattle.og_cert.specs.Answer.{IsChecked, or_kind};
 ghost use Rattle.og_cert.specs.declared.fault.CheckError.TheVariants.{Memory};
 
 use crate::fault::{CheckError, FaultKind};
 use crate::held::{Held, atom_at};
-use crate::sight::{Single, is_closed};
+use crate::opposite::{Single, is_closed};
 use crate::sum::Sum;
 use og_cert_text::{Source, Term};
 use og_linear::{Form, FormError};

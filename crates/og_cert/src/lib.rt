@@ -6,8 +6,8 @@ mod checks;
 mod fault;
 mod held;
 mod laws;
+mod opposite;
 mod replaying;
-mod sight;
 mod sum;
 
 pub use fault::{FaultKind, ReplayError, ReplayFault};

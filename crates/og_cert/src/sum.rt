@@ -7,10 +7,10 @@ ghost use Rattle.og_linear.specs.Arith.{with_term, merge};
 ghost use Rattle.og_linear.specs.Bounded.{fits_i128, add_scaled};
 ghost use Rattle.og_linear.specs.Answer.{IsAnswer, OnMemory, checked_int, checked_terms};
 ghost use Rattle.og_linear.specs.declared.fault.FormFault.TheVariants as faults;
-ghost use Rattle.og_cert.specs.Sight.{single_form};
+ghost use Rattle.og_cert.specs.Opposite.{single_form};
 ghost use Rattle.og_cert.specs.Sums.{AreTerms, added_terms, added_int};
 
-use crate::sight::Single;
+use crate::opposite::Single;
 use og_facts::Atom;
 use og_linear::{Form, FormError, FormFault};
 use std::alloc::Global;

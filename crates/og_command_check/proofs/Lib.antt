@@ -1,3 +1,4 @@
 pub mod Answering
 pub mod Promised
+pub mod Refusing
 pub mod Unfinished

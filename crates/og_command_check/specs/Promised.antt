@@ -11,4 +11,5 @@ use Rattle.og_report_text.specs.declared.answer.Answer.{Answer}
 abbrev pub Promises : Bool → Program → Answer → Type 0
 Promises json o answer =
     (answer.status ≡ 0 → IsSound o × IsSoundErased o)
-    × (answer.status ≡ 0 → SaysUnblocked json answer.text.items → IsNeverStuck o × IsNeverStuck (erased o))
+    × (answer.status ≡ 0
+    → SaysUnblocked json answer.text.items → IsNeverStuck o × IsNeverStuck (erased o))

@@ -1,19 +1,19 @@
 //! The answers of the commands that print what an outline stands for.
 
-ghost use Rattle.std.specs.Prelude.{◌≡◌, IfOk};
+ghost use Rattle.std.specs.Prelude.{IfOk};
 ghost use Rattle.og_parse.specs.TreeOf.{tree_of};
 ghost use Rattle.og_erase_readable.specs.Readable.{readable};
 ghost use Rattle.og_erase.specs.Collected.{raw_of};
 ghost use Rattle.og_print.specs.Print.{program_text};
-ghost use Rattle.og_report_text.specs.Told.{Says};
-ghost use Rattle.og_command_check.specs.Commands.{erased_tree, IsErased};
+ghost use Rattle.og_report_text.specs.Answers.{Says};
+ghost use Rattle.og_command_check.specs.Commands.{IsErased};
 
 use og_erase::{Program, erase};
 use og_erase_readable::print_readable;
 use og_parse::Raw;
 use og_print::print_program;
 use og_report_text::Answer;
-use og_typed::{Outline, Source};
+use og_typed::Outline;
 use std::alloc::{AllocError, Global};
 
 // The text of a tree.
@@ -42,9 +42,14 @@ fn of_readable(alloc: Global, program: &Program) -> Result<Answer, AllocError>
     Ok(Answer { text, status: 0 })
 }
 
-// The program of an outline without its auxiliaries.
-fn of_outline(alloc: Global, outline: &Outline, is_readable: bool) -> Result<Answer, AllocError>
-    ensures { IfOk result (Says (program_text (erased_tree is_readable outline.now)) 0) }
+/// The program of an outline without its auxiliary variables and its assertions, with terms on both
+/// sides of its relations or with all on the left, and status 0.
+///
+/// # Errors
+///
+/// An allocation was refused.
+pub fn erased(alloc: Global, outline: &Outline, is_readable: bool) -> Result<Answer, AllocError>
+    ensures { IfOk result (IsErased is_readable outline.now) }
 {
     let program = erase(alloc, outline)?;
     let answer = if is_readable {
@@ -54,24 +59,4 @@ fn of_outline(alloc: Global, outline: &Outline, is_readable: bool) -> Result<Ans
     };
     drop(program);
     answer
-}
-
-/// The program of the outline of a source without its auxiliary variables and its assertions, with
-/// terms on both sides of its relations or with all on the left, and status 0; or the line of a
-/// refusal and status 2.
-///
-/// # Errors
-///
-/// An allocation was refused.
-pub fn erased(alloc: Global, source: &[u8], is_readable: bool) -> Result<Answer, AllocError>
-    ensures { IfOk result (IsErased is_readable source.now) }
-{
-    match Source::read(alloc, source) {
-        Ok(source) => {
-            let answer = of_outline(alloc, source.outline(), is_readable);
-            drop(source);
-            answer
-        }
-        Err(error) => Answer::unread(alloc, &error, source),
-    }
 }

@@ -3,7 +3,7 @@
 ghost use Rattle.std.specs.Prelude.{◌≡◌, ◌≢◌, ◌<◌, IfOk, IfErr, IfSome, Some};
 ghost use Rattle.std.specs.Io.KnownBytes.{Consumes, Keeps};
 ghost use Rattle.og_command_check.specs.Inputs.{source_of, certs_of, joined_of, Reads};
-ghost use Rattle.og_command_check.specs.Written.{Writes, WritesJoined};
+ghost use Rattle.og_command_check.specs.Written.{ReadsBoth, Writes, WritesJoined};
 ghost use Rattle.og_command_check.specs.NeverStuck.{HasNeverStuckSource};
 ghost use Rattle.og_command_check.specs.Proven.{HasProvenSource};
 ghost use Rattle.og_command_check.specs.Wrote.{Wrote};
@@ -12,7 +12,7 @@ ghost use Rattle.og_judge.specs.Proven.{IsProvenSource};
 ghost use Rattle.og_judge.specs.NeverStuck.{IsNeverStuckSource};
 ghost use Rattle.og_report_text.specs.Yes.{SaysUnblocked};
 
-use crate::answer::checked;
+use crate::answer::answered;
 use crate::fault::EngineFault;
 use crate::inputs::{read_certificates, read_joined, read_source};
 use crate::writing::write_answer;
@@ -39,9 +39,9 @@ pub struct Options {
 ///
 /// # Errors
 ///
-/// `ReadFailed` where a reader failed or had not ended after so many reads, `Spawn`, of two workers
-/// or more, where a thread could not be started, `Memory` where an allocation was refused: nothing
-/// is written then.
+/// `ReadFailed` where a reader failed or had not ended after that many reads, `Spawn`, of two
+/// workers or more, where a thread could not be started, `Memory` where an allocation was refused:
+/// nothing is written then.
 /// `WriteFailed` where the writer failed: then a front of what was to be written may stand there.
 pub fn engine<R: Read, S: Read, W: Write, G: Gate, H: Threads + Wait + Sync>(
     rt: &H,
@@ -52,21 +52,28 @@ pub fn engine<R: Read, S: Read, W: Write, G: Gate, H: Threads + Wait + Sync>(
     options: Options,
     gate: &G,
 ) -> Result<u8, EngineFault>
-    ensures answer { IfOk result (λ status. Reads source_of (R.remaining source.old) (λ s. Reads certs_of (S.remaining certs.old) (λ c.
-        Writes options.json s c (W.contents out.old) (W.contents out.new) status))) }
-    ensures sound { IfOk result (λ status. status ≡ 0 → Reads source_of (R.remaining source.old) IsProvenSource) }
-    ensures unblocked { IfOk result (λ status. status ≡ 0 → Wrote (SaysUnblocked options.json) (W.contents out.old) (W.contents out.new)
+    ensures answer { IfOk result (λ status.
+        ReadsBoth (R.remaining source.old) (S.remaining certs.old) (λ s c.
+        Writes options.json s c (W.contents out.old) (W.contents out.new) status)) }
+    ensures sound { IfOk result (λ status.
+        status ≡ 0 → Reads source_of (R.remaining source.old) IsProvenSource) }
+    ensures unblocked { IfOk result (λ status.
+        status ≡ 0 → Wrote (SaysUnblocked options.json) (W.contents out.old) (W.contents out.new)
         → Reads source_of (R.remaining source.old) IsNeverStuckSource) }
-    ensures source { IfOk result (λ _. IfSome (R.remaining source.old) (λ s. Consumes (Some s) (R.remaining source.new) (source_of s))) }
-    ensures certs { IfOk result (λ _. IfSome (S.remaining certs.old) (λ c. Consumes (Some c) (S.remaining certs.new) (certs_of c))) }
+    ensures source { IfOk result (λ _. IfSome (R.remaining source.old) (λ s.
+        Consumes (Some s) (R.remaining source.new) (source_of s))) }
+    ensures certs { IfOk result (λ _. IfSome (S.remaining certs.old) (λ c.
+        Consumes (Some c) (S.remaining certs.new) (certs_of c))) }
     ensures spawn { IfErr result (λ e. e ≡ EngineFault.Spawn → 1 < options.workers) }
-    ensures unwritten { IfErr result (λ e. e ≢ EngineFault.WriteFailed → Keeps (W.contents out.old) (W.contents out.new)) }
-    ensures unfinished { IfErr result (λ e. e ≡ EngineFault.WriteFailed → Reads source_of (R.remaining source.old) (λ s. Reads certs_of (S.remaining certs.old) (λ c.
-        WritesFront options.json s c (W.contents out.old) (W.contents out.new)))) }
+    ensures unwritten { IfErr result (λ e.
+        e ≢ EngineFault.WriteFailed → Keeps (W.contents out.old) (W.contents out.new)) }
+    ensures unfinished { IfErr result (λ e. e ≡ EngineFault.WriteFailed
+        → ReadsBoth (R.remaining source.old) (S.remaining certs.old) (λ s c.
+        WritesFront options.json s c (W.contents out.old) (W.contents out.new))) }
 {
     let source = read_source(alloc, source)?;
     let certs = read_certificates(alloc, certs)?;
-    let answer = checked(rt, alloc, &source, &certs, options, gate)?;
+    let answer = answered(rt, alloc, &source, &certs, options, gate)?;
     let status = write_answer(out, &answer)?;
     Ok(status)
 }
@@ -88,18 +95,23 @@ pub fn engine_joined<R: Read, W: Write, G: Gate, H: Threads + Wait + Sync>(
 ) -> Result<u8, EngineFault>
     ensures answer { IfOk result (λ status. Reads joined_of (R.remaining input.old) (λ i.
         WritesJoined options.json i (W.contents out.old) (W.contents out.new) status)) }
-    ensures sound { IfOk result (λ status. status ≡ 0 → Reads joined_of (R.remaining input.old) HasProvenSource) }
-    ensures unblocked { IfOk result (λ status. status ≡ 0 → Wrote (SaysUnblocked options.json) (W.contents out.old) (W.contents out.new)
+    ensures sound { IfOk result (λ status.
+        status ≡ 0 → Reads joined_of (R.remaining input.old) HasProvenSource) }
+    ensures unblocked { IfOk result (λ status.
+        status ≡ 0 → Wrote (SaysUnblocked options.json) (W.contents out.old) (W.contents out.new)
         → Reads joined_of (R.remaining input.old) HasNeverStuckSource) }
-    ensures input { IfOk result (λ _. IfSome (R.remaining input.old) (λ i. Consumes (Some i) (R.remaining input.new) (joined_of i))) }
+    ensures input { IfOk result (λ _. IfSome (R.remaining input.old) (λ i.
+        Consumes (Some i) (R.remaining input.new) (joined_of i))) }
     ensures spawn { IfErr result (λ e. e ≡ EngineFault.Spawn → 1 < options.workers) }
-    ensures unwritten { IfErr result (λ e. e ≢ EngineFault.WriteFailed → Keeps (W.contents out.old) (W.contents out.new)) }
-    ensures unfinished { IfErr result (λ e. e ≡ EngineFault.WriteFailed → Reads joined_of (R.remaining input.old) (λ i.
+    ensures unwritten { IfErr result (λ e.
+        e ≢ EngineFault.WriteFailed → Keeps (W.contents out.old) (W.contents out.new)) }
+    ensures unfinished { IfErr result (λ e. e ≡ EngineFault.WriteFailed
+        → Reads joined_of (R.remaining input.old) (λ i.
         WritesJoinedFront options.json i (W.contents out.old) (W.contents out.new))) }
 {
     let input = read_joined(alloc, input)?;
     let (source, certs) = split(&input);
-    let answer = checked(rt, alloc, source, certs, options, gate)?;
+    let answer = answered(rt, alloc, source, certs, options, gate)?;
     let status = write_answer(out, &answer)?;
     Ok(status)
 }

@@ -28,8 +28,10 @@ const JOINED_BYTES: usize = 68_157_441;
 /// an allocation was refused.
 #[tactic(auto, unfolding(crate::specs::Inputs::source_of))]
 pub fn read_source<R: Read>(alloc: Global, reader: &mut R) -> Result<Vec<u8>, ReadFault>
-    ensures text { IfOk result (λ text. IfSome (R.remaining reader.old) (λ input. text.items ≡ source_of input)) }
-    ensures consumed { IfOk result (λ text. Consumes (R.remaining reader.old) (R.remaining reader.new) text.items) }
+    ensures text { IfOk result (λ text.
+        IfSome (R.remaining reader.old) (λ input. text.items ≡ source_of input)) }
+    ensures consumed { IfOk result (λ text.
+        Consumes (R.remaining reader.old) (R.remaining reader.new) text.items) }
 {
     read_up_to(alloc, reader, SOURCE_BYTES)
 }
@@ -41,8 +43,10 @@ pub fn read_source<R: Read>(alloc: Global, reader: &mut R) -> Result<Vec<u8>, Re
 /// As `read_source`.
 #[tactic(auto, unfolding(crate::specs::Inputs::certs_of))]
 pub fn read_certificates<R: Read>(alloc: Global, reader: &mut R) -> Result<Vec<u8>, ReadFault>
-    ensures text { IfOk result (λ text. IfSome (R.remaining reader.old) (λ input. text.items ≡ certs_of input)) }
-    ensures consumed { IfOk result (λ text. Consumes (R.remaining reader.old) (R.remaining reader.new) text.items) }
+    ensures text { IfOk result (λ text.
+        IfSome (R.remaining reader.old) (λ input. text.items ≡ certs_of input)) }
+    ensures consumed { IfOk result (λ text.
+        Consumes (R.remaining reader.old) (R.remaining reader.new) text.items) }
 {
     read_up_to(alloc, reader, CERTS_BYTES)
 }
@@ -54,8 +58,10 @@ pub fn read_certificates<R: Read>(alloc: Global, reader: &mut R) -> Result<Vec<u
 /// As `read_source`.
 #[tactic(auto, unfolding(crate::specs::Inputs::joined_of))]
 pub fn read_joined<R: Read>(alloc: Global, reader: &mut R) -> Result<Vec<u8>, ReadFault>
-    ensures text { IfOk result (λ text. IfSome (R.remaining reader.old) (λ input. text.items ≡ joined_of input)) }
-    ensures consumed { IfOk result (λ text. Consumes (R.remaining reader.old) (R.remaining reader.new) text.items) }
+    ensures text { IfOk result (λ text.
+        IfSome (R.remaining reader.old) (λ input. text.items ≡ joined_of input)) }
+    ensures consumed { IfOk result (λ text.
+        Consumes (R.remaining reader.old) (R.remaining reader.new) text.items) }
 {
     read_up_to(alloc, reader, JOINED_BYTES)
 }

@@ -9,7 +9,7 @@ mod inputs;
 mod making;
 mod writing;
 
-pub use answer::checked;
+pub use answer::{CheckReply, checked};
 pub use commands::erased;
 pub use engines::{Options, engine, engine_joined};
 pub use fault::EngineFault;

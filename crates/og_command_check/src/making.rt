@@ -10,18 +10,21 @@ ghost use Rattle.og_cond.specs.Seen.{seen};
 ghost use Rattle.og_find_all.specs.Written.{IsText};
 ghost use Rattle.og_io.specs.Written.{AppendsFront};
 ghost use Rattle.og_pool.specs.declared.fault.PoolFault.TheVariants.{Spawn};
-ghost use Rattle.og_command_check.specs.Making.{text_of, status_of_found, IsLength, IsSecond, IsSearched, IsFoundOf, IsFound, IsMigrated};
+ghost use Rattle.og_judge.specs.NotJudged.{OnInput};
+ghost use Rattle.og_judge.specs.declared.refusal.Refusal.TheVariants as refusals;
+ghost use Rattle.og_report_text.specs.InputErrors.{OnFault, IsFaultOfCount};
+ghost use Rattle.og_command_check.specs.Making.{text_of, status_of_found, IsLength, IsSecond, IsSearched, IsFound, IsMigrated, IsFaultOfCerts};
 
 use og_cert_read::write_certs_2;
-use og_cert_text::{CertFile, CertTextError};
-use og_cond::{Condition, ConditionsError, conditions};
+use og_cert_text::CertFile;
+use og_cond::{Condition, conditions};
 use og_find::Missing;
-use og_find_all::{Certificates, FoundText, Written, examine_all, find_all};
+use og_find_all::{Certificates, FoundText, examine_all, find_all};
 use og_io::{Budget, CertVersion, OutputFault, Workers, write_whole};
-use og_judge::migrate;
+use og_judge::{Refusal, migrate};
 use og_pool::{Gate, PoolFault};
-use og_report_text::{Answer, InputFault};
-use og_typed::Source;
+use og_report_text::{Answer, InputError};
+use og_typed::Outline;
 use std::alloc::{AllocError, Global};
 use std::io::Write;
 use std::sync::Wait;
@@ -39,8 +42,10 @@ pub enum CertificateText {
 impl CertificateText {
     // Writes the text.
     fn write<W: Write>(&self, alloc: Global, out: &mut W) -> Result<(), OutputFault>
-        ensures written { OnOk result (Appends (W.contents out.old) (W.contents out.new) (text_of self.now)) }
-        ensures unfinished { IfErr result (λ _. AppendsFront (W.contents out.old) (W.contents out.new) (text_of self.now)) }
+        ensures written { OnOk result
+            (Appends (W.contents out.old) (W.contents out.new) (text_of self.now)) }
+        ensures unfinished { IfErr result (λ _.
+            AppendsFront (W.contents out.old) (W.contents out.new) (text_of self.now)) }
     {
         match self {
             CertificateText::First(certificates) => certificates.write(alloc, out),
@@ -67,17 +72,19 @@ impl FoundCertificates {
         if self.missing.count == 0 { 0 } else { 1 }
     }
 
-    /// Writes the text of the certificates, and tells the status: 0 where each condition has one, 1
-    /// where some has none.
+    /// Writes the text of the certificates, and returns the status: 0 where each condition has one,
+    /// 1 where some has none.
     ///
     /// # Errors
     ///
     /// An allocation was refused, or the writer failed; a front of the text may have been written
     /// then.
     pub fn write<W: Write>(&self, alloc: Global, out: &mut W) -> Result<u8, OutputFault>
-        ensures written { OnOk result (Appends (W.contents out.old) (W.contents out.new) (text_of self.now.text)) }
+        ensures written { OnOk result
+            (Appends (W.contents out.old) (W.contents out.new) (text_of self.now.text)) }
         ensures status { IfOk result (λ status. status ≡ status_of_found self.now) }
-        ensures unfinished { IfErr result (λ _. AppendsFront (W.contents out.old) (W.contents out.new) (text_of self.now.text)) }
+        ensures unfinished { IfErr result (λ _.
+            AppendsFront (W.contents out.old) (W.contents out.new) (text_of self.now.text)) }
     {
         self.text.write(alloc, out)?;
         Ok(self.status())
@@ -93,15 +100,13 @@ pub struct LongText {
     pub second: Option<usize>,
 }
 
-/// What is answered to whoever asks for certificates of a source.
+/// The certificates of a source that searches find.
 #[derive(Debug, Drop)]
 pub enum FindReply {
     /// Those that were found.
     Found(FoundCertificates),
     /// Their text would be too long.
     TooLong(LongText),
-    /// The line of a refusal, with status 2.
-    Refused(Answer),
 }
 
 /// Which certificates are wanted, and how they are searched.
@@ -124,18 +129,19 @@ fn within(bytes: usize, limit: usize) -> Option<usize>
     if bytes <= limit { Some(bytes) } else { None }
 }
 
-// What is told of certificates whose text in version 1 is too long.
+// The answer for certificates whose text in version 1 is too long.
 fn of_long(alloc: Global, file: &CertFile, limit: usize) -> Result<LongText, AllocError>
     ensures limit { IfOk result (λ long. long.limit ≡ limit) }
-    ensures second { IfOk result (λ long. IsLength limit (length (shared_text (shown file.now))) long.second) }
+    ensures second { IfOk result (λ long.
+        IsLength limit (length (shared_text (shown file.now))) long.second) }
 {
     let text = write_certs_2(alloc, file)?;
     let second = within(text.len(), limit);
     Ok(LongText { limit, second })
 }
 
-// The text in version 2 of a file of the certificates of so many conditions, where it has at most
-// so many bytes.
+// The text in version 2 of a file of the certificates of this many conditions, where it is within
+// the limit.
 fn of_file(
     alloc: Global,
     file: &CertFile,
@@ -172,9 +178,10 @@ fn in_second<G: Gate, H: Threads + Wait + Sync>(
     Ok(found)
 }
 
-// A text in version 1, or what is told of certificates for which it is too long.
+// A text in version 1, or the answer for certificates for which it is too long.
 fn of_text(alloc: Global, text: FoundText, limit: usize) -> Result<FindReply, AllocError>
-    ensures { IfOk result (λ found. (cs : List condition.Condition) → IsText limit cs text → IsSearched 1 limit cs found) }
+    ensures { IfOk result (λ found.
+        (cs : List condition.Condition) → IsText limit cs text → IsSearched 1 limit cs found) }
 {
     match text {
         FoundText::Within(written) => {
@@ -227,72 +234,39 @@ fn of_search<G: Gate, H: Threads + Wait + Sync>(
     }
 }
 
-// The answer for the outline of a source.
-fn found_of<G: Gate, H: Threads + Wait + Sync>(
-    rt: &H,
-    alloc: Global,
-    source: &Source,
-    wanted: Wanted,
-    gate: &G,
-) -> Result<FindReply, PoolFault>
-    ensures found { IfOk result (IsFoundOf wanted.version wanted.limit source.now.outline source.now.bytes) }
-    ensures spawn { IfErr result (λ e. e ≡ Spawn → 1 < wanted.workers) }
-{
-    match conditions(alloc, source.outline()) {
-        Ok(conditions) => of_search(rt, alloc, &conditions, wanted, gate),
-        Err(ConditionsError::Fault(fault)) => {
-            let why = InputFault::Conditions(fault);
-            let answer = Answer::refused(alloc, &why, source.bytes())?;
-            Ok(FindReply::Refused(answer))
-        }
-        Err(ConditionsError::Memory) => Err(PoolFault::Memory),
-    }
-}
-
-/// The certificates that searches find for the conditions of the outline of a source, in the wanted
-/// version of their text, and how many conditions have none; that this text would have more bytes
-/// than it may have; or the line of a refusal and status 2. The text is the same for every number
-/// of workers. The gate is told of the searches as by `og_find_all::examine_all`.
+/// The certificates that searches find for the conditions of an outline, in the wanted version of
+/// their text, and how many conditions have none; or that this text would have more bytes than it
+/// may have. The text is the same for every number of workers. The gate hears of the searches as by
+/// `og_find_all::examine_all`.
 ///
 /// # Errors
 ///
-/// `Spawn`, of two workers or more, where a thread could not be started. `Memory` where an
-/// allocation was refused.
+/// `Input` where the outline has more than 4,000,000 conditions. `Spawn`, of two workers or more,
+/// where a thread could not be started. `Memory` where an allocation was refused.
 pub fn found<G: Gate, H: Threads + Wait + Sync>(
     rt: &H,
     alloc: Global,
-    source: &[u8],
+    outline: &Outline,
     wanted: Wanted,
     gate: &G,
-) -> Result<FindReply, PoolFault>
-    ensures found { IfOk result (IsFound wanted.version wanted.limit source.now) }
-    ensures spawn { IfErr result (λ e. e ≡ Spawn → 1 < wanted.workers) }
+) -> Result<FindReply, Refusal>
+    ensures found { IfOk result (IsFound wanted.version wanted.limit outline.now) }
+    ensures refused { IfErr result (OnInput (IsFaultOfCount outline.now)) }
+    ensures spawn { IfErr result (λ e. e ≡ refusals.Spawn → 1 < wanted.workers) }
 {
-    match Source::read(alloc, source) {
-        Ok(source) => {
-            let found = found_of(rt, alloc, &source, wanted, gate);
-            drop(source);
-            found
-        }
-        Err(error) => {
-            let answer = Answer::unread(alloc, &error, source)?;
-            Ok(FindReply::Refused(answer))
-        }
-    }
+    let conditions = conditions(alloc, outline)?;
+    Ok(of_search(rt, alloc, &conditions, wanted, gate)?)
 }
 
-/// A text of certificates in version 2, as `og_judge::migrate` gives it, and status 0; or the line
-/// of a refusal and status 2.
+/// A text of certificates in version 2, as `og_judge::migrate` makes it, and status 0.
 ///
 /// # Errors
 ///
-/// An allocation was refused.
-pub fn migrated(alloc: Global, certs: &[u8]) -> Result<Answer, AllocError>
-    ensures { IfOk result (IsMigrated certs.now) }
+/// `Fault`, why the text is not read. `Memory` where an allocation was refused.
+pub fn migrated(alloc: Global, certs: &[u8]) -> Result<Answer, InputError>
+    ensures migrated { IfOk result (IsMigrated certs.now) }
+    ensures refused { IfErr result (OnFault (IsFaultOfCerts certs.now)) }
 {
-    match migrate(alloc, certs) {
-        Ok(text) => Ok(Answer { text, status: 0 }),
-        Err(CertTextError::Memory) => Err(AllocError),
-        Err(CertTextError::Fault(fault)) => Answer::refused(alloc, &InputFault::Certs(fault), b""),
-    }
+    let text = migrate(alloc, certs)?;
+    Ok(Answer { text, status: 0 })
 }

@@ -1,3 +1,3 @@
-pub mod Told
+pub mod Reported
 pub mod Explored
 pub mod Words

@@ -3,19 +3,20 @@
 ghost use Rattle.std.specs.Prelude.{◌≡◌, ◌↔◌, ◌≤◌, ◌^◌, length, map, true, None, IfOk, IfSome, IfNone, IsTrue};
 ghost use Rattle.std.specs.List.{AllByRecursion};
 ghost use Rattle.og_cond.specs.Seen.{seen};
-ghost use Rattle.og_explore.specs.Told.{AreWithin};
+ghost use Rattle.og_explore.specs.ViolationStarts.{AreWithin};
 ghost use Rattle.og_explore.specs.Within.{HasNoStart};
+ghost use Rattle.og_report_text.specs.Subject.{subject_of, IsShort};
 ghost use Rattle.og_report_explore.specs.Totals.{safe_of, unblocked_of};
-ghost use Rattle.og_command_explore.specs.Told.{IsOneFinding, AreViolations};
+ghost use Rattle.og_command_explore.specs.Reported.{IsOneFinding, AreViolations};
 ghost use Rattle.og_command_explore.specs.Explored.{is_yes, status_of, printed, IsExplored};
 ghost use Rattle.og_report_explore.specs.declared.totals.Found.TheVariants as yes_or_no;
 
+use crate::reported::{Reported, add};
 use crate::request::Request;
-use crate::told::{Told, add};
 use og_cond::Condition;
 use og_explore::{Exploration, Range, explore};
 use og_report_explore::{Finding, Found, Totals, json, report};
-use og_report_text::Answer;
+use og_report_text::{Answer, Subject};
 use og_typed::{Index, Outline};
 use std::alloc::{AllocError, Global};
 
@@ -31,30 +32,30 @@ fn ends(alloc: Global, ranges: &[Range]) -> Result<Vec<(i64, i64)>, AllocError>
 }
 
 // The report of all that was found.
-fn told_of<'a>(
+fn reported_of<'a>(
     alloc: Global,
     outline: &'a Outline,
     index: &Index<'a>,
     conditions: &[Condition],
     ranges: &[Range],
     found: &Exploration,
-) -> Result<Told<'a>, AllocError>
+) -> Result<Reported<'a>, AllocError>
     requires found { AreViolations outline.now found.now }
     requires within { AreWithin ranges.now found.now }
-    ensures each { IfOk result (λ told. AllByRecursion
-        (IsOneFinding outline.now (map seen conditions.now) ranges.now) told.findings.items) }
-    ensures complete { IfOk result (λ told. told.complete ≡ true → found.now.complete ≡ true) }
-    ensures safe { IfOk result (λ told. safe_of told.complete told.findings.items ≡ yes_or_no.Yes
+    ensures each { IfOk result (λ reported. AllByRecursion
+        (IsOneFinding outline.now (map seen conditions.now) ranges.now) reported.findings.items) }
+    ensures complete { IfOk result (λ reported. reported.complete ≡ true → found.now.complete ≡ true) }
+    ensures safe { IfOk result (λ reported. safe_of reported.complete reported.findings.items ≡ yes_or_no.Yes
         → (found.now.complete ≡ true) × (found.now.assertion ≡ None) × (found.now.overflow ≡ None) × (found.now.post ≡ None)) }
-    ensures unblocked { IfOk result (λ told. unblocked_of told.complete told.findings.items ≡ yes_or_no.Yes
+    ensures unblocked { IfOk result (λ reported. unblocked_of reported.complete reported.findings.items ≡ yes_or_no.Yes
         → (found.now.complete ≡ true) × (found.now.stuck ≡ None)) }
 {
-    let mut told = Told {
+    let mut reported = Reported {
         findings: Vec::new(alloc),
         complete: found.complete,
     };
     add(
-        &mut told,
+        &mut reported,
         alloc,
         outline,
         index,
@@ -63,7 +64,7 @@ fn told_of<'a>(
         &found.assertion,
     )?;
     add(
-        &mut told,
+        &mut reported,
         alloc,
         outline,
         index,
@@ -72,7 +73,7 @@ fn told_of<'a>(
         &found.overflow,
     )?;
     add(
-        &mut told,
+        &mut reported,
         alloc,
         outline,
         index,
@@ -81,7 +82,7 @@ fn told_of<'a>(
         &found.post,
     )?;
     add(
-        &mut told,
+        &mut reported,
         alloc,
         outline,
         index,
@@ -89,7 +90,7 @@ fn told_of<'a>(
         ranges,
         &found.stuck,
     )?;
-    Ok(told)
+    Ok(reported)
 }
 
 // Whether there is no start: all were looked for, and none found.
@@ -124,16 +125,15 @@ fn status_of(totals: &Totals, findings: &[Finding]) -> u8
 // As JSON, in one line.
 fn json_line(
     alloc: Global,
-    outline: &Outline,
-    source: &[u8],
+    subject: &Subject,
     totals: &Totals,
     findings: &[Finding],
 ) -> Result<Vec<u8>, AllocError>
-    requires { length source.now ≤ 2 ^ 20 }
+    requires { IsShort (subject_of subject.now) }
     ensures { IfOk result (λ text.
-        text.items ≡ printed true outline.now source.now totals.now findings.now) }
+        text.items ≡ printed true (subject_of subject.now) totals.now findings.now) }
 {
-    let mut text = json(alloc, outline, source, totals, findings)?;
+    let mut text = json(alloc, subject.outline, subject.own, totals, findings)?;
     text.push(b'\n')?;
     Ok(text)
 }
@@ -141,21 +141,20 @@ fn json_line(
 // The printed text, as JSON or plain.
 fn printed(
     alloc: Global,
-    outline: &Outline,
-    source: &[u8],
+    subject: &Subject,
     totals: &Totals,
     findings: &[Finding],
     is_json: bool,
 ) -> Result<Vec<u8>, AllocError>
-    requires short { length source.now ≤ 2 ^ 20 }
+    requires short { IsShort (subject_of subject.now) }
     requires given { length totals.now.given.items ≤ 256 }
     ensures { IfOk result (λ text.
-        text.items ≡ printed is_json outline.now source.now totals.now findings.now) }
+        text.items ≡ printed is_json (subject_of subject.now) totals.now findings.now) }
 {
     if is_json {
-        json_line(alloc, outline, source, totals, findings)
+        json_line(alloc, subject, totals, findings)
     } else {
-        report(alloc, outline, source, totals, findings)
+        report(alloc, subject, totals, findings)
     }
 }
 
@@ -168,40 +167,34 @@ fn printed(
 /// An allocation was refused.
 pub fn answer(
     alloc: Global,
-    outline: &Outline,
-    source: &[u8],
+    subject: &Subject,
     conditions: &[Condition],
     ranges: &[Range],
     request: Request,
 ) -> Result<Option<Answer>, AllocError>
-    requires short { length source.now ≤ 2 ^ 20 }
-    requires ranges { length ranges.now ≡ outline.now.vars }
+    requires short { IsShort (subject_of subject.now) }
+    requires ranges { length ranges.now ≡ subject.now.outline.now.vars }
     ensures explored { IfOk result (λ found. IfSome found
-        (IsExplored request.json outline.now source.now (map seen conditions.now) ranges.now)) }
-    ensures none { IfOk result (λ found. IfNone found (HasNoStart outline.now ranges.now)) }
+        (IsExplored request.json (subject_of subject.now) (map seen conditions.now) ranges.now)) }
+    ensures none { IfOk result (λ found.
+        IfNone found (HasNoStart subject.now.outline.now ranges.now)) }
 {
+    let outline = subject.outline;
     outline.follows_rule();
     let found = explore(alloc, outline, ranges, request.limit)?;
     if has_no_start(&found) {
         return Ok(None);
     }
     let index = Index::new(alloc, outline)?;
-    let told = told_of(alloc, outline, &index, conditions, ranges, &found)?;
+    let reported = reported_of(alloc, outline, &index, conditions, ranges, &found)?;
     let totals = Totals {
         starts: u64::from(found.starts),
         given: ends(alloc, ranges)?,
         moments: u64::from(found.moments),
-        complete: told.complete,
+        complete: reported.complete,
     };
     Ok(Some(Answer {
-        text: printed(
-            alloc,
-            outline,
-            source,
-            &totals,
-            &told.findings,
-            request.json,
-        )?,
-        status: status_of(&totals, &told.findings),
+        text: printed(alloc, subject, &totals, &reported.findings, request.json)?,
+        status: status_of(&totals, &reported.findings),
     }))
 }

@@ -2,6 +2,7 @@
 
 ghost use Rattle.std.specs.Prelude.{◌≡◌, ◌≤◌, ◌^◌, length, map, IfOk};
 ghost use Rattle.og_cond.specs.Seen.{seen};
+ghost use Rattle.og_report_text.specs.Subject.{subject_of, IsShort};
 ghost use Rattle.og_command_explore.specs.Explored.{AreConditions, IsAnswer, IsOfProgram, not_pre_line, IsReply};
 
 use crate::answering::answer;
@@ -11,9 +12,9 @@ use crate::words::{WordsError, given};
 use og_cond::{Condition, ConditionsError, conditions};
 use og_erase::erase;
 use og_explore::Range;
-use og_report_text::{Answer, put_opening};
+use og_report_text::{Answer, Subject, put_opening};
 use og_step::StartFault;
-use og_typed::{Outline, Source};
+use og_typed::Outline;
 use std::alloc::{AllocError, Global};
 
 /// What comes of exploring a program.
@@ -50,18 +51,17 @@ fn conditions_of(alloc: Global, outline: &Outline) -> Result<Vec<Condition<'_>>,
 // The answer for an outline: that it has no start, or the findings.
 fn of_outline(
     alloc: Global,
-    outline: &Outline,
-    source: &[u8],
+    subject: &Subject,
     conditions: &[Condition],
     ranges: &[Range],
     request: Request,
 ) -> Result<Answer, AllocError>
-    requires short { length source.now ≤ 2 ^ 20 }
-    requires ranges { length ranges.now ≡ outline.now.vars }
-    ensures { IfOk result (IsAnswer request.json outline.now source.now (map seen conditions.now)
+    requires short { IsShort (subject_of subject.now) }
+    requires ranges { length ranges.now ≡ subject.now.outline.now.vars }
+    ensures { IfOk result (IsAnswer request.json (subject_of subject.now) (map seen conditions.now)
         ranges.now) }
 {
-    match answer(alloc, outline, source, conditions, ranges, request)? {
+    match answer(alloc, subject, conditions, ranges, request)? {
         Some(answer) => Ok(answer),
         None => Ok(Answer {
             text: not_pre(alloc)?,
@@ -73,72 +73,58 @@ fn of_outline(
 // The answer for an outline, or its program without auxiliaries.
 fn of_program(
     alloc: Global,
-    outline: &Outline,
-    source: &[u8],
+    subject: &Subject,
     ranges: &[Range],
     request: Request,
 ) -> Result<Answer, AllocError>
-    requires short { length source.now ≤ 2 ^ 20 }
-    requires ranges { length ranges.now ≡ outline.now.vars }
-    ensures { IfOk result (IsOfProgram request.json request.erased outline.now source.now) }
+    requires short { IsShort (subject_of subject.now) }
+    requires ranges { length ranges.now ≡ subject.now.outline.now.vars }
+    ensures { IfOk result (IsOfProgram request.json request.erased (subject_of subject.now)) }
 {
     if request.erased {
-        let program = erase(alloc, outline)?;
-        return of_outline(alloc, program.outline(), source, &[], ranges, request);
+        let program = erase(alloc, subject.outline)?;
+        let without = Subject {
+            outline: program.outline(),
+            own: subject.own,
+            given: subject.given,
+            rows: subject.rows,
+        };
+        return of_outline(alloc, &without, &[], ranges, request);
     }
-    let conditions = conditions_of(alloc, outline)?;
-    of_outline(alloc, outline, source, &conditions, ranges, request)
+    let conditions = conditions_of(alloc, subject.outline)?;
+    of_outline(alloc, subject, &conditions, ranges, request)
 }
 
-// The reply for a source that was read.
-fn of_source<'a>(
-    alloc: Global,
-    source: &Source,
-    words: &[&'a str],
-    request: Request,
-) -> Result<Reply<'a>, AllocError>
-    ensures { IfOk result (IsReply request.json source.now.bytes request.erased
-        (map (λ w. w.now) words.now)) }
-{
-    let outline = source.outline();
-    match given(alloc, outline, words) {
-        Ok(given) => {
-            let ranges = ranges(alloc, outline, &given)?;
-            let answer = of_program(alloc, outline, source.bytes(), &ranges, request)?;
-            Ok(Reply::Answer(answer))
-        }
-        Err(WordsError::Bad(word)) => Ok(Reply::BadValue(word)),
-        Err(WordsError::Memory) => Err(AllocError),
-    }
-}
-
-/// Explores the program of a source, breadth first, from all starts within the ranges that the
+/// Explores the program of an outline, breadth first, from all starts within the ranges that the
 /// words give, each NAME=INT or NAME=LO..HI. Any other variable has one value in all starts: that
 /// of a state which a search finds for the precondition, and 0 where it finds none.
 ///
 /// The answer is what was found, with runs that lead there, and the totals, with status 0 where all
-/// was explored and nothing found, and else 1, as a text or as JSON in one line; or the line of a
-/// refusal, with status 2: 50 NotPre only where no start lies within the ranges. `BadValue` holds
-/// the first word that gives no range.
+/// was explored and nothing found, and else 1: as a text with places of the text that was given, or
+/// as JSON in one line with places of the outline's own text. Or, only where no start lies within
+/// the ranges, it is the line of 50 NotPre, with status 2. `BadValue` holds the first word that
+/// gives no range. The texts have at most 1,048,576 bytes.
 ///
 /// # Errors
 ///
 /// An allocation was refused.
 pub fn explored<'a>(
     alloc: Global,
-    source: &[u8],
+    subject: &Subject,
     words: &[&'a str],
     request: Request,
 ) -> Result<Reply<'a>, AllocError>
-    ensures { IfOk result (IsReply request.json source.now request.erased
+    requires { IsShort (subject_of subject.now) }
+    ensures { IfOk result (IsReply request.json (subject_of subject.now) request.erased
         (map (λ w. w.now) words.now)) }
 {
-    match Source::read(alloc, source) {
-        Ok(source) => {
-            let reply = of_source(alloc, &source, words, request);
-            drop(source);
-            reply
+    match given(alloc, subject.outline, words) {
+        Ok(given) => {
+            let ranges = ranges(alloc, subject.outline, &given)?;
+            let answer = of_program(alloc, subject, &ranges, request)?;
+            Ok(Reply::Answer(answer))
         }
-        Err(error) => Ok(Reply::Answer(Answer::unread(alloc, &error, source)?)),
+        Err(WordsError::Bad(word)) => Ok(Reply::BadValue(word)),
+        Err(WordsError::Memory) => Err(AllocError),
     }
 }

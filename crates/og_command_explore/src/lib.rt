@@ -5,9 +5,9 @@
 
 mod answering;
 mod exploring;
+mod reported;
 mod request;
 mod starting;
-mod told;
 mod words;
 
 pub use answering::answer;

@@ -1,6 +1,5 @@
 pub mod WalkItems
 pub mod Ranges
 pub mod Claiming
-pub mod Telling
+pub mod Listing
 pub mod Joins
-pub mod Answering

@@ -5,7 +5,8 @@ use Rattle.og_typed.specs.Syntax.{Noted, Statement, Skip, Assign, If, While, Awa
 use Rattle.og_typed.specs.Erase.{erased}
 use Rattle.og_erase.specs.Collected.{raw_of}
 use Rattle.og_print.specs.Print.{program_text}
-use Rattle.og_report_text.specs.Places.{◌&◌, position_of, position_text}
+use Rattle.og_report_text.specs.Origins.{Rows, place_text_at}
+use Rattle.og_report_text.specs.Places.{◌&◌}
 use Rattle.og_report_text.specs.Assertions.{assertion_text}
 use Rattle.og_report_text.specs.Values.{names_text}
 use Rattle.og_command_notes.specs.Steps.{Step, all_steps, shared}
@@ -38,10 +39,10 @@ unblocked_line = codes "unblocked is said of the whole program: until all proces
 abbrev pub definitions_line : List ℕ
 definitions_line = codes "a yes is carried by 948 lines of definitions, from the bytes of the source to its runs: docs/THEOREM.md\n"
 
-module _ (source : List ℕ) where
-  -- WORD at LINE:COLUMN
+module _ (source : List ℕ) (rows : Rows) where
+  -- WORD at LINE:COLUMN, of a template with the values of an instance
   abbrev pub placed_text : List ℕ → ℕ → List ℕ
-  placed_text word at = word & codes " at " & position_text (position_of source at)
+  placed_text word at = word & codes " at " & place_text_at source rows at
 
   -- an assertion that no state meets
   abbrev pub unmet_line : Claim → List ℕ
@@ -68,11 +69,11 @@ module _ (source : List ℕ) where
     step_lines all n = flat_map (step_line all n) all
 
 -- the precondition, the postcondition, and each assertion that no state meets
-abbrev pub claims_text : Program → List ℕ → List Claim → List ℕ
-claims_text o source claims =
-    claim_line source o.names (codes "precondition") o.pre
-    & claim_line source o.names (codes "postcondition") o.post
-    & flat_map (unmet_line source) claims
+abbrev pub claims_text : Program → List ℕ → Rows → List Claim → List ℕ
+claims_text o source rows claims =
+    claim_line source rows o.names (codes "precondition") o.pre
+    & claim_line source rows o.names (codes "postcondition") o.post
+    & flat_map (unmet_line source rows) claims
 
 -- the auxiliaries by number
 abbrev pub auxiliaries : Program → List ℕ
@@ -89,9 +90,9 @@ auxiliaries_text o vars =
     if length vars == 0 then codes "auxiliary variables: none\n" else some_auxiliaries_text o vars
 
 -- the notes on an outline of whose assertions this is found
-abbrev pub notes_text : Program → List ℕ → List Claim → List ℕ
-notes_text o source claims =
-    claims_text o source claims
-    & step_lines source o.names (all_steps o) o.vars
+abbrev pub notes_text : Program → List ℕ → Rows → List Claim → List ℕ
+notes_text o source rows claims =
+    claims_text o source rows claims
+    & step_lines source rows o.names (all_steps o) o.vars
     & (unblocked_line & definitions_line)
     & auxiliaries_text o (auxiliaries o)

@@ -2,8 +2,8 @@
 //! met, which steps may be several of a machine, and the program without its auxiliary variables.
 //!
 //! specs/Claims.antt says what the assertions of an outline are, specs/Steps.antt which variables
-//! of a step other processes assign, specs/Notes.antt the text, and specs/Noted.antt what is
-//! promised of an answer.
+//! of a step other processes assign, specs/Notes.antt the text, and specs/Noted.antt the
+//! promise of an answer.
 #![tactic(auto)]
 
 mod claims;

@@ -8,7 +8,7 @@ ghost use Rattle.og_command_notes.specs.Seen.{claim_of, claims_of, steps_of};
 use crate::claims::{Claim, Role};
 use crate::steps::shared;
 use crate::walk::Step;
-use og_report_text::{Places, put_assertion, put_names, put_position};
+use og_report_text::{Origins, put_assertion, put_names};
 use og_text::Name;
 use og_typed::{Item, Note, Stmt};
 use std::alloc::AllocError;
@@ -50,42 +50,45 @@ fn step_word(stmt: &Stmt) -> &'static str
 }
 
 // A word, and the place of what it means.
-fn put_placed(text: &mut Vec<u8>, places: &Places, word: &str, at: u32) -> Result<(), AllocError>
+fn put_placed(text: &mut Vec<u8>, origins: &Origins, word: &str, at: u32) -> Result<(), AllocError>
+    requires { origins.now.places.now ≡ origins.now.source.now }
     ensures { OnOk result (text.new.items ≡ text.old.items
-        ++ line.placed_text places.now word.now at) }
+        ++ line.placed_text origins.now.source.now origins.now.rows word.now at) }
 {
     text.extend_from_slice(word.as_bytes())?;
     text.extend_from_slice(b" at ")?;
-    put_position(text, places.position(at))
+    origins.put_place(text, at)
 }
 
 /// Adds the line of an assertion to the text.
 pub(crate) fn put_claim(
     text: &mut Vec<u8>,
-    places: &Places,
+    origins: &Origins,
     names: &[Name],
     word: &str,
     note: &Note,
 ) -> Result<(), AllocError>
+    requires { origins.now.places.now ≡ origins.now.source.now }
     ensures { OnOk result (text.new.items ≡ text.old.items
-        ++ line.claim_line places.now names.now word.now (noted note.now)) }
+        ++ line.claim_line origins.now.source.now origins.now.rows names.now word.now (noted note.now)) }
 {
-    put_placed(text, places, word, note.at)?;
+    put_placed(text, origins, word, note.at)?;
     text.extend_from_slice(b": ")?;
     put_assertion(text, names, &note.assertion)?;
     text.extend_from_slice(b"\n")
 }
 
 // The line of an assertion that no state meets.
-fn put_unmet(text: &mut Vec<u8>, places: &Places, claim: &Claim) -> Result<(), AllocError>
+fn put_unmet(text: &mut Vec<u8>, origins: &Origins, claim: &Claim) -> Result<(), AllocError>
+    requires { origins.now.places.now ≡ origins.now.source.now }
     ensures { OnOk result (text.new.items ≡ text.old.items
-        ++ line.unmet_line places.now (claim_of claim.now)) }
+        ++ line.unmet_line origins.now.source.now origins.now.rows (claim_of claim.now)) }
 {
     if !claim.unmet {
         return Ok(());
     }
     text.extend_from_slice(b"no state meets the ")?;
-    put_placed(text, places, claim.role.word(), claim.note.at)?;
+    put_placed(text, origins, claim.role.word(), claim.note.at)?;
     text.extend_from_slice(b": ")?;
     text.extend_from_slice(claim.role.when_unmet().as_bytes())?;
     text.extend_from_slice(b"\n")
@@ -94,14 +97,15 @@ fn put_unmet(text: &mut Vec<u8>, places: &Places, claim: &Claim) -> Result<(), A
 /// Adds a line for each assertion that no state meets to the text.
 pub(crate) fn put_all_unmet(
     text: &mut Vec<u8>,
-    places: &Places,
+    origins: &Origins,
     claims: &[Claim],
 ) -> Result<(), AllocError>
+    requires { origins.now.places.now ≡ origins.now.source.now }
     ensures { OnOk result (text.new.items ≡ text.old.items
-        ++ flat_map (line.unmet_line places.now) (claims_of claims.now)) }
+        ++ flat_map (line.unmet_line origins.now.source.now origins.now.rows) (claims_of claims.now)) }
 {
     for claim in claims {
-        put_unmet(text, places, claim)?;
+        put_unmet(text, origins, claim)?;
     }
     Ok(())
 }
@@ -109,19 +113,20 @@ pub(crate) fn put_all_unmet(
 // The line of a step that touches these variables, where they are more than one.
 fn put_wide(
     text: &mut Vec<u8>,
-    places: &Places,
+    origins: &Origins,
     names: &[Name],
     item: &Item,
     vars: &[u32],
 ) -> Result<(), AllocError>
+    requires { origins.now.places.now ≡ origins.now.source.now }
     ensures { OnOk result (text.new.items ≡ text.old.items
-        ++ line.wide_line places.now names.now (statement item.now.stmt) item.now.at vars.now) }
+        ++ line.wide_line origins.now.source.now origins.now.rows names.now (statement item.now.stmt) item.now.at vars.now) }
 {
     if vars.len() <= 1 {
         return Ok(());
     }
     text.extend_from_slice(b"the ")?;
-    put_placed(text, places, step_word(&item.stmt), item.at)?;
+    put_placed(text, origins, step_word(&item.stmt), item.at)?;
     text.extend_from_slice(b" touches ")?;
     put_names(text, names, vars)?;
     text.extend_from_slice(
@@ -133,18 +138,19 @@ fn put_wide(
 /// some step of another process assigns.
 pub(crate) fn put_steps(
     text: &mut Vec<u8>,
-    places: &Places,
+    origins: &Origins,
     names: &[Name],
     steps: &[Step],
     vars: u32,
 ) -> Result<(), AllocError>
+    requires { origins.now.places.now ≡ origins.now.source.now }
     ensures { OnOk result (text.new.items ≡ text.old.items
-        ++ line.step_lines places.now names.now (steps_of steps.now) vars) }
+        ++ line.step_lines origins.now.source.now origins.now.rows names.now (steps_of steps.now) vars) }
 {
     let alloc = *text.allocator();
     for step in steps {
         let shared = shared(alloc, steps, step, vars)?;
-        put_wide(text, places, names, step.item, &shared)?;
+        put_wide(text, origins, names, step.item, &shared)?;
     }
     Ok(())
 }

@@ -5,7 +5,8 @@ ghost use Rattle.og_erase.specs.Collected.{raw_of};
 ghost use Rattle.og_parse.specs.TreeOf.{tree_of};
 ghost use Rattle.og_print.specs.Print.{program_text};
 ghost use Rattle.og_typed.specs.Erase.{erased};
-ghost use Rattle.og_command_notes.specs.Noted.{IsNotesText, IsNotes, IsNoted};
+ghost use Rattle.og_report_text.specs.Subject.{subject_of, IsShort};
+ghost use Rattle.og_command_notes.specs.Noted.{IsNotesText, IsNotes};
 ghost use Rattle.og_command_notes.specs.Notes as wanted;
 ghost use Rattle.og_command_notes.specs.Seen.{claims_of, steps_of};
 ghost use Rattle.og_command_notes.specs.Steps.{all_steps};
@@ -16,8 +17,8 @@ use crate::walk::{Step, walk_of};
 use og_erase::erase;
 use og_io::Budget;
 use og_print::print_program;
-use og_report_text::{Answer, Places, put_names};
-use og_typed::{Outline, Source};
+use og_report_text::{Answer, Origins, Places, Subject, put_names};
+use og_typed::Outline;
 use std::alloc::{AllocError, Global};
 
 // The auxiliary variables by number.
@@ -91,67 +92,64 @@ fn put_meaning(text: &mut Vec<u8>) -> Result<(), AllocError>
 fn put_claims(
     text: &mut Vec<u8>,
     outline: &Outline,
-    places: &Places,
+    origins: &Origins,
     claims: &[Claim],
 ) -> Result<(), AllocError>
+    requires { origins.now.places.now ≡ origins.now.source.now }
     ensures { OnOk result (text.new.items ≡ text.old.items
-        ++ wanted.claims_text outline.now places.now (claims_of claims.now)) }
+        ++ wanted.claims_text outline.now origins.now.source.now origins.now.rows
+        (claims_of claims.now)) }
 {
     let names = outline.names();
-    put_claim(text, places, names, "precondition", outline.pre())?;
-    put_claim(text, places, names, "postcondition", outline.post())?;
-    put_all_unmet(text, places, claims)
+    put_claim(text, origins, names, "precondition", outline.pre())?;
+    put_claim(text, origins, names, "postcondition", outline.post())?;
+    put_all_unmet(text, origins, claims)
 }
 
 // The notes, by the outline's steps and assertions.
 fn put_notes(
     text: &mut Vec<u8>,
     outline: &Outline,
-    places: &Places,
+    origins: &Origins,
     steps: &[Step],
     claims: &[Claim],
 ) -> Result<(), AllocError>
-    requires { steps_of steps.now ≡ all_steps outline.now }
+    requires steps { steps_of steps.now ≡ all_steps outline.now }
+    requires places { origins.now.places.now ≡ origins.now.source.now }
     ensures { OnOk result (text.new.items ≡ text.old.items
-        ++ wanted.notes_text outline.now places.now (claims_of claims.now)) }
+        ++ wanted.notes_text outline.now origins.now.source.now origins.now.rows
+        (claims_of claims.now)) }
 {
     let auxiliaries = auxiliaries(*text.allocator(), outline)?;
-    put_claims(text, outline, places, claims)?;
-    put_steps(text, places, outline.names(), steps, outline.vars())?;
+    put_claims(text, outline, origins, claims)?;
+    put_steps(text, origins, outline.names(), steps, outline.vars())?;
     put_meaning(text)?;
     put_auxiliaries(text, outline, &auxiliaries)
 }
 
 // The text of the notes on an outline.
-fn notes_text(
-    alloc: Global,
-    outline: &Outline,
-    source: &[u8],
-    budget: Budget,
-) -> Result<Vec<u8>, AllocError>
-    requires { length source.now ≤ 2 ^ 20 }
-    ensures { IfOk result (λ text. IsNotesText outline.now source.now text.items) }
+fn notes_text(alloc: Global, subject: &Subject, budget: Budget) -> Result<Vec<u8>, AllocError>
+    requires { IsShort (subject_of subject.now) }
+    ensures { IfOk result (λ text. IsNotesText (subject_of subject.now) text.items) }
 {
-    let places = Places::new(alloc, source)?;
+    let outline = subject.outline;
+    let places = Places::new(alloc, subject.given)?;
+    let origins = Origins {
+        source: subject.given,
+        places: &places,
+        rows: subject.rows,
+    };
     let walk = walk_of(alloc, outline)?;
     let claims = claims_of(alloc, outline, &walk.notes, budget)?;
     let mut text = Vec::new(alloc);
-    put_notes(&mut text, outline, &places, &walk.steps, &claims)?;
+    put_notes(&mut text, outline, &origins, &walk.steps, &claims)?;
     Ok(text)
 }
 
-// The notes on the outline of a source.
-fn of_source(alloc: Global, source: &Source, budget: Budget) -> Result<Answer, AllocError>
-    ensures { IfOk result (IsNotes source.now.outline source.now.bytes) }
-{
-    let text = notes_text(alloc, source.outline(), source.bytes(), budget)?;
-    Ok(Answer { text, status: 0 })
-}
-
-/// Notes on the outline of a source for whoever reviews a yes, and status 0; or the line of a
-/// refusal and status 2.
+/// Notes on an outline for whoever reviews a yes, and status 0, with places of the text that was
+/// given. That has at most 1,048,576 bytes.
 ///
-/// They tell the precondition and the postcondition; each assertion for which a search within the
+/// They have the precondition and the postcondition; each assertion for which a search within the
 /// budget finds a certificate that no state meets it; each step of a process that touches more than
 /// one variable which other processes assign; and the auxiliary variables, with the program that is
 /// left without them.
@@ -159,15 +157,10 @@ fn of_source(alloc: Global, source: &Source, budget: Budget) -> Result<Answer, A
 /// # Errors
 ///
 /// An allocation was refused.
-pub fn noted(alloc: Global, source: &[u8], budget: Budget) -> Result<Answer, AllocError>
-    ensures { IfOk result (IsNoted source.now) }
+pub fn noted(alloc: Global, subject: &Subject, budget: Budget) -> Result<Answer, AllocError>
+    requires { IsShort (subject_of subject.now) }
+    ensures { IfOk result (IsNotes (subject_of subject.now)) }
 {
-    match Source::read(alloc, source) {
-        Ok(source) => {
-            let answer = of_source(alloc, &source, budget);
-            drop(source);
-            answer
-        }
-        Err(error) => Answer::unread(alloc, &error, source),
-    }
+    let text = notes_text(alloc, subject, budget)?;
+    Ok(Answer { text, status: 0 })
 }

@@ -1,4 +1,5 @@
 pub mod Lists
+pub mod Refusals
 pub mod Rows
 pub mod Tables
 pub mod Texts

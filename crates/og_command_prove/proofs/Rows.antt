@@ -12,8 +12,8 @@ use Rattle.og_find_all.specs.Findings.{AreVerdicts, verdict_of}
 use Rattle.og_find_all.specs.declared.findings.Findings.{Findings}
 use Rattle.og_explore.proofs.Seen.{there_is}
 use Rattle.std.proofs.lemmas.List.Elements.{All-head, All-tail}
-use Rattle.og_report_prove.specs.Told.{IsTold, AreTold}
-use Rattle.og_command_prove.specs.Found.{Starts, conditions_in, told_in, HasFalse, IsFound, IsExplored, IsNothing}
+use Rattle.og_report_prove.specs.Diagnosis.{IsDiagnosis, AreDiagnoses}
+use Rattle.og_command_prove.specs.Found.{Starts, conditions_in, diagnoses_in, HasFalse, IsFound, IsExplored, IsNothing}
 use Rattle.og_report_runs.specs.declared.lines.Explored.{Explored}
 use Rattle.og_command_prove.specs.declared.finding.Finding.{Finding}
 
@@ -28,7 +28,7 @@ at_seam : {X : Type 0} (ys zs : List X) (x : X) → slice_get (ys ++ x ∷ zs) (
 at_seam [] zs x = refl
 at_seam (y ∷ ys) zs x = at_seam ys zs x
 
--- what is found of the condition behind these is true of it
+-- the finding on the condition behind these is true of it
 pub verdict_true : {X : Type 0} (view : X → Condition) (all ys zs : List X) (x : X) (f : Findings) (i : ℕ) (r : Option (Bor Verdict)) → AreVerdicts (map view all) f → all ≡ ys ++ x ∷ zs → i ≡ length ys
     → option_map (λ v. v.now) r ≡ verdict_of f i → IfSome r (λ v. IsVerdict (view x) v.now)
 verdict_true view all ys zs x f i None are whole at is = tt
@@ -38,13 +38,13 @@ verdict_true view all ys zs x f i (Some v) are whole at is =
 
 -- ---- the columns
 
-told_of : (o : Program) (lists : Option Starts) (f : Finding) → IsFound o lists f → IsTold o (seen f.condition) f.told
-told_of o None f h = h.0
-told_of o (Some lists) f h = h.0
+diagnosis_of : (o : Program) (lists : Option Starts) (f : Finding) → IsFound o lists f → IsDiagnosis o (seen f.condition) f.diagnosis
+diagnosis_of o None f h = h.0
+diagnosis_of o (Some lists) f h = h.0
 
-pub are_told : (o : Program) (lists : Option Starts) (fs : List Finding) → All (IsFound o lists) fs → AreTold o (conditions_in fs) (told_in fs)
-are_told o lists [] h = tt
-are_told o lists (f ∷ fs) h = (told_of o lists f (All-head (IsFound o lists) f fs h), are_told o lists fs (All-tail (IsFound o lists) f fs h))
+pub are_diagnosed : (o : Program) (lists : Option Starts) (fs : List Finding) → All (IsFound o lists) fs → AreDiagnoses o (conditions_in fs) (diagnoses_in fs)
+are_diagnosed o lists [] h = tt
+are_diagnosed o lists (f ∷ fs) h = (diagnosis_of o lists f (All-head (IsFound o lists) f fs h), are_diagnosed o lists fs (All-tail (IsFound o lists) f fs h))
 
 -- ---- how far runs were followed
 

@@ -4,7 +4,7 @@ use Rattle.std.proofs.lemmas.Simd.{map-map}
 use Rattle.og_cond.specs.Seen.{seen}
 use Rattle.og_cond.specs.declared.condition.Condition.{Condition}
 use Rattle.og_report_runs.specs.declared.lines.Explored.{Explored}
-use Rattle.og_command_prove.specs.Found.{conditions_in, told_in, runs_in}
+use Rattle.og_command_prove.specs.Found.{conditions_in, diagnoses_in, runs_in}
 use Rattle.og_command_prove.specs.Table.{columns_in, columns_of}
 use Rattle.og_command_prove.specs.declared.finding.Finding.{Finding}
 use Rattle.og_command_prove.specs.declared.finding.Table.{Table}
@@ -12,8 +12,8 @@ use Rattle.og_command_prove.specs.declared.finding.Table.{Table}
 pub are_listed : (fs : List Finding) (cs : List Condition) → map (λ f. f.condition) fs ≡ cs → conditions_in fs ≡ map seen cs
 are_listed fs cs same = sym (map-map seen (λ f. f.condition) fs) ∙ ap (map seen) same
 
-pub is_table : (fs : List Finding) (e : Option Explored) (t : Table) → t.conditions.items ≡ map (λ f. f.condition) fs → t.told.items ≡ told_in fs
+pub is_table : (fs : List Finding) (e : Option Explored) (t : Table) → t.conditions.items ≡ map (λ f. f.condition) fs → t.diagnoses.items ≡ diagnoses_in fs
     → t.runs.items ≡ runs_in fs → t.explored ≡ e → columns_of t ≡ columns_in fs e
-is_table fs e t conditions told runs explored =
+is_table fs e t conditions diagnoses runs explored =
     let listed = sym (are_listed fs t.conditions.items (sym conditions)) in
-    λ i. record { conditions = listed i; told = told i; runs = runs i; explored = explored i }
+    λ i. record { conditions = listed i; diagnoses = diagnoses i; runs = runs i; explored = explored i }

@@ -1,27 +1,26 @@
 -- What is answered for an outline, and what its status says.
-use Rattle.std.specs.Prelude.{◌≡◌, ◌≤◌, ◌⊎◌, ℕ, Bool, true, if◌then◌else◌, List, length, Option, is_some}
+use Rattle.std.specs.Prelude.{◌≡◌, ◌≤◌, ℕ, Bool, true, if◌then◌else◌, List, length, Option, is_some}
 use Rattle.og_typed.specs.Erase.{erased}
 use Rattle.og_cond.specs.Conditions.{conditions}
 use Rattle.og_cond.specs.Limits.{condition_limit}
 use Rattle.og_report_prove.specs.Report.{is_safe, is_unblocked}
-use Rattle.og_report_prove.specs.declared.telling.Told.{Told}
+use Rattle.og_report_prove.specs.declared.diagnosis.Diagnosis.{Diagnosis}
 use Rattle.og_report_runs.specs.declared.lines.Explored.{Explored}
-use Rattle.og_report_text.specs.Told.{HasTooMany}
 use Rattle.og_report_text.specs.declared.answer.Answer.{Answer}
 use Rattle.og_theorem.specs.NeverStuck.{IsNeverStuck}
 use Rattle.og_theorem.specs.Sound.{IsSound, IsSoundErased}
-use Rattle.og_command_prove.specs.Found.{told_in, AreFound}
+use Rattle.og_command_prove.specs.Found.{diagnoses_in, AreFound}
 use Rattle.og_command_prove.specs.Printed.{IsPrinted, SaysUnblockedIn}
-use Rattle.og_command_prove.specs.Subject.{Subject}
+use Rattle.og_report_text.specs.Subject.{Subject}
 use Rattle.og_command_prove.specs.Table.{columns_in}
 use Rattle.og_command_prove.specs.declared.finding.Finding.{Finding}
 use Rattle.og_command_prove.specs.declared.form.ReportForm.{ReportForm}
 
--- 0 where each condition but the last is told as proved, else 1
-abbrev pub status_of : List Told → ℕ
+-- 0 where each condition but the last is proved, else 1
+abbrev pub status_of : List Diagnosis → ℕ
 status_of ts = if is_safe ts then 0 else 1
 
--- what is found of each condition, in a form, with runs or without
+-- the findings on all conditions, in a form, with runs or without
 pub record IsReported (form : ReportForm) (runs : Bool) (s : Subject)
     (answer : Answer) : Type 0 where
   pub few : length (conditions s.outline) ≤ condition_limit
@@ -30,15 +29,11 @@ pub record IsReported (form : ReportForm) (runs : Bool) (s : Subject)
   pub asked : is_some explored ≡ runs
   pub found : AreFound s.outline (conditions s.outline) findings explored
   pub printed : IsPrinted form s (columns_in findings explored) answer.text.items
-  pub status : answer.status ≡ status_of (told_in findings)
+  pub status : answer.status ≡ status_of (diagnoses_in findings)
   -- with status 0 every run of the outline is as promised
   pub sound : answer.status ≡ 0 → IsSound s.outline × IsSoundErased s.outline
-  -- and where the last condition is told as proved too, none gets stuck
-  pub unblocked : answer.status ≡ 0 → is_unblocked (told_in findings) ≡ true
+  -- and where the last condition is proved too, none gets stuck
+  pub unblocked : answer.status ≡ 0 → is_unblocked (diagnoses_in findings) ≡ true
       → IsNeverStuck s.outline × IsNeverStuck (erased s.outline)
   -- as it is where the text says so
-  pub says : SaysUnblockedIn runs form answer.text.items → is_unblocked (told_in findings) ≡ true
-
--- that, or the line that says that there are too many conditions
-abbrev pub IsAnswer : ReportForm → Bool → Subject → Answer → Type 0
-IsAnswer form runs s answer = IsReported form runs s answer ⊎ HasTooMany s.outline s.own answer
+  pub says : SaysUnblockedIn runs form answer.text.items → is_unblocked (diagnoses_in findings) ≡ true

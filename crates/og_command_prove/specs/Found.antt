@@ -7,10 +7,10 @@ use Rattle.og_cond.specs.Seen.{seen}
 use Rattle.og_explore.specs.Seen.{IsKnown}
 use Rattle.og_explore.specs.From.{IsReachedFrom}
 use Rattle.og_find.specs.Found.{IsFalseAt}
-use Rattle.og_report_prove.specs.Told.{IsTold, IsAllowed}
-use Rattle.og_report_prove.specs.declared.telling.Told.{Told}
+use Rattle.og_report_prove.specs.Diagnosis.{IsDiagnosis, IsAllowed}
+use Rattle.og_report_prove.specs.declared.diagnosis.Diagnosis.{Diagnosis}
 use Rattle.og_report_runs.specs.Runs.{IsRun}
-use Rattle.og_report_runs.specs.Told.{IsToldBy}
+use Rattle.og_report_runs.specs.RunDiagnosis.{IsDiagnosisBy}
 use Rattle.og_report_runs.specs.declared.lines.Explored.{Explored}
 use Rattle.og_report_runs.specs.declared.witness.Run.{Run}
 use Rattle.og_report_runs.specs.declared.witness.Run.TheVariants as run
@@ -21,32 +21,32 @@ use Rattle.og_command_prove.specs.declared.finding.Finding.{Finding}
 abbrev pub conditions_in : List Finding → List Condition
 conditions_in = map (λ f. seen f.condition)
 
-abbrev pub told_in : List Finding → List Told
-told_in = map (λ f. f.told)
+abbrev pub diagnoses_in : List Finding → List Diagnosis
+diagnoses_in = map (λ f. f.diagnosis)
 
 abbrev pub runs_in : List Finding → List Run
 runs_in = map (λ f. f.run)
 
 -- ---- one row
 
--- where a run gets to a state, the condition is told of that state, and of where the run has the
--- processes; else, where it is told where they stand, the assertion at each place is true
-abbrev pub IsOfRun : Program → Run → Told → Type 0
-IsOfRun o (run.Reached w) told = IsToldBy o w told
-IsOfRun o run.Never told = IsAllowed o told
-IsOfRun o run.Open told = IsAllowed o told
+-- where a run gets to a state, the diagnosis is of that state, and of where the run has the
+-- processes; else, where it says where they stand, the assertion at each place is true
+abbrev pub IsOfRun : Program → Run → Diagnosis → Type 0
+IsOfRun o (run.Reached w) diagnosis = IsDiagnosisBy o w diagnosis
+IsOfRun o run.Never diagnosis = IsAllowed o diagnosis
+IsOfRun o run.Open diagnosis = IsAllowed o diagnosis
 
 -- lists of ranges of values, within which runs start
 abbrev pub Starts : Type 0
 Starts = List (List (ℤ × ℤ))
 
--- what is told of the condition is so, and so is what is told of the runs from the starts within
--- the lists; without these nothing is told of runs
+-- the diagnosis of the condition is true of it, and so is what is said of the runs from the starts
+-- within the lists; without these nothing is said of runs
 abbrev pub IsFound : Program → Option Starts → Finding → Type 0
-IsFound o None f = IsTold o (seen f.condition) f.told × IsAllowed o f.told × (f.run ≡ run.Open)
+IsFound o None f = IsDiagnosis o (seen f.condition) f.diagnosis × IsAllowed o f.diagnosis × (f.run ≡ run.Open)
 IsFound o (Some lists) f =
-    IsTold o (seen f.condition) f.told × IsRun o lists (seen f.condition) f.run
-    × IsOfRun o f.run f.told
+    IsDiagnosis o (seen f.condition) f.diagnosis × IsRun o lists (seen f.condition) f.run
+    × IsOfRun o f.run f.diagnosis
 
 -- ---- how far runs were followed
 

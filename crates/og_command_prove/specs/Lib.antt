@@ -3,6 +3,5 @@ pub mod Found
 pub mod Moments
 pub mod Printed
 pub mod Reply
-pub mod Subject
 pub mod Table
 pub mod Warrants

@@ -1,9 +1,9 @@
--- The moments of runs from some starts, and what conditions are told with.
+-- The moments of runs from some starts, and what diagnoses are made with.
 use Rattle.std.specs.Prelude.{◌≡◌, ◌≤◌, ◌+◌, true, map, length, Option, option_map, IfSome}
 use Rattle.og_typed.specs.Syntax.{Program}
 use Rattle.og_command_prove.specs.Found.{Starts, AreAll, most_steps}
-use Rattle.og_command_prove.specs.declared.telling.Moments.{Moments}
-use Rattle.og_command_prove.specs.declared.telling.Teller.{Teller}
+use Rattle.og_command_prove.specs.declared.diagnoser.Moments.{Moments}
+use Rattle.og_command_prove.specs.declared.diagnoser.Diagnoser.{Diagnoser}
 use denote.Ref.{Bor}
 
 abbrev pub lists_of : Moments → Starts
@@ -19,5 +19,5 @@ pub record AreMoments (o : Program) (m : Moments) : Type 0 where
   pub few : length m.reach.moments.keys ≤ m.reach.starts + most_steps
 
 -- the places and the moments are those of the outline
-abbrev pub IsTeller : Teller → Type 0
-IsTeller t = (t.index.now ≡ t.outline.now) × IfSome t.moments (λ m. AreMoments t.outline.now m.now)
+abbrev pub IsDiagnoser : Diagnoser → Type 0
+IsDiagnoser t = (t.index.now ≡ t.outline.now) × IfSome t.moments (λ m. AreMoments t.outline.now m.now)

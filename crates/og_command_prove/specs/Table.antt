@@ -2,24 +2,24 @@
 use Rattle.std.specs.Prelude.{◌≡◌, ◌<◌, ◌^◌, List, map, length, Option}
 use Rattle.og_cond.specs.Condition.{Condition}
 use Rattle.og_cond.specs.Seen.{seen}
-use Rattle.og_report_prove.specs.declared.telling.Told.{Told}
+use Rattle.og_report_prove.specs.declared.diagnosis.Diagnosis.{Diagnosis}
 use Rattle.og_report_runs.specs.declared.lines.Explored.{Explored}
 use Rattle.og_report_runs.specs.declared.witness.Run.{Run}
-use Rattle.og_command_prove.specs.Found.{conditions_in, told_in, runs_in}
+use Rattle.og_command_prove.specs.Found.{conditions_in, diagnoses_in, runs_in}
 use Rattle.og_command_prove.specs.declared.finding.Finding.{Finding}
 use Rattle.og_command_prove.specs.declared.finding.Table.{Table}
 
 -- what reports are printed of
 pub record Columns : Type 0 where
   pub conditions : List Condition
-  pub told : List Told
+  pub diagnoses : List Diagnosis
   pub runs : List Run
   pub explored : Option Explored
 
 abbrev pub columns_in : List Finding → Option Explored → Columns
 columns_in fs e = record {
   conditions = conditions_in fs;
-  told = told_in fs;
+  diagnoses = diagnoses_in fs;
   runs = runs_in fs;
   explored = e;
 }
@@ -27,13 +27,13 @@ columns_in fs e = record {
 abbrev pub columns_of : Table → Columns
 columns_of t = record {
   conditions = map seen t.conditions.items;
-  told = t.told.items;
+  diagnoses = t.diagnoses.items;
   runs = t.runs.items;
   explored = t.explored;
 }
 
 -- they are of one length
 pub record IsTable (t : Table) : Type 0 where
-  pub told : length t.told.items ≡ length t.conditions.items
+  pub diagnoses : length t.diagnoses.items ≡ length t.conditions.items
   pub runs : length t.runs.items ≡ length t.conditions.items
-  pub few : length t.told.items < 2 ^ 32
+  pub few : length t.diagnoses.items < 2 ^ 32

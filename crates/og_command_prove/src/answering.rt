@@ -7,23 +7,26 @@ ghost use Rattle.og_cond.specs.Limits.{condition_limit};
 ghost use Rattle.og_cond.specs.Seen.{seen};
 ghost use Rattle.og_pool.specs.declared.fault.PoolFault.TheVariants.{Spawn};
 ghost use Rattle.og_report_prove.specs.Report.{is_unblocked};
-ghost use Rattle.og_report_prove.specs.Told.{AreTold};
+ghost use Rattle.og_report_prove.specs.Diagnosis.{AreDiagnoses};
 ghost use Rattle.og_theorem.specs.NeverStuck.{IsNeverStuck};
 ghost use Rattle.og_theorem.specs.Sound.{IsSound, IsSoundErased};
-ghost use Rattle.og_command_prove.specs.Answer.{status_of, IsAnswer, IsReported};
+ghost use Rattle.og_judge.specs.NotJudged.{OnInput};
+ghost use Rattle.og_judge.specs.declared.refusal.Refusal.TheVariants as refusals;
+ghost use Rattle.og_report_text.specs.InputErrors.{IsFaultOfCount};
+ghost use Rattle.og_command_prove.specs.Answer.{status_of, IsReported};
 ghost use Rattle.og_command_prove.specs.Found.{AreFound};
-ghost use Rattle.og_command_prove.specs.Subject.{subject_of, IsShort};
+ghost use Rattle.og_report_text.specs.Subject.{subject_of, IsShort};
 
 use crate::finding::Findings;
 use crate::form::ReportForm;
 use crate::printing::printed;
 use crate::prover::Prover;
 use crate::searching::AskedRuns;
-use crate::subject::Subject;
-use og_cond::{Condition, ConditionsError, conditions};
+use og_cond::{Condition, conditions};
+use og_judge::Refusal;
 use og_pool::{Gate, PoolFault};
-use og_report_prove::{Told, is_safe, is_unblocked};
-use og_report_text::{Answer, InputFault};
+use og_report_prove::{Diagnosis, is_safe, is_unblocked};
+use og_report_text::{Answer, Subject};
 use og_theorem::Proved;
 use og_typed::Outline;
 use std::alloc::{AllocError, Global};
@@ -31,18 +34,18 @@ use std::sync::Wait;
 use std::thread::Threads;
 
 // The status: 0 where each condition but the last is proved, else 1. Takes no memory.
-fn status_of(outline: &Outline, told: &[Told]) -> u8
-    requires { AreTold outline.now (conditions_of outline.now) told.now }
-    ensures status { result ≡ status_of told.now }
+fn status_of(outline: &Outline, diagnoses: &[Diagnosis]) -> u8
+    requires { AreDiagnoses outline.now (conditions_of outline.now) diagnoses.now }
+    ensures status { result ≡ status_of diagnoses.now }
     ensures sound { result ≡ 0 → IsSound outline.now × IsSoundErased outline.now }
-    ensures unblocked { result ≡ 0 → is_unblocked told.now ≡ true
+    ensures unblocked { result ≡ 0 → is_unblocked diagnoses.now ≡ true
         → IsNeverStuck outline.now × IsNeverStuck (erased outline.now) }
 {
-    if !is_safe(told) {
+    if !is_safe(diagnoses) {
         return 1;
     }
     // Asked for their clauses alone: what they say of the runs.
-    let proved = Proved::new(outline, is_unblocked(told));
+    let proved = Proved::new(outline, is_unblocked(diagnoses));
     proved.outline();
     proved.unblocked();
     0
@@ -59,12 +62,11 @@ fn answer_of(
     requires few { length (conditions_of subject.now.outline.now) ≤ condition_limit }
     requires found { AreFound subject.now.outline.now (conditions_of subject.now.outline.now)
         findings.rows.items findings.explored }
-    ensures { IfOk result
-        (IsReported form (is_some findings.entry.explored) (subject_of subject.now)) }
+    ensures { IfOk result (IsReported form (is_some findings.entry.explored) (subject_of subject.now)) }
 {
     let table = findings.into_table(alloc)?;
     let text = printed(alloc, subject, &table, form)?;
-    let status = status_of(subject.outline, &table.told);
+    let status = status_of(subject.outline, &table.diagnoses);
     Ok(Answer { text, status })
 }
 
@@ -80,8 +82,7 @@ impl<'r, G: Gate, H: Threads + Wait + Sync> Prover<'r, G, H> {
         requires short { IsShort (subject_of subject.now) }
         requires listed { map seen conditions.items ≡ conditions_of subject.now.outline.now }
         requires few { length conditions.items ≤ condition_limit }
-        ensures answer { IfOk result
-            (IsReported form (is_some asked.entry) (subject_of subject.now)) }
+        ensures answer { IfOk result (IsReported form (is_some asked.entry) (subject_of subject.now)) }
         ensures spawn { IfErr result (λ e. e ≡ Spawn → 1 < self.now.search.workers) }
     {
         let findings = self.findings(subject.outline, conditions, asked)?;
@@ -90,33 +91,26 @@ impl<'r, G: Gate, H: Threads + Wait + Sync> Prover<'r, G, H> {
     }
 
     /// What is found of the conditions of an outline, in a form, and the status: 0 where every
-    /// condition but the last is proved, and 1 where one is not; or the line that says that there
-    /// are too many conditions, with status 2. Status 0 says that every run of the outline is as
-    /// promised, with its auxiliaries and without them; and a text that says then that it is
-    /// unblocked, that none gets stuck. The texts have at most 1,048,576 bytes.
+    /// condition but the last is proved, and 1 where one is not. Status 0 says that every run of
+    /// the outline is as promised, with its auxiliaries and without them; and a text that says then
+    /// that it is unblocked, that none gets stuck. The texts have at most 1,048,576 bytes.
     ///
     /// # Errors
     ///
-    /// `Spawn`, of two workers or more, where a thread could not be started. `Memory` where an
-    /// allocation was refused.
+    /// `Input` where the outline has more than 4,000,000 conditions. `Spawn`, of two workers or
+    /// more, where a thread could not be started. `Memory` where an allocation was refused.
     pub(crate) fn answer(
         &self,
         subject: &Subject<'_>,
         asked: Option<&AskedRuns<'_>>,
         form: ReportForm,
-    ) -> Result<Answer, PoolFault>
+    ) -> Result<Answer, Refusal>
         requires { IsShort (subject_of subject.now) }
-        ensures answer { IfOk result
-            (IsAnswer form (is_some asked.entry) (subject_of subject.now)) }
-        ensures spawn { IfErr result (λ e. e ≡ Spawn → 1 < self.now.search.workers) }
+        ensures answer { IfOk result (IsReported form (is_some asked.entry) (subject_of subject.now)) }
+        ensures refused { IfErr result (OnInput (IsFaultOfCount subject.now.outline.now)) }
+        ensures spawn { IfErr result (λ e. e ≡ refusals.Spawn → 1 < self.now.search.workers) }
     {
-        match conditions(self.alloc, subject.outline) {
-            Ok(list) => self.reported(subject, list, asked, form),
-            Err(ConditionsError::Fault(fault)) => {
-                let fault = InputFault::Conditions(fault);
-                Ok(Answer::refused(self.alloc, &fault, subject.own)?)
-            }
-            Err(ConditionsError::Memory) => Err(PoolFault::Memory),
-        }
+        let list = conditions(self.alloc, subject.outline)?;
+        Ok(self.reported(subject, list, asked, form)?)
     }
 }

@@ -2,10 +2,12 @@
 
 ghost use Rattle.std.specs.Prelude.{◌≡◌, ◌<◌, ◌≤◌, ◌^◌, is_some, length, true, false, IfOk, IfErr};
 ghost use Rattle.og_template_outline.specs.Expanded.{IsOutlineText};
-ghost use Rattle.og_pool.specs.declared.fault.PoolFault.TheVariants.{Spawn};
+ghost use Rattle.og_judge.specs.NotJudged.{OnInput};
+ghost use Rattle.og_judge.specs.declared.refusal.Refusal.TheVariants as refusals;
+ghost use Rattle.og_report_text.specs.InputErrors.{IsFaultOfCount, IsFaultOfConditions};
 ghost use Rattle.og_typed.specs.Source.{IsSource};
-ghost use Rattle.og_command_prove.specs.Reply.{bytes_of, IsOfMeant, IsOfSubject, IsOfSource, IsOfSplit, IsOfTemplate, IsReplyBy, IsReply};
-ghost use Rattle.og_command_prove.specs.Subject.{subject_of, IsShort};
+ghost use Rattle.og_command_prove.specs.Reply.{bytes_of, IsOfExpansion, IsOfSubject, IsOfSource, IsOfSplit, IsOfTemplate, IsReplyBy, IsReply, IsTooMany, IsFaultOfText};
+ghost use Rattle.og_report_text.specs.Subject.{subject_of, IsShort};
 ghost use Rattle.og_command_prove.specs.Warrants.{Warrants, WarrantsBy};
 ghost use Rattle.og_template.specs.Front.{is_template};
 
@@ -13,11 +15,11 @@ use crate::form::ReportForm;
 use crate::prover::Prover;
 use crate::reply::Reply;
 use crate::searching::AskedRuns;
-use crate::subject::Subject;
 use og_command_explore::{WordsError, given};
 use og_io::MomentLimit;
-use og_pool::{Gate, PoolFault};
-use og_report_text::{Answer, Rows};
+use og_judge::Refusal;
+use og_pool::Gate;
+use og_report_text::{Rows, Subject};
 use og_template::is_template;
 use og_template_outline::{Expansion, expand_template, split_words};
 use og_typed::{Outline, Source};
@@ -31,11 +33,12 @@ impl<'r, G: Gate, H: Threads + Wait + Sync> Prover<'r, G, H> {
         subject: &Subject<'_>,
         words: &[&'a str],
         form: ReportForm,
-    ) -> Result<Reply<'a>, PoolFault>
+    ) -> Result<Reply<'a>, Refusal>
         requires { IsShort (subject_of subject.now) }
         ensures reply { IfOk result
             (IsOfSubject form false (subject_of subject.now) (bytes_of words.now)) }
-        ensures spawn { IfErr result (λ e. e ≡ Spawn → 1 < self.now.search.workers) }
+        ensures refused { IfErr result (OnInput (IsFaultOfCount subject.now.outline.now)) }
+        ensures spawn { IfErr result (λ e. e ≡ refusals.Spawn → 1 < self.now.search.workers) }
     {
         match words {
             [] => Ok(Reply::Answer(self.answer(subject, None, form)?)),
@@ -50,11 +53,12 @@ impl<'r, G: Gate, H: Threads + Wait + Sync> Prover<'r, G, H> {
         words: &[&'a str],
         limit: MomentLimit,
         form: ReportForm,
-    ) -> Result<Reply<'a>, PoolFault>
+    ) -> Result<Reply<'a>, Refusal>
         requires { IsShort (subject_of subject.now) }
         ensures reply { IfOk result
             (IsOfSubject form true (subject_of subject.now) (bytes_of words.now)) }
-        ensures spawn { IfErr result (λ e. e ≡ Spawn → 1 < self.now.search.workers) }
+        ensures refused { IfErr result (OnInput (IsFaultOfCount subject.now.outline.now)) }
+        ensures spawn { IfErr result (λ e. e ≡ refusals.Spawn → 1 < self.now.search.workers) }
     {
         match given(self.alloc, subject.outline, words) {
             Ok(given) => {
@@ -68,7 +72,7 @@ impl<'r, G: Gate, H: Threads + Wait + Sync> Prover<'r, G, H> {
                 let own = Vec::from_slice(self.alloc, subject.own)?;
                 Ok(Reply::BadStart(word, own))
             }
-            Err(WordsError::Memory) => Err(PoolFault::Memory),
+            Err(WordsError::Memory) => Err(Refusal::Memory),
         }
     }
 
@@ -78,11 +82,12 @@ impl<'r, G: Gate, H: Threads + Wait + Sync> Prover<'r, G, H> {
         subject: &Subject<'_>,
         words: &[&'a str],
         form: ReportForm,
-    ) -> Result<Reply<'a>, PoolFault>
+    ) -> Result<Reply<'a>, Refusal>
         requires { IsShort (subject_of subject.now) }
         ensures reply { IfOk result (IsOfSubject form (is_some self.now.search.runs)
             (subject_of subject.now) (bytes_of words.now)) }
-        ensures spawn { IfErr result (λ e. e ≡ Spawn → 1 < self.now.search.workers) }
+        ensures refused { IfErr result (OnInput (IsFaultOfCount subject.now.outline.now)) }
+        ensures spawn { IfErr result (λ e. e ≡ refusals.Spawn → 1 < self.now.search.workers) }
     {
         match self.search.runs {
             None => self.without_runs(subject, words, form),
@@ -96,27 +101,21 @@ impl<'r, G: Gate, H: Threads + Wait + Sync> Prover<'r, G, H> {
         text: &[u8],
         words: &[&'a str],
         form: ReportForm,
-    ) -> Result<Reply<'a>, PoolFault>
+    ) -> Result<Reply<'a>, Refusal>
         ensures reply { IfOk result
             (IsOfSource form (is_some self.now.search.runs) text.now (bytes_of words.now)) }
-        ensures spawn { IfErr result (λ e. e ≡ Spawn → 1 < self.now.search.workers) }
+        ensures refused { IfErr result (OnInput (IsFaultOfConditions text.now)) }
+        ensures spawn { IfErr result (λ e. e ≡ refusals.Spawn → 1 < self.now.search.workers) }
     {
-        match Source::read(self.alloc, text) {
-            Ok(source) => {
-                let reply = self.of_subject(&Subject::of_source(&source), words, form);
-                drop(source);
-                reply
-            }
-            Err(error) => {
-                let answer = Answer::unread(self.alloc, &error, text)?;
-                Ok(Reply::Answer(answer))
-            }
-        }
+        let source = Source::read(self.alloc, text)?;
+        let reply = self.of_subject(&Subject::of_source(&source), words, form);
+        drop(source);
+        reply
     }
 
     // The reply for the outline that a template means.
     #[tactic(auto, using(og_template_outline::proofs::ReadAgain::outline_text_short))]
-    fn of_meant<'a>(
+    fn of_expansion<'a>(
         &self,
         template: &[u8],
         own: &[u8],
@@ -124,18 +123,19 @@ impl<'r, G: Gate, H: Threads + Wait + Sync> Prover<'r, G, H> {
         rows: &Rows,
         starts: &[&'a str],
         form: ReportForm,
-    ) -> Result<Reply<'a>, PoolFault>
+    ) -> Result<Reply<'a>, Refusal>
         requires short { length template.now ≤ 2 ^ 20 }
         requires text { IsOutlineText own.now }
         requires source { IsSource own.now outline.now }
         ensures reply { IfOk result
-            (IsOfMeant form (is_some self.now.search.runs) template.now (bytes_of starts.now)) }
-        ensures spawn { IfErr result (λ e. e ≡ Spawn → 1 < self.now.search.workers) }
+            (IsOfExpansion form (is_some self.now.search.runs) template.now (bytes_of starts.now)) }
+        ensures refused { IfErr result (OnInput (IsTooMany)) }
+        ensures spawn { IfErr result (λ e. e ≡ refusals.Spawn → 1 < self.now.search.workers) }
     {
         let subject = Subject {
             outline,
             own,
-            told: template,
+            given: template,
             rows: Some(rows),
         };
         self.of_subject(&subject, starts, form)
@@ -149,14 +149,15 @@ impl<'r, G: Gate, H: Threads + Wait + Sync> Prover<'r, G, H> {
         constants: &[&'a str],
         starts: &[&'a str],
         form: ReportForm,
-    ) -> Result<Reply<'a>, PoolFault>
+    ) -> Result<Reply<'a>, Refusal>
         ensures reply { IfOk result (IsOfSplit form (is_some self.now.search.runs) text.now
             (bytes_of constants.now) (bytes_of starts.now)) }
-        ensures spawn { IfErr result (λ e. e ≡ Spawn → 1 < self.now.search.workers) }
+        ensures refused { IfErr result (OnInput (IsTooMany)) }
+        ensures spawn { IfErr result (λ e. e ≡ refusals.Spawn → 1 < self.now.search.workers) }
     {
         match expand_template(self.alloc, text, constants)? {
             Expansion::Outline(own, outline, rows) => {
-                let reply = self.of_meant(text, &own, &outline, &rows, starts, form);
+                let reply = self.of_expansion(text, &own, &outline, &rows, starts, form);
                 drop(outline);
                 reply
             }
@@ -171,10 +172,11 @@ impl<'r, G: Gate, H: Threads + Wait + Sync> Prover<'r, G, H> {
         text: &[u8],
         words: &[&'a str],
         form: ReportForm,
-    ) -> Result<Reply<'a>, PoolFault>
+    ) -> Result<Reply<'a>, Refusal>
         ensures reply { IfOk result
             (IsOfTemplate form (is_some self.now.search.runs) text.now (bytes_of words.now)) }
-        ensures spawn { IfErr result (λ e. e ≡ Spawn → 1 < self.now.search.workers) }
+        ensures refused { IfErr result (OnInput (IsTooMany)) }
+        ensures spawn { IfErr result (λ e. e ≡ refusals.Spawn → 1 < self.now.search.workers) }
     {
         match self.search.runs {
             None => self.of_split(text, words, &[], form),
@@ -189,41 +191,43 @@ impl<'r, G: Gate, H: Threads + Wait + Sync> Prover<'r, G, H> {
     /// word is `template`, of the outline that it means where constants have the values that the
     /// words give, each NAME=INT. A text has places of the template then, with the values of the
     /// names that are bound round them, and false conditions that differ in these values alone are
-    /// told together; JSON has places of the outline as `og_template_outline::expanded` prints it,
-    /// and a page shows that.
+    /// reported together; JSON has places of the outline as `og_template_outline::expanded` prints
+    /// it, and a page shows that.
     ///
     /// Where runs are asked for, it is also found of each false condition whether a run gets to a
     /// state in which it is false. The words whose NAME is no constant say where the runs start,
     /// each NAME=INT or NAME=LO..HI, as in an exploration. Without them the starts are one that a
     /// search finds for the precondition, and for each false condition two more, up to 64. What is
-    /// known of the runs to conditions that are told together is told of the first one.
+    /// known of the runs to conditions that are reported together is the first one's.
     ///
-    /// The status is 0 where every condition but the last is proved, 1 where one is not, and 2 at a
-    /// refusal. Status 0 says that every run of the outline is as promised, with its auxiliaries
-    /// and without them, of a template of the outline that it means; and where no runs are asked
-    /// for, a text or JSON that says then that it is unblocked, that none gets stuck. The answer is
-    /// the same for every number of workers.
+    /// The status is 0 where every condition but the last is proved, and 1 where one is not. Status
+    /// 0 says that every run of the outline is as promised, with its auxiliaries and without them,
+    /// of a template of the outline that it means; and where no runs are asked for, a text or JSON
+    /// that says then that it is unblocked, that none gets stuck. The answer is the same for every
+    /// number of workers.
     ///
     /// `Refused` holds the line of a fault of a template with status 2, and the fault;
     /// `BadConstant` the first word that gives its constant no value, or a second one, or, where no
     /// runs are asked for, the first behind an outline, which has no constants; `BadStart` the
-    /// first word that gives no variable a range, with the text of the outline. Both are told once
-    /// the outline was read.
+    /// first word that gives no variable a range, with the text of the outline. Both are returned
+    /// once the outline was read.
     ///
     /// # Errors
     ///
-    /// `Spawn`, of two workers or more, where a thread could not be started. `Memory` where an
-    /// allocation was refused.
+    /// `Input`: of an outline its first fault, or that it has more than 4,000,000 conditions; of a
+    /// template that its outline has. `Spawn`, of two workers or more, where a thread could not be
+    /// started. `Memory` where an allocation was refused.
     pub fn prove<'a>(
         &self,
         text: &[u8],
         words: &[&'a str],
         form: ReportForm,
-    ) -> Result<Reply<'a>, PoolFault>
+    ) -> Result<Reply<'a>, Refusal>
         ensures reply { IfOk result
             (IsReply form (is_some self.now.search.runs) text.now (bytes_of words.now)) }
         ensures warrants { IfOk result (Warrants form (is_some self.now.search.runs) text.now) }
-        ensures spawn { IfErr result (λ e. e ≡ Spawn → 1 < self.now.search.workers) }
+        ensures refused { IfErr result (OnInput (IsFaultOfText text.now)) }
+        ensures spawn { IfErr result (λ e. e ≡ refusals.Spawn → 1 < self.now.search.workers) }
     {
         if is_template(text) {
             self.of_template(text, words, form)
@@ -239,12 +243,13 @@ impl<'r, G: Gate, H: Threads + Wait + Sync> Prover<'r, G, H> {
     /// # Errors
     ///
     /// As `prove`.
-    pub fn show<'a>(&self, text: &[u8], words: &[&'a str]) -> Result<Reply<'a>, PoolFault>
+    pub fn show<'a>(&self, text: &[u8], words: &[&'a str]) -> Result<Reply<'a>, Refusal>
         ensures reply { IfOk result (IsOfSource ReportForm.Page (is_some self.now.search.runs)
             text.now (bytes_of words.now)) }
         ensures warrants { IfOk result
             (WarrantsBy false ReportForm.Page (is_some self.now.search.runs) text.now) }
-        ensures spawn { IfErr result (λ e. e ≡ Spawn → 1 < self.now.search.workers) }
+        ensures refused { IfErr result (OnInput (IsFaultOfConditions text.now)) }
+        ensures spawn { IfErr result (λ e. e ≡ refusals.Spawn → 1 < self.now.search.workers) }
     {
         self.of_source(text, words, ReportForm::Page)
     }

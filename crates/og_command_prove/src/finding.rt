@@ -3,7 +3,7 @@
 ghost use Rattle.std.specs.Prelude.{◌≡◌, map, IfOk};
 
 use og_cond::Condition;
-use og_report_prove::Told;
+use og_report_prove::Diagnosis;
 use og_report_runs::{Explored, Run};
 use std::alloc::{AllocError, Global};
 
@@ -13,7 +13,7 @@ pub struct Finding<'a> {
     /// The condition.
     pub condition: Condition<'a>,
     /// Whether it is proved, false in a state, or neither.
-    pub told: Told<'a>,
+    pub diagnosis: Diagnosis<'a>,
     /// What is known of the runs to a state in which it is false; nothing where none is asked for.
     pub run: Run,
 }
@@ -31,7 +31,7 @@ pub(crate) struct Findings<'a> {
 #[derive(Drop)]
 pub(crate) struct Table<'a> {
     pub(crate) conditions: Vec<Condition<'a>>,
-    pub(crate) told: Vec<Told<'a>>,
+    pub(crate) diagnoses: Vec<Diagnosis<'a>>,
     pub(crate) runs: Vec<Run>,
     pub(crate) explored: Option<Explored>,
 }
@@ -45,22 +45,22 @@ impl<'a> Findings<'a> {
     pub(crate) fn into_table(self, alloc: Global) -> Result<Table<'a>, AllocError>
         ensures conditions { IfOk result (λ t.
             t.conditions.items ≡ map (λ r. r.condition) self.entry.rows.items) }
-        ensures told { IfOk result (λ t. t.told.items ≡ map (λ r. r.told) self.entry.rows.items) }
+        ensures diagnoses { IfOk result (λ t. t.diagnoses.items ≡ map (λ r. r.diagnosis) self.entry.rows.items) }
         ensures runs { IfOk result (λ t. t.runs.items ≡ map (λ r. r.run) self.entry.rows.items) }
         ensures explored { IfOk result (λ t. t.explored ≡ self.entry.explored) }
     {
         let Findings { rows, explored } = self;
         let mut conditions = Vec::with_capacity(alloc, rows.len())?;
-        let mut told = Vec::with_capacity(alloc, rows.len())?;
+        let mut diagnoses = Vec::with_capacity(alloc, rows.len())?;
         let mut runs = Vec::with_capacity(alloc, rows.len())?;
         for row in rows {
             conditions.push(row.condition)?;
-            told.push(row.told)?;
+            diagnoses.push(row.diagnosis)?;
             runs.push(row.run)?;
         }
         Ok(Table {
             conditions,
-            told,
+            diagnoses,
             runs,
             explored,
         })

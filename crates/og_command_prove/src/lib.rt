@@ -2,12 +2,13 @@
 //!
 //! A `Prover` is asked by a text and words (asking.rt). That is one outline in its texts
 //! (subject.rt), whose conditions are searched, and followed by runs where some are asked for
-//! (searching.rt, telling.rt). There is one row for each condition (finding.rt), and the rows are
+//! (searching.rt, diagnoser.rt). There is one row for each condition (finding.rt), and the rows are
 //! printed (printing.rt, answering.rt). specs/Reply.antt says what is promised of a reply.
 #![tactic(auto)]
 
 mod answering;
 mod asking;
+mod diagnoser;
 mod finding;
 mod form;
 mod printing;
@@ -15,8 +16,6 @@ mod prover;
 mod reply;
 mod searching;
 mod starting;
-mod subject;
-mod telling;
 
 pub use finding::Finding;
 pub use form::ReportForm;

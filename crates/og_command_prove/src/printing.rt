@@ -3,13 +3,13 @@
 ghost use Rattle.std.specs.Prelude.{◌≡◌, ◌∷◌, ◌++◌, [], true, is_some, map, IfOk};
 ghost use Rattle.og_report_prove.specs.Report.{is_unblocked};
 ghost use Rattle.og_command_prove.specs.Printed.{json_in, text_in, IsAdded, IsPage, IsPrinted, SaysUnblockedIn};
-ghost use Rattle.og_command_prove.specs.Subject.{subject_of, IsShort};
+ghost use Rattle.og_report_text.specs.Subject.{subject_of, IsShort};
 ghost use Rattle.og_command_prove.specs.Table.{columns_of, IsTable};
 
 use crate::finding::Table;
 use crate::form::ReportForm;
-use crate::subject::Subject;
-use og_report_html::{Additions, about, page, targets, told_runs};
+use og_report_html::{Additions, about, page, run_parts, targets};
+use og_report_text::Subject;
 use std::alloc::{AllocError, Global};
 
 // The findings as a text, with runs where some were asked for.
@@ -18,14 +18,14 @@ fn as_text(alloc: Global, subject: &Subject, table: &Table) -> Result<Vec<u8>, A
     requires table { IsTable table.now }
     ensures { IfOk result (λ t. t.items ≡ text_in (subject_of subject.now) (columns_of table.now)) }
 {
-    let (outline, source, rows) = (subject.outline, subject.told, subject.rows);
-    let (conditions, told) = (table.conditions.as_slice(), table.told.as_slice());
+    let (outline, source, rows) = (subject.outline, subject.given, subject.rows);
+    let (conditions, diagnoses) = (table.conditions.as_slice(), table.diagnoses.as_slice());
     let Some(explored) = table.explored else {
-        return og_report_prove::report(alloc, outline, source, rows, conditions, told);
+        return og_report_prove::report(alloc, outline, source, rows, conditions, diagnoses);
     };
     let runs = table.runs.as_slice();
     og_report_runs::report(
-        alloc, outline, source, rows, explored, conditions, told, runs,
+        alloc, outline, source, rows, explored, conditions, diagnoses, runs,
     )
 }
 
@@ -37,15 +37,15 @@ fn as_json(alloc: Global, subject: &Subject, table: &Table) -> Result<Vec<u8>, A
         t.items ≡ json_in (subject_of subject.now) (columns_of table.now)) }
     ensures says { IfOk result (λ t.
         SaysUnblockedIn (is_some table.now.explored) ReportForm.Json (t.items ++ 10 ∷ [])
-        → is_unblocked table.now.told.items ≡ true) }
+        → is_unblocked table.now.diagnoses.items ≡ true) }
 {
     let (outline, own) = (subject.outline, subject.own);
-    let (conditions, told) = (table.conditions.as_slice(), table.told.as_slice());
+    let (conditions, diagnoses) = (table.conditions.as_slice(), table.diagnoses.as_slice());
     let Some(explored) = table.explored else {
-        return og_report_prove::json(alloc, outline, own, conditions, told);
+        return og_report_prove::json(alloc, outline, own, conditions, diagnoses);
     };
     let runs = table.runs.as_slice();
-    og_report_runs::json(alloc, outline, own, explored, conditions, told, runs)
+    og_report_runs::json(alloc, outline, own, explored, conditions, diagnoses, runs)
 }
 
 // The same with an LF.
@@ -56,14 +56,14 @@ fn as_line(alloc: Global, subject: &Subject, table: &Table) -> Result<Vec<u8>, A
         t.items ≡ json_in (subject_of subject.now) (columns_of table.now) ++ 10 ∷ []) }
     ensures says { IfOk result (λ t.
         SaysUnblockedIn (is_some table.now.explored) ReportForm.Json t.items
-        → is_unblocked table.now.told.items ≡ true) }
+        → is_unblocked table.now.diagnoses.items ≡ true) }
 {
     let mut line = as_json(alloc, subject, table)?;
     line.push(b'\n')?;
     Ok(line)
 }
 
-// The page of the findings, with what is added to it.
+// The page of the findings, with the additions.
 fn page_with(
     alloc: Global,
     subject: &Subject,
@@ -77,9 +77,11 @@ fn page_with(
     ensures { IfOk result (λ t. IsPage (subject_of subject.now) (columns_of table.now) t.items) }
 {
     let (outline, own) = (subject.outline, subject.own);
-    let (conditions, told) = (table.conditions.as_slice(), table.told.as_slice());
+    let (conditions, diagnoses) = (table.conditions.as_slice(), table.diagnoses.as_slice());
     let targets = targets(alloc, outline, conditions)?;
-    let text = page(alloc, outline, own, conditions, told, &targets, additions)?;
+    let text = page(
+        alloc, outline, own, conditions, diagnoses, &targets, additions,
+    )?;
     Ok(text)
 }
 
@@ -93,9 +95,16 @@ fn as_page(alloc: Global, subject: &Subject, table: &Table) -> Result<Vec<u8>, A
     let Some(explored) = table.explored else {
         return page_with(alloc, subject, table, Additions::none());
     };
-    let (told, runs) = (table.told.as_slice(), table.runs.as_slice());
+    let (diagnoses, runs) = (table.diagnoses.as_slice(), table.runs.as_slice());
     let before = about(alloc, explored, runs)?;
-    let beneath = told_runs(alloc, subject.outline, subject.own, explored, told, runs)?;
+    let beneath = run_parts(
+        alloc,
+        subject.outline,
+        subject.own,
+        explored,
+        diagnoses,
+        runs,
+    )?;
     let additions = Additions {
         before: &before,
         beneath: &beneath,
@@ -120,7 +129,7 @@ pub(crate) fn printed(
         IsPrinted form (subject_of subject.now) (columns_of table.now) t.items) }
     ensures says { IfOk result (λ t.
         SaysUnblockedIn (is_some table.now.explored) form t.items
-        → is_unblocked table.now.told.items ≡ true) }
+        → is_unblocked table.now.diagnoses.items ≡ true) }
 {
     match form {
         ReportForm::Text => as_text(alloc, subject, table),

@@ -15,14 +15,14 @@ pub struct Search {
     pub runs: Option<MomentLimit>,
 }
 
-/// What a proof is made with: threads, memory, who is told of the searches, and how they are made.
+/// What a proof is made with: threads, memory, the gate of the searches, and how they are made.
 #[derive(Clone, Copy)]
 pub struct Prover<'r, G, H> {
     /// Starts threads.
     pub rt: &'r H,
     /// Gives memory.
     pub alloc: Global,
-    /// Is told of the searches, as by `og_find_all::examine_all`.
+    /// Sees each search begin and end, as in `og_find_all::examine_all`.
     pub gate: &'r G,
     /// How conditions are searched.
     pub search: Search,

@@ -1,4 +1,4 @@
-//! From the conditions of an outline to what is found of them: by searches, and by runs where these
+//! From the conditions of an outline to the findings on them: by searches, and by runs where these
 //! are asked for.
 
 ghost use Rattle.std.specs.Prelude.{◌≡◌, ◌<◌, ◌≤◌, true, is_some, length, map, All, IfOk, IfErr, IfSome};
@@ -9,10 +9,10 @@ ghost use Rattle.og_pool.specs.declared.fault.PoolFault.TheVariants.{Spawn};
 ghost use Rattle.og_command_prove.specs.Found.{HasFalse, IsFound, IsNothing, AreFound};
 ghost use Rattle.og_command_prove.specs.Moments.{starts_of, AreMoments};
 
+use crate::diagnoser::{Diagnoser, Moments};
 use crate::finding::{Finding, Findings};
 use crate::prover::Prover;
 use crate::starting::starts;
-use crate::telling::{Moments, Teller};
 use og_cond::Condition;
 use og_explore::{Range, gather};
 use og_find::Verdict;
@@ -67,7 +67,7 @@ fn rows_of<'a>(
     ensures each { IfOk result (λ r. All (IsFound outline.now (starts_of moments.entry)) r.items) }
 {
     let index = Index::new(alloc, outline)?;
-    let teller = Teller {
+    let diagnoser = Diagnoser {
         alloc,
         outline,
         index: &index,
@@ -76,7 +76,7 @@ fn rows_of<'a>(
     let mut rows = Vec::with_capacity(alloc, conditions.len())?;
     for condition in conditions {
         let verdict = verdicts.verdict(rows.len());
-        let row = teller.row(condition, verdict)?;
+        let row = diagnoser.row(condition, verdict)?;
         rows.push(row)?;
     }
     Ok(rows)
@@ -127,7 +127,7 @@ fn by_moments<'a>(
     })
 }
 
-// The moments of the runs that are asked for, of so many conditions.
+// The moments of the runs that are asked for, of this many conditions.
 fn moments_of<'a>(
     alloc: Global,
     outline: &'a Outline,

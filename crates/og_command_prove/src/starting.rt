@@ -200,7 +200,7 @@ fn least(alloc: Global, ranges: &[Range]) -> Result<Vec<i64>, AllocError> {
 }
 
 /// The lists of ranges within which runs start: that of the words where some are given, as for an
-/// exploration; else one start that a search finds for the precondition, and for each of so many
+/// exploration; else one start that a search finds for the precondition, and for each of this many
 /// conditions that is false in a state two more, up to 64.
 ///
 /// # Errors

@@ -1,5 +1,5 @@
 -- Words that are schedules, and words that are none.
-use Rattle.std.proofs.Common.{◌≡◌, ◌<◌, ◌≤◌, ◌∷◌, [], ℕ, Bool, false, List, length, ap, arith}
+use Rattle.std.proofs.Common.{◌≡◌, ◌<◌, ◌∷◌, [], ℕ, Bool, false, List, length, ap, arith}
 use Rattle.std.specs.Prelude.{◌≢◌, ◌==◌}
 use Rattle.og_io.specs.Numbers.{AreNumbers}
 use Rattle.og_command_run.specs.Schedules.{IsSchedule}
@@ -7,10 +7,6 @@ use Rattle.og_command_run.specs.Schedules.{IsSchedule}
 pub not_empty : (word : List ℕ) (b : Bool) → b ≡ (length word == 0) → b ≡ false → word ≢ []
 not_empty [] b is none e = absurd (cc)
 not_empty (x ∷ xs) b is none e = absurd (cc)
-
-pub is_schedule : (word ns : List ℕ) → word ≢ [] → AreNumbers word ns → length ns ≤ 1000000 → IsSchedule word ns
-is_schedule word [] some are few = absurd are
-is_schedule word (n ∷ ns) some are few = (some, are, few)
 
 -- a word that is not empty and gives no numbers, or too many, is none
 pub no_schedule : (word : List ℕ) → word ≢ [] → ((all : List ℕ) → AreNumbers word all → ⊥) → (steps : List ℕ) → IsSchedule word steps → ⊥

@@ -15,13 +15,11 @@ use Rattle.og_run.specs.declared.fault.RunFault.TheVariants as faults
 use Rattle.og_run.specs.declared.fault.RunError.{RunError}
 use Rattle.og_run.specs.declared.fault.RunError.TheVariants as errors
 use Rattle.og_judge.specs.declared.entry.Entry.{Entry}
-use Rattle.og_judge.specs.Entries.{AreEntries, AreRefused, is_safe, is_unblocked}
+use Rattle.og_judge.specs.Entries.{AreEntries, is_safe, is_unblocked}
 use Rattle.og_report_text.specs.Places.{◌&◌}
-use Rattle.og_typed.specs.Source.{IsSource}
 use Rattle.og_report_text.specs.Line.{opening_text}
-use Rattle.og_report_text.specs.Told.{Says, IsTold, IsUnread}
+use Rattle.og_report_text.specs.Answers.{Says}
 use Rattle.og_report_text.specs.declared.answer.Answer.{Answer}
-use Rattle.og_report_text.specs.declared.fault.InputFault.{InputFault}
 use Rattle.og_command_run.specs.Words.{Give, IsBadIn}
 use Rattle.og_command_run.specs.Texts.{outcome_text, finish_status}
 use Rattle.og_command_run.specs.Asked.{IsNote}
@@ -39,21 +37,21 @@ fault_line fault = opening_text (number_of_fault fault) (name_of_fault fault) & 
 pub record StartsNot (g : Given) (a : Answer) : Type 0 where
   pub fault : StartFault
   pub refused : start_fault g.outline g.values ≡ Some fault
-  pub told : Says (fault_line (fault_of_start fault)) 2 a
+  pub answered : Says (fault_line (fault_of_start fault)) 2 a
 
 -- the line of this fault
-abbrev pub IsFaultTold : RunError → Answer → Type 0
-IsFaultTold errors.Memory a = ⊥
-IsFaultTold (errors.Fault faults.Spawn) a = ⊥
-IsFaultTold (errors.Fault faults.NotPre) a = Says (fault_line faults.NotPre) 2 a
-IsFaultTold (errors.Fault faults.WrongLength) a = Says (fault_line faults.WrongLength) 2 a
+abbrev pub IsFaultAnswer : RunError → Answer → Type 0
+IsFaultAnswer errors.Memory a = ⊥
+IsFaultAnswer (errors.Fault faults.Spawn) a = ⊥
+IsFaultAnswer (errors.Fault faults.NotPre) a = Says (fault_line faults.NotPre) 2 a
+IsFaultAnswer (errors.Fault faults.WrongLength) a = Says (fault_line faults.WrongLength) 2 a
 
 -- the text of an outcome of a run
 pub record EndsAs (P : Outcome → Type 0) (g : Given) (a : Answer) : Type 0 where
   pub outcome : Outcome
   pub is : IsOutcome g outcome
   pub more : P outcome
-  pub told : Says (outcome_text g.outline outcome) (finish_status outcome.finish) a
+  pub answered : Says (outcome_text g.outline outcome) (finish_status outcome.finish) a
 
 -- the line for standard error, if there is one
 abbrev pub note_of : Ran → Option (List ℕ)
@@ -68,68 +66,62 @@ abbrev pub EndsAsked : (Outcome → Type 0) → List ℕ → Given → Ran → T
 EndsAsked P source g r = EndsAs (λ outcome. P outcome × IsNote source g.outline g.values outcome.history.items (note_of r)) g r.answer
 
 -- the outcome of a run, or why there is none
-abbrev pub Tells : List ℕ → Given → Ran → Type 0
-Tells source g r = IsQuiet (StartsNot g) r ⊎ EndsAsked (λ _. ⊤) source g r
+abbrev pub IsAnswer : List ℕ → Given → Ran → Type 0
+IsAnswer source g r = IsQuiet (StartsNot g) r ⊎ EndsAsked (λ _. ⊤) source g r
 
 -- the same, of an outline that was proved
-abbrev pub TellsProved : List ℕ → Given → Bool → Ran → Type 0
-TellsProved source g unblocked r = IsQuiet (StartsNot g) r ⊎ EndsAsked (IsProvedOutcome g unblocked) source g r
+abbrev pub IsAnswerProved : List ℕ → Given → Bool → Ran → Type 0
+IsAnswerProved source g unblocked r = IsQuiet (StartsNot g) r ⊎ EndsAsked (IsProvedOutcome g unblocked) source g r
 
 -- every run of the outline is as promised, with its auxiliaries and without them
 abbrev pub IsProven : Program → Type 0
 IsProven o = IsSound o × IsSoundErased o
 
 -- where the texts are read, but not safe, that is said; else every run is as promised, and the values are no start, or the outcome of a run is reported
-abbrev pub TellsJudged : List ℕ → List Entry → Given → Ran → Type 0
-TellsJudged source entries g r =
+abbrev pub IsAnswerJudged : List ℕ → List Entry → Given → Ran → Type 0
+IsAnswerJudged source entries g r =
     ((is_safe entries ≡ false) × IsQuiet (Says (codes "not safe\n") 1) r)
-    ⊎ ((is_safe entries ≡ true) × IsProven g.outline × TellsProved source g (is_unblocked entries) r)
+    ⊎ ((is_safe entries ≡ true) × IsProven g.outline × IsAnswerProved source g (is_unblocked entries) r)
 
 -- ---- the order of the faults
 
 -- P of the report of a run
-abbrev pub OnTold : (Ran → Type 0) → Reply → Type 0
-OnTold P (replies.Told ran) = P ran
-OnTold P (replies.BadValue word) = ⊥
-OnTold P (replies.NotMade line) = ⊥
+abbrev pub OnRan : (Ran → Type 0) → Reply → Type 0
+OnRan P (replies.Ran ran) = P ran
+OnRan P (replies.BadValue word) = ⊥
+OnRan P (replies.NotMade line) = ⊥
 
--- the source has no outline; or a word gives no value
-abbrev pub IsEarly : List ℕ → List (List ℕ) → Reply → Type 0
-IsEarly source words (replies.Told ran) = IsQuiet (IsUnread source) ran
-IsEarly source words (replies.BadValue word) = (o : Program) × IsSource source o × IsBadIn o words word.now
-IsEarly source words (replies.NotMade line) = ⊥
+-- a word gives no value
+abbrev pub IsEarly : Program → List (List ℕ) → Reply → Type 0
+IsEarly o words (replies.BadValue word) = IsBadIn o words word.now
+IsEarly o words _ = ⊥
 
--- neither, and then the reply is one of these
-pub record Goes (P : Program → List ℤ → Reply → Type 0) (source : List ℕ) (words : List (List ℕ)) (r : Reply) : Type 0 where
-  pub outline : Program
-  pub values : List ℤ
-  pub read : IsSource source outline
-  pub given : Give outline words values
-  pub told : P outline values r
+-- the words give values, and P of these and of the reply
+abbrev pub Goes : (List ℤ → Reply → Type 0) → Program → List (List ℕ) → Reply → Type 0
+Goes P o words r = (values : List ℤ) × Give o words values × P values r
 
 -- the program that runs: the outline, or it without auxiliaries
 abbrev pub program_of : Bool → Program → Program
 program_of without_auxiliaries o = if without_auxiliaries then erased o else o
 
--- the outcome of a run of the source's outline, with its auxiliaries or without them
-abbrev pub IsRan : Bool → ℕ → List ℕ → List (List ℕ) → Reply → Type 0
-IsRan without_auxiliaries limit source words r =
-    IsEarly source words r
-    ⊎ Goes (λ o values reply. OnTold (Tells source (given (program_of without_auxiliaries o) values limit)) reply) source words r
+-- the outcome of a run of an outline in this text, with its auxiliaries or without them
+abbrev pub IsRan : Bool → ℕ → Program → List ℕ → List (List ℕ) → Reply → Type 0
+IsRan without_auxiliaries limit o source words r =
+    let program = program_of without_auxiliaries o in
+    IsEarly o words r ⊎ Goes (λ values. OnRan (IsAnswer source (given program values limit))) o words r
 
--- a refusal of the outline with the certificates; or the report of its judgement
-abbrev pub IsRefusedOrJudged : List ℕ → List ℕ → Program → List ℤ → ℕ → Ran → Type 0
-IsRefusedOrJudged source certs o values limit r =
-    ((why : InputFault) × AreRefused certs o why × IsQuiet (IsTold source why) r)
-    ⊎ ((entries : List Entry) × AreEntries certs o entries × TellsJudged source entries (given o values limit) r)
+-- the report of the judgement of an outline by certificates
+abbrev pub IsJudged : List ℕ → List ℕ → Program → List ℤ → ℕ → Ran → Type 0
+IsJudged source certs o values limit r =
+    (entries : List Entry) × AreEntries certs o entries × IsAnswerJudged source entries (given o values limit) r
 
--- the outcome of a run of the source's outline, which the certificates prove safe
-abbrev pub IsRanProved : ℕ → List ℕ → List ℕ → List (List ℕ) → Reply → Type 0
-IsRanProved limit source certs words r =
-    IsEarly source words r ⊎ Goes (λ o values reply. OnTold (IsRefusedOrJudged source certs o values limit) reply) source words r
+-- the outcome of a run of the outline, which the certificates prove safe
+abbrev pub IsRanProved : ℕ → Program → List ℕ → List ℕ → List (List ℕ) → Reply → Type 0
+IsRanProved limit o source certs words r =
+    IsEarly o words r ⊎ Goes (λ values. OnRan (IsJudged source certs o values limit)) o words r
 
 -- the answer is that of a run: its status is 0, or 1 with another text than `not safe`
 abbrev pub IsOfRun : Reply → Type 0
-IsOfRun (replies.Told ran) = (ran.answer.status ≡ 0) ⊎ ((ran.answer.status ≡ 1) × (ran.answer.text.items ≢ codes "not safe\n"))
+IsOfRun (replies.Ran ran) = (ran.answer.status ≡ 0) ⊎ ((ran.answer.status ≡ 1) × (ran.answer.text.items ≢ codes "not safe\n"))
 IsOfRun (replies.BadValue word) = ⊥
 IsOfRun (replies.NotMade line) = ⊥

@@ -1,5 +1,5 @@
 -- What `run` answers that makes the steps of a schedule.
-use Rattle.std.specs.Prelude.{◌≡◌, ℕ, ℤ, Bool, true, List, length, Option, None, Some, IfSome, ◌⊎◌}
+use Rattle.std.specs.Prelude.{◌≡◌, ℕ, ℤ, Bool, true, List, length, Option, None, IfSome, ◌⊎◌}
 use Rattle.og_typed.specs.Syntax.{Program}
 use Rattle.og_step.specs.Starts.{start_fault}
 use Rattle.og_typed.specs.Sites.{StatementSite, all_statements}
@@ -22,38 +22,38 @@ pub record IsStatementPlace (o : Program) (p : ℕ) (at : ℕ) : Type 0 where
   pub its : is_of (length o.processes) p site.part ≡ true
 
 -- the run whose history is exactly these steps, or why there is none
-abbrev pub TellsSteps : List ℕ → Given → List ℕ → Ran → Type 0
-TellsSteps source g steps r = IsQuiet (StartsNot g) r ⊎ EndsAsked (λ outcome. outcome.history.items ≡ history_of g.outline steps) source g r
+abbrev pub IsAnswerOfSteps : List ℕ → Given → List ℕ → Ran → Type 0
+IsAnswerOfSteps source g steps r = IsQuiet (StartsNot g) r ⊎ EndsAsked (λ outcome. outcome.history.items ≡ history_of g.outline steps) source g r
 
 -- the line of a step that cannot be made
-pub record TellsHindrance (source : List ℕ) (o : Program) (made process : ℕ) (why : Hindrance) (line : List ℕ) : Type 0 where
+pub record SaysHindrance (source : List ℕ) (o : Program) (made process : ℕ) (why : Hindrance) (line : List ℕ) : Type 0 where
   pub place : Option ℕ
   pub there : IfSome place (IsStatementPlace o (number_of o process))
-  pub told : line ≡ not_made_line source made process why place
+  pub answered : line ≡ not_made_line source made process why place
 
 -- of the first that cannot
-pub record TellsNotMade (source : List ℕ) (g : Given) (steps : List ℕ) (line : List ℕ) : Type 0 where
+pub record SaysNotMade (source : List ℕ) (g : Given) (steps : List ℕ) (line : List ℕ) : Type 0 where
   pub begins : start_fault g.outline g.values ≡ None
   pub made : ℕ
   pub process : ℕ
   pub why : Hindrance
   pub first : IsFirstHindered g steps made process why
-  pub told : TellsHindrance source g.outline made process why line
+  pub answered : SaysHindrance source g.outline made process why line
 
 -- what comes of these steps
 abbrev pub IsStepped : List ℕ → Given → List ℕ → Reply → Type 0
-IsStepped source g steps (replies.Told ran) = TellsSteps source g steps ran
+IsStepped source g steps (replies.Ran ran) = IsAnswerOfSteps source g steps ran
 IsStepped source g steps (replies.BadValue bad) = ⊥
-IsStepped source g steps (replies.NotMade line) = TellsNotMade source g steps line.items
+IsStepped source g steps (replies.NotMade line) = SaysNotMade source g steps line.items
 
 -- of a word that is a list of steps: that run, or that line; else the word is reported
 abbrev pub Follows : List ℕ → List ℕ → Program → List ℤ → Reply → Type 0
-Follows source word o values (replies.Told ran) = (steps : List ℕ) × IsSchedule word steps × TellsSteps source (given o values (length steps)) steps ran
+Follows source word o values (replies.Ran ran) = (steps : List ℕ) × IsSchedule word steps × IsAnswerOfSteps source (given o values (length steps)) steps ran
 Follows source word o values (replies.BadValue bad) = (bad.now ≡ word) × ((steps : List ℕ) → IsSchedule word steps → ⊥)
 Follows source word o values (replies.NotMade line) =
-    (steps : List ℕ) × IsSchedule word steps × TellsNotMade source (given o values (length steps)) steps line.items
+    (steps : List ℕ) × IsSchedule word steps × SaysNotMade source (given o values (length steps)) steps line.items
 
--- what comes of a schedule of the source's outline, with its auxiliaries or without them
-abbrev pub IsScheduled : Bool → List ℕ → List (List ℕ) → List ℕ → Reply → Type 0
-IsScheduled without_auxiliaries source words schedule r =
-    IsEarly source words r ⊎ Goes (λ o values reply. Follows source schedule (program_of without_auxiliaries o) values reply) source words r
+-- what comes of a schedule of an outline in this text, with its auxiliaries or without them
+abbrev pub IsScheduled : Bool → Program → List ℕ → List (List ℕ) → List ℕ → Reply → Type 0
+IsScheduled without_auxiliaries o source words schedule r =
+    IsEarly o words r ⊎ Goes (Follows source schedule (program_of without_auxiliaries o)) o words r

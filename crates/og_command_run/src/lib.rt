@@ -12,6 +12,6 @@ mod stepping;
 mod words;
 
 pub use reply::{Ran, Reply};
-pub use running::{ran, ran_proved};
+pub use running::{Runner, ran, ran_proved};
 pub use stepping::ran_by_schedule;
 pub use words::{WordsError, integer, number_of, values};

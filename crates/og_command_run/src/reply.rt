@@ -16,7 +16,7 @@ pub struct Ran {
 #[derive(Debug, Drop)]
 pub enum Reply<'a> {
     /// The report of a run, or why there is none.
-    Told(Ran),
+    Ran(Ran),
     /// The first word that gives no variable a value, or a schedule that is no list of numbers.
     BadValue(&'a str),
     /// The line that says which step of the schedule cannot be made, and why.

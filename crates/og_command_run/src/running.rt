@@ -1,17 +1,17 @@
 //! The answers of `run`.
 
 ghost use Rattle.std.specs.Prelude.{◌≡◌, ◌↔◌, true, map, None, Err, IfOk, IfErr, codes};
-ghost use Rattle.og_typed.specs.Refused.{IsNotRead};
-ghost use Rattle.og_report_text.specs.Told.{Says, IsUnread};
+ghost use Rattle.og_report_text.specs.Answers.{Says};
 ghost use Rattle.og_pool.specs.declared.fault.PoolFault.TheVariants.{Spawn};
 ghost use Rattle.og_run.specs.declared.fault.RunFault.TheVariants as faults;
 ghost use Rattle.og_run.specs.declared.fault.RunError.TheVariants as errors;
 ghost use Rattle.og_judge.specs.Entries.{is_safe};
-ghost use Rattle.og_judge.specs.Proven.{IsProvenSource};
+ghost use Rattle.og_judge.specs.NotJudged.{AreNotFound};
+ghost use Rattle.og_judge.specs.declared.refusal.Refusal.TheVariants as refusals;
 ghost use Rattle.og_judge.specs.Shown.{looked_at, found_of};
 ghost use Rattle.og_step.specs.Starts.{start_fault};
 ghost use Rattle.og_command_run.specs.Texts.{outcome_text, finish_status};
-ghost use Rattle.og_command_run.specs.Running.{given, program_of, fault_line, IsFaultTold, IsProven, IsQuiet, Tells, TellsProved, TellsJudged, IsRefusedOrJudged, IsRan, IsRanProved, IsOfRun};
+ghost use Rattle.og_command_run.specs.Running.{given, program_of, fault_line, IsFaultAnswer, IsProven, IsQuiet, IsAnswer, IsAnswerProved, IsAnswerJudged, IsJudged, IsRan, IsRanProved, IsOfRun};
 ghost use Rattle.og_command_run.specs.Starts.{IsSafeBy, HasStart, HasProvedStart};
 
 use crate::asking::{copy_of, note_on};
@@ -20,12 +20,12 @@ use crate::reply::{Ran, Reply};
 use crate::words::{WordsError, values};
 use og_erase::erase;
 use og_io::{RunLimit, Workers};
-use og_judge::{Findings, Proved, judge_outline};
+use og_judge::{Findings, Proved, Refusal, judge_outline};
 use og_linear::State;
 use og_pool::PoolFault;
 use og_report_text::{Answer, put_opening};
 use og_run::{Gate, OpenGate, Outcome, RunError, RunFault, run, run_proved};
-use og_typed::{Outline, Source, SourceError};
+use og_typed::{Outline, Source};
 use std::alloc::{AllocError, Global};
 use std::sync::Wait;
 use std::thread::Threads;
@@ -48,7 +48,7 @@ pub(crate) fn of_run(
 ) -> Result<Answer, PoolFault>
     ensures outcome { IfOk ended (λ r.
         IfOk result (Says (outcome_text outline.now r) (finish_status r.finish))) }
-    ensures refused { IfErr ended (λ e. IfOk result (IsFaultTold e)) }
+    ensures refused { IfErr ended (λ e. IfOk result (IsFaultAnswer e)) }
     ensures spawn { (result ≡ Err Spawn) ↔ (ended ≡ Err (errors.Fault faults.Spawn)) }
 {
     match ended {
@@ -76,29 +76,23 @@ fn not_safe(alloc: Global) -> Result<Ran, AllocError>
     Ok(Ran { answer, note: None })
 }
 
-/// The report of a source that has no outline.
-pub(crate) fn unread(alloc: Global, error: &SourceError, bytes: &[u8]) -> Result<Ran, AllocError>
-    requires { IsNotRead bytes.now error.now }
-    ensures { IfOk result (IsQuiet (IsUnread bytes.now)) }
-{
-    let answer = Answer::unread(alloc, error, bytes)?;
-    Ok(Ran { answer, note: None })
-}
-
-/// What each run needs, whatever runs: threads, memory, a limit, and the gate that hears of its
-/// moves.
+/// What each run needs, whatever runs.
 #[derive(Clone, Copy)]
-struct Runner<'r, G, H> {
-    rt: &'r H,
-    alloc: Global,
-    limit: RunLimit,
-    gate: &'r G,
+pub struct Runner<'r, G, H> {
+    /// Starts threads.
+    pub rt: &'r H,
+    /// Gives memory.
+    pub alloc: Global,
+    /// The most steps of a run.
+    pub limit: RunLimit,
+    /// Hears of the moves, as by `og_run::run`.
+    pub gate: &'r G,
 }
 
 impl<'r, G: Gate, H: Threads + Wait + Sync> Runner<'r, G, H> {
     // Runs an outline.
     fn run(&self, source: &Source, outline: &Outline, values: State) -> Result<Ran, PoolFault>
-        ensures told { IfOk result (Tells source.now.bytes
+        ensures answered { IfOk result (IsAnswer source.now.bytes
             (given outline.now values self.now.limit)) }
         ensures spawn { IfErr result (λ e. e ≡ Spawn → start_fault outline.now values ≡ None) }
     {
@@ -118,7 +112,7 @@ impl<'r, G: Gate, H: Threads + Wait + Sync> Runner<'r, G, H> {
         erased: bool,
         values: State,
     ) -> Result<Ran, PoolFault>
-        ensures told { IfOk result (Tells source.now.bytes
+        ensures answered { IfOk result (IsAnswer source.now.bytes
             (given (program_of erased outline.now) values self.now.limit)) }
         ensures spawn { IfErr result
             (λ e. e ≡ Spawn → start_fault (program_of erased outline.now) values ≡ None) }
@@ -137,7 +131,7 @@ impl<'r, G: Gate, H: Threads + Wait + Sync> Runner<'r, G, H> {
         proved: &Proved<'_>,
         values: State,
     ) -> Result<Ran, PoolFault>
-        ensures told { IfOk result (TellsProved source.now.bytes
+        ensures answered { IfOk result (IsAnswerProved source.now.bytes
             (given proved.now.0 values self.now.limit) proved.now.1) }
         ensures proven { IsProven proved.now.0 }
         ensures spawn { IfErr result (λ e. e ≡ Spawn → start_fault proved.now.0 values ≡ None) }
@@ -158,7 +152,7 @@ impl<'r, G: Gate, H: Threads + Wait + Sync> Runner<'r, G, H> {
         values: State,
     ) -> Result<Ran, PoolFault>
         requires { outline.now ≡ looked_at findings.now }
-        ensures told { IfOk result (TellsJudged source.now.bytes (found_of findings.now)
+        ensures answered { IfOk result (IsAnswerJudged source.now.bytes (found_of findings.now)
             (given outline.now values self.now.limit)) }
         ensures spawn { IfErr result (λ e. e ≡ Spawn → (is_safe (found_of findings.now) ≡ true)
             × (start_fault outline.now values ≡ None)) }
@@ -170,66 +164,16 @@ impl<'r, G: Gate, H: Threads + Wait + Sync> Runner<'r, G, H> {
     }
 
     // Judges the outline of a source by the certificates, and runs it where it is safe.
-    fn run_by_certs(&self, source: &Source, certs: &[u8], values: State) -> Result<Ran, PoolFault>
-        ensures told { IfOk result (IsRefusedOrJudged source.now.bytes certs.now source.now.outline
+    fn run_by_certs(&self, source: &Source, certs: &[u8], values: State) -> Result<Ran, Refusal>
+        ensures answered { IfOk result (IsJudged source.now.bytes certs.now source.now.outline
             values self.now.limit) }
-        ensures spawn { IfErr result (λ e. e ≡ Spawn → IsSafeBy certs.now source.now.outline
+        ensures refused { IfErr result (AreNotFound certs.now source.now.outline) }
+        ensures spawn { IfErr result (λ e. e ≡ refusals.Spawn → IsSafeBy certs.now source.now.outline
             × (start_fault source.now.outline values ≡ None)) }
     {
         let outline = source.outline();
-        match judge_outline(self.rt, self.alloc, outline, certs, Workers::ONE, &OpenGate) {
-            Ok(findings) => self.run_judged(source, outline, &findings, values),
-            Err(refusal) => {
-                let answer = refusal.answer(self.alloc, source.bytes())?;
-                Ok(Ran { answer, note: None })
-            }
-        }
-    }
-
-    // Runs the program of a source by the values that the words give.
-    fn ran<'a>(
-        &self,
-        source: &Source,
-        words: &[&'a str],
-        erased: bool,
-    ) -> Result<Reply<'a>, PoolFault>
-        ensures told { IfOk result (IsRan erased self.now.limit source.now.bytes
-            (map (λ w. w.now) words.now)) }
-        ensures spawn { IfErr result
-            (λ e. e ≡ Spawn → HasStart erased source.now.bytes (map (λ w. w.now) words.now)) }
-    {
-        let outline = source.outline();
-        match values(self.alloc, outline, words) {
-            Ok(values) => {
-                let ran = self.run_program(source, outline, erased, values)?;
-                Ok(Reply::Told(ran))
-            }
-            Err(WordsError::Bad(word)) => Ok(Reply::BadValue(word)),
-            Err(WordsError::Memory) => Err(PoolFault::Memory),
-        }
-    }
-
-    // Runs the program of a source by the values that the words give, where the certificates prove
-    // it safe.
-    fn ran_proved<'a>(
-        &self,
-        source: &Source,
-        certs: &[u8],
-        words: &[&'a str],
-    ) -> Result<Reply<'a>, PoolFault>
-        ensures told { IfOk result (IsRanProved self.now.limit source.now.bytes certs.now
-            (map (λ w. w.now) words.now)) }
-        ensures spawn { IfErr result (λ e.
-            e ≡ Spawn → HasProvedStart source.now.bytes certs.now (map (λ w. w.now) words.now)) }
-    {
-        match values(self.alloc, source.outline(), words) {
-            Ok(values) => {
-                let ran = self.run_by_certs(source, certs, values)?;
-                Ok(Reply::Told(ran))
-            }
-            Err(WordsError::Bad(word)) => Ok(Reply::BadValue(word)),
-            Err(WordsError::Memory) => Err(PoolFault::Memory),
-        }
+        let findings = judge_outline(self.rt, self.alloc, outline, certs, Workers::ONE, &OpenGate)?;
+        Ok(self.run_judged(source, outline, &findings, values)?)
     }
 }
 
@@ -239,80 +183,69 @@ impl<'r, G: Gate, H: Threads + Wait + Sync> Runner<'r, G, H> {
 /// variables.
 ///
 /// The answer is the history, how the run ended and the state, with status 0 where all processes
-/// have ended and else 1; or the line of a refusal, with status 2. The note says which assertion of
-/// what was run is false first along the history, where one is. `BadValue` holds the first word
-/// that gives no value: one without `=`, or whose name is no variable's, an auxiliary's, or one
-/// that a word before it has, or whose number is no `i64` in digits with or without a `-`.
+/// have ended and else 1; or the line of a start that is refused, with status 2. The note says
+/// which assertion of what was run is false first along the history, where one is. `BadValue` holds
+/// the first word that gives no value: one without `=`, or whose name is no variable's, an
+/// auxiliary's, or one that a word before it has, or whose number is no `i64` in digits with or
+/// without a `-`.
 ///
 /// The gate hears of the run as by `og_run::run`.
 ///
 /// # Errors
 ///
-/// `Spawn` where a thread could not be started: the source has an outline then, each word gives a
-/// value, and the values are a start. `Memory` where an allocation was refused.
+/// `Spawn` where a thread could not be started: each word gives a value then, and the values are a
+/// start. `Memory` where an allocation was refused.
 pub fn ran<'a, G: Gate, H: Threads + Wait + Sync>(
-    rt: &H,
-    alloc: Global,
-    source: &[u8],
+    runner: &Runner<'_, G, H>,
+    source: &Source,
     words: &[&'a str],
-    limit: RunLimit,
     erased: bool,
-    gate: &G,
 ) -> Result<Reply<'a>, PoolFault>
-    ensures told { IfOk result (IsRan erased limit source.now (map (λ w. w.now) words.now)) }
+    ensures answered { IfOk result (IsRan erased runner.now.limit source.now.outline source.now.bytes
+        (map (λ w. w.now) words.now)) }
     ensures spawn { IfErr result
-        (λ e. e ≡ Spawn → HasStart erased source.now (map (λ w. w.now) words.now)) }
+        (λ e. e ≡ Spawn → HasStart erased source.now.outline (map (λ w. w.now) words.now)) }
 {
-    let runner = Runner {
-        rt,
-        alloc,
-        limit,
-        gate,
-    };
-    match Source::read(alloc, source) {
-        Ok(source) => {
-            let reply = runner.ran(&source, words, erased);
-            drop(source);
-            reply
+    let outline = source.outline();
+    match values(runner.alloc, outline, words) {
+        Ok(values) => {
+            let ran = runner.run_program(source, outline, erased, values)?;
+            Ok(Reply::Ran(ran))
         }
-        Err(error) => Ok(Reply::Told(unread(alloc, &error, source)?)),
+        Err(WordsError::Bad(word)) => Ok(Reply::BadValue(word)),
+        Err(WordsError::Memory) => Err(PoolFault::Memory),
     }
 }
 
 /// Runs the program of a source as `ran`, where the certificates prove it safe: then all that is
 /// promised of a proved outline holds of the run, and every run of the source's outline is as
-/// promised. Where they do not, the answer is `not safe` and status 1. A refusal of the
-/// certificates comes after a bad value, and `not safe` before a precondition that is false.
+/// promised. Where they do not, the answer is `not safe` and status 1, before a precondition that
+/// is false.
 ///
 /// # Errors
 ///
-/// As `ran`; where `Spawn` is answered, the certificates prove the outline safe.
+/// `Input`, the number of conditions or the fault of the certificates, after a bad value. `Spawn`
+/// and `Memory` as `ran`; where a thread could not be started, the certificates prove the outline
+/// safe.
 pub fn ran_proved<'a, G: Gate, H: Threads + Wait + Sync>(
-    rt: &H,
-    alloc: Global,
-    source: &[u8],
+    runner: &Runner<'_, G, H>,
+    source: &Source,
     certs: &[u8],
     words: &[&'a str],
-    limit: RunLimit,
-    gate: &G,
-) -> Result<Reply<'a>, PoolFault>
-    ensures told { IfOk result (IsRanProved limit source.now certs.now (map (λ w. w.now) words.now)) }
-    ensures proven { IfOk result (λ reply. IsOfRun reply → IsProvenSource source.now) }
-    ensures spawn { IfErr result
-        (λ e. e ≡ Spawn → HasProvedStart source.now certs.now (map (λ w. w.now) words.now)) }
+) -> Result<Reply<'a>, Refusal>
+    ensures answered { IfOk result (IsRanProved runner.now.limit source.now.outline source.now.bytes
+        certs.now (map (λ w. w.now) words.now)) }
+    ensures proven { IfOk result (λ reply. IsOfRun reply → IsProven source.now.outline) }
+    ensures refused { IfErr result (AreNotFound certs.now source.now.outline) }
+    ensures spawn { IfErr result (λ e. e ≡ refusals.Spawn
+        → HasProvedStart source.now.outline certs.now (map (λ w. w.now) words.now)) }
 {
-    let runner = Runner {
-        rt,
-        alloc,
-        limit,
-        gate,
-    };
-    match Source::read(alloc, source) {
-        Ok(source) => {
-            let reply = runner.ran_proved(&source, certs, words);
-            drop(source);
-            reply
+    match values(runner.alloc, source.outline(), words) {
+        Ok(values) => {
+            let ran = runner.run_by_certs(source, certs, values)?;
+            Ok(Reply::Ran(ran))
         }
-        Err(error) => Ok(Reply::Told(unread(alloc, &error, source)?)),
+        Err(WordsError::Bad(word)) => Ok(Reply::BadValue(word)),
+        Err(WordsError::Memory) => Err(Refusal::Memory),
     }
 }

@@ -6,7 +6,7 @@ ghost use Rattle.og_step.specs.Starts.{start_fault};
 ghost use Rattle.og_command_run.specs.Schedules.{number_of, history_of, IsFirstHindered};
 ghost use Rattle.og_command_run.specs.Scheduled.{IsStatementPlace};
 ghost use Rattle.og_command_run.specs.Lines.{not_made_line};
-ghost use Rattle.og_command_run.specs.Scheduled.{TellsHindrance, IsStepped, IsScheduled, Follows};
+ghost use Rattle.og_command_run.specs.Scheduled.{SaysHindrance, IsStepped, IsScheduled, Follows};
 ghost use Rattle.og_command_run.specs.Running.{given, program_of, IsQuiet, StartsNot, EndsAsked};
 
 use crate::asking::{copy_of, first_false, statement_place};
@@ -14,7 +14,7 @@ use crate::hindrance::Hindrance;
 use crate::lines::not_made_line;
 use crate::outcome::{finish_status, outcome_text};
 use crate::reply::{Ran, Reply};
-use crate::running::{of_run, unread};
+use crate::running::of_run;
 use crate::schedule::{follow, process_of, steps_of};
 use crate::words::{WordsError, values};
 use og_erase::erase;
@@ -107,7 +107,7 @@ fn not_made(
     why: Hindrance,
 ) -> Result<Vec<u8>, AllocError>
     ensures { IfOk result (λ line.
-        TellsHindrance source.now.bytes outline.now made process why line.items) }
+        SaysHindrance source.now.bytes outline.now made process why line.items) }
 {
     let place = step_place(alloc, outline, moment, process)?;
     let line = not_made_line(alloc, source.bytes(), made, process, why, place)?;
@@ -131,13 +131,13 @@ fn stepped<'a>(
         Ok(board) => board,
         Err(error) => {
             let ran = not_started(alloc, outline, error, &kept, steps.len())?;
-            return Ok(Reply::Told(ran));
+            return Ok(Reply::Ran(ran));
         }
     };
     match follow(&mut board, outline, steps) {
         None => {
             let ran = all_made(alloc, source, outline, &kept, board)?;
-            Ok(Reply::Told(ran))
+            Ok(Reply::Ran(ran))
         }
         Some((made, process, why)) => {
             let line = not_made(alloc, source, outline, board.moment(), made, process, why)?;
@@ -183,24 +183,6 @@ fn followed<'a>(
     stepped_program(alloc, source, &steps, erased, values)
 }
 
-// Follows it from the values that the words give.
-fn scheduled<'a>(
-    alloc: Global,
-    source: &Source,
-    words: &[&'a str],
-    schedule: &'a str,
-    erased: bool,
-) -> Result<Reply<'a>, AllocError>
-    ensures { IfOk result (IsScheduled erased source.now.bytes (map (λ w. w.now) words.now)
-        schedule.now) }
-{
-    match values(alloc, source.outline(), words) {
-        Ok(values) => followed(alloc, source, schedule, erased, values),
-        Err(WordsError::Bad(word)) => Ok(Reply::BadValue(word)),
-        Err(WordsError::Memory) => Err(AllocError),
-    }
-}
-
 /// Runs the program of a source as `ran`, in one thread: the processes step in the order of the
 /// schedule, a word that names them by the numbers under which they are printed, with a comma
 /// between two. The history is exactly the schedule.
@@ -214,19 +196,17 @@ fn scheduled<'a>(
 /// An allocation was refused.
 pub fn ran_by_schedule<'a>(
     alloc: Global,
-    source: &[u8],
+    source: &Source,
     words: &[&'a str],
     schedule: &'a str,
     erased: bool,
 ) -> Result<Reply<'a>, AllocError>
-    ensures { IfOk result (IsScheduled erased source.now (map (λ w. w.now) words.now) schedule.now) }
+    ensures { IfOk result (IsScheduled erased source.now.outline source.now.bytes
+        (map (λ w. w.now) words.now) schedule.now) }
 {
-    match Source::read(alloc, source) {
-        Ok(source) => {
-            let reply = scheduled(alloc, &source, words, schedule, erased);
-            drop(source);
-            reply
-        }
-        Err(error) => Ok(Reply::Told(unread(alloc, &error, source)?)),
+    match values(alloc, source.outline(), words) {
+        Ok(values) => followed(alloc, source, schedule, erased, values),
+        Err(WordsError::Bad(word)) => Ok(Reply::BadValue(word)),
+        Err(WordsError::Memory) => Err(AllocError),
     }
 }

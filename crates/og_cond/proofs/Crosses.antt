@@ -50,11 +50,11 @@ shared (Set y f ∷ rest) a e = go (either (watches a y) (crosses rest a) e) (sh
 
 -- by two sets that have a variable in common
 pub met : (mine theirs : ℕ → Bool) (body : List Simple) (a : Formula) (r : Bool) → ((x : ℕ) → mine x ≡ changes body x) → ((x : ℕ) → theirs x ≡ watches a x) → (IsTrue r ↔ ((x : ℕ) × (mine x ≡ true) × (theirs x ≡ true))) → r ≡ crosses body a
-met mine theirs body a true m t told =
-    let x = told.0 refl in
+met mine theirs body a true m t known =
+    let x = known.0 refl in
     sym (found body a x.0 (sym (m x.0) ∙ x.1, sym (t x.0) ∙ x.2))
-met mine theirs body a false m t told = go (crosses body a) (shared body a)
+met mine theirs body a false m t known = go (crosses body a) (shared body a)
   where
     go : (b : Bool) → (b ≡ true → (x : ℕ) × IsShared body a x) → false ≡ b
-    go true some = let x = some refl in told.1 (x.0, m x.0 ∙ x.1.0, t x.0 ∙ x.1.1)
+    go true some = let x = some refl in known.1 (x.0, m x.0 ∙ x.1.0, t x.0 ∙ x.1.1)
     go false some = refl

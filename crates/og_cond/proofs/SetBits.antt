@@ -10,14 +10,14 @@ use Rattle.std.proofs.lemmas.Bool.Decides.{eqb_tells, leb_tells}
 use mir.Syntax.{w64}
 
 -- the answers for the variable that goes in, and for another one
-told_same : (x v : ℕ) (b : Bool) → x ≡ v → v < 256 → true ≡ (nat_eq x v && nat_lt v 256 || b)
-told_same x v b e small = rw (eq-eqb x v e, lt-ltb v 256 small) refl
+known_same : (x v : ℕ) (b : Bool) → x ≡ v → v < 256 → true ≡ (nat_eq x v && nat_lt v 256 || b)
+known_same x v b e small = rw (eq-eqb x v e, lt-ltb v 256 small) refl
 
 not_equal : (x v : ℕ) → x ≢ v → nat_eq x v ≡ false
 not_equal x v ne = elim (eqb_tells x v) [ inl p ↦ absurd (ne p.1) | inr p ↦ p.0 ]
 
-told_other : (x v : ℕ) (b : Bool) → x ≢ v → b ≡ (nat_eq x v && nat_lt v 256 || b)
-told_other x v b ne = rw (not_equal x v ne) refl
+known_other : (x v : ℕ) (b : Bool) → x ≢ v → b ≡ (nat_eq x v && nat_lt v 256 || b)
+known_other x v b ne = rw (not_equal x v ne) refl
 
 abbrev with_bit : ℕ → ℕ → ℕ
 with_bit word v = bit_or word (1 * 2 ^ (v % 64) % 18446744073709551616)
@@ -29,22 +29,22 @@ module _ (words : List ℕ) (v x : ℕ) (long : v / 64 < length words) (small : 
   abbrev word : ℕ
   word = with_bit (get_or words (v / 64) 0) v
 
-  abbrev told : Bool
-  told = nat_eq x v && nat_lt v 256 || is_in words x
+  abbrev known : Bool
+  known = nat_eq x v && nat_lt v 256 || is_in words x
 
-  same_word : x / 64 ≡ v / 64 → nat_eq (bit_at word (x % 64)) 1 ≡ told
+  same_word : x / 64 ≡ v / 64 → nat_eq (bit_at word (x % 64)) 1 ≡ known
   same_word same = elim (eqb_tells (x % 64) (v % 64)) [
     | inl p ↦
         let here : bit_at word (v % 64) ≡ 1 = bit_at_set_same w64 (get_or words (v / 64) 0) (v % 64) (omega arith) in
         let e : x ≡ v = omega (arith, same, p.1) in
-        ap (λ i. nat_eq (bit_at word i) 1) p.1 ∙ ap (λ b. nat_eq b 1) here ∙ told_same x v (is_in words x) e small
+        ap (λ i. nat_eq (bit_at word i) 1) p.1 ∙ ap (λ b. nat_eq b 1) here ∙ known_same x v (is_in words x) e small
     | inr p ↦
         let here : bit_at word (x % 64) ≡ bit_at (get_or words (v / 64) 0) (x % 64) = bit_at_set_other w64 (get_or words (v / 64) 0) (v % 64) (omega arith) (x % 64) p.1 in
         let ne : x ≢ v = λ e. p.1 (ap (λ y. y % 64) e) in
-        ap (λ b. nat_eq b 1) here ∙ ap (λ k. nat_eq (bit_at (get_or words k 0) (x % 64)) 1) (sym same) ∙ told_other x v (is_in words x) ne
+        ap (λ b. nat_eq b 1) here ∙ ap (λ k. nat_eq (bit_at (get_or words k 0) (x % 64)) 1) (sym same) ∙ known_other x v (is_in words x) ne
   ]
 
-  pub insert_has : is_in (set words (v / 64) word) x ≡ told
+  pub insert_has : is_in (set words (v / 64) word) x ≡ known
   insert_has = elim (eqb_tells (x / 64) (v / 64)) [
     | inl p ↦
         ap (λ k. nat_eq (bit_at (get_or (set words (v / 64) word) k 0) (x % 64)) 1) p.1
@@ -52,7 +52,7 @@ module _ (words : List ℕ) (v x : ℕ) (long : v / 64 < length words) (small : 
         ∙ same_word p.1
     | inr p ↦
         ap (λ w. nat_eq (bit_at w (x % 64)) 1) (get_or-set_other words (v / 64) (x / 64) word 0 p.1)
-        ∙ told_other x v (is_in words x) (λ e. p.1 (ap (λ y. y / 64) e))
+        ∙ known_other x v (is_in words x) (λ e. p.1 (ap (λ y. y / 64) e))
   ]
 
 -- ---- a variable in both sets

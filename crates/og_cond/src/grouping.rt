@@ -9,7 +9,7 @@ ghost use Rattle.og_cond.specs.Sides.{action_of, side_seen};
 ghost use Rattle.og_cond.specs.declared.groups.Next.TheVariants as next;
 
 use crate::condition::Condition;
-use crate::count::left_after_conditions;
+use crate::count::room_after_conditions;
 use crate::fault::{ConditionsError, TooMany};
 use crate::groups::{Groups, Next};
 use crate::interference::add_action;
@@ -67,7 +67,7 @@ impl<'a> Groups<'a> {
         ensures { IsStarted condition_limit outline.now result }
     {
         outline.follows_rule();
-        match left_after_conditions(CONDITION_LIMIT, outline) {
+        match room_after_conditions(CONDITION_LIMIT, outline) {
             Some(_) => (),
             None => return Err(ConditionsError::Fault(TooMany)),
         }

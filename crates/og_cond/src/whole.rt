@@ -10,7 +10,7 @@ ghost use Rattle.og_cond.specs.Seen.{Adds, hypothesis_of};
 
 use crate::blocking::blocked_hypotheses;
 use crate::condition::{Condition, Goal, Hypothesis, Part};
-use crate::count::left_after_conditions;
+use crate::count::room_after_conditions;
 use crate::fault::{ConditionsError, TooMany};
 use crate::interference::add_crossings;
 use crate::kind::Kind;
@@ -255,7 +255,7 @@ pub fn conditions<'a>(
     ensures { IsListed condition_limit (plain.conditions outline.now) result }
 {
     outline.follows_rule();
-    let left = match left_after_conditions(CONDITION_LIMIT, outline) {
+    let left = match room_after_conditions(CONDITION_LIMIT, outline) {
         Some(left) => left,
         None => return Err(ConditionsError::Fault(TooMany)),
     };

@@ -17,7 +17,7 @@ use Rattle.og_typed.specs.declared.fault.TypeFault.TheVariants as faults
 use Rattle.og_typed.specs.Syntax.{Formula, Le, Eq, Ne, Not, And, Or, Imp, Formulas, more, Noted, Statement, If, While, Await, Nothing, Else, Sequence, Last, Then, Program}
 use Rattle.og_typed.specs.Resolved as meaning
 use Rattle.og_typed.specs.Resolved.{Checked, ◌>>=◌, Scope, Use, Visible, Free, Outer, sum_from, sum_form, minus, plus_one, compared, small_at}
-use Rattle.og_erase_readable.specs.Readable.{is_added, is_at_most, is_one, is_strict, is_zero, stays, turned, left_side, right_side, told_terms, told_relation, parted, readable_comparison, readable_assertion, readable_assertions, readable_note, readable_stmt, readable_seq, readable}
+use Rattle.og_erase_readable.specs.Readable.{is_added, is_at_most, is_one, is_strict, is_zero, stays, turned, left_side, right_side, stated_terms, stated_relation, parted, readable_comparison, readable_assertion, readable_assertions, readable_note, readable_stmt, readable_seq, readable}
 use Rattle.og_erase_readable.proofs.Weights.{IsReading, same_form, are_found, added, sum_found, sum_ok, added_tidy, added_at, found_filter, found_turned, found_take, found_or_zero, weights, turned_weights, parted_weights, weights-or_zero, weights-zero, weights-front}
 
 -- ---- the sides of a relation
@@ -78,8 +78,8 @@ module _ (scope : Scope) (use_of : Use) where
 
   -- ---- relations that stay as they are
 
-  told_same : (left right : List RawTerm) → is_zero right ≡ true → (at : FormValue → ℤ) → IsReading at → at (form (left_side left)) +ℤ at (form right) ≡ at (form left) +ℤ at (form (right_side left))
-  told_same left right none at reading =
+  stated_same : (left right : List RawTerm) → is_zero right ≡ true → (at : FormValue → ℤ) → IsReading at → at (form (left_side left)) +ℤ at (form right) ≡ at (form left) +ℤ at (form (right_side left))
+  stated_same left right none at reading =
       let w : List RawTerm → ℤ = weights scope use_of at in
       let reads : (ts : List RawTerm) → at (form ts) ≡ at nothing +ℤ w ts = λ (ts : List RawTerm). added_at scope use_of at reading ts nothing tt in
       balance (at (form (left_side left))) (at (form right)) (at (form left)) (at (form (right_side left))) (at nothing) (w (left_side left)) (w right) (w left) (w (right_side left))
@@ -145,43 +145,43 @@ module _ (scope : Scope) (use_of : Use) where
       go relations.Equal k e = absurd cc
       go relations.NotEqual k e = absurd cc
 
-  told_compared : (strict : Bool) (relation : Relation) (left right : List RawTerm) → is_zero right ≡ true → is_strict relation left ≡ strict
-      → compared (told_relation strict relation) (form (left_side (told_terms strict left))) (form (right_side (told_terms strict left))) ≡ compared relation (form left) (form right)
-  told_compared true relation left right none h = strict_relation relation left right none h
-  told_compared false relation left right none h =
-      same_relation relation (form left) (form right) (form (left_side left)) (form (right_side left)) (form_tidy left) (form_tidy right) (form_tidy (left_side left)) (form_tidy (right_side left)) (told_same left right none)
+  stated_compared : (strict : Bool) (relation : Relation) (left right : List RawTerm) → is_zero right ≡ true → is_strict relation left ≡ strict
+      → compared (stated_relation strict relation) (form (left_side (stated_terms strict left))) (form (right_side (stated_terms strict left))) ≡ compared relation (form left) (form right)
+  stated_compared true relation left right none h = strict_relation relation left right none h
+  stated_compared false relation left right none h =
+      same_relation relation (form left) (form right) (form (left_side left)) (form (right_side left)) (form_tidy left) (form_tidy right) (form_tidy (left_side left)) (form_tidy (right_side left)) (stated_same left right none)
 
-  told_found : (strict : Bool) (ts : List RawTerm) → are_found scope use_of ts ≡ true → are_found scope use_of (told_terms strict ts) ≡ true
-  told_found true ts h = found_take scope use_of (length ts - 1) ts h
-  told_found false ts h = h
+  stated_found : (strict : Bool) (ts : List RawTerm) → are_found scope use_of ts ≡ true → are_found scope use_of (stated_terms strict ts) ≡ true
+  stated_found true ts h = found_take scope use_of (length ts - 1) ts h
+  stated_found false ts h = h
 
   -- ---- comparisons
 
   parted_kept : (strict : Bool) (left : tree.Sum) (relation : Relation) (right : tree.Sum) (a : Formula) → is_zero right.value ≡ true → is_strict relation left.value ≡ strict
-      → meaning.comparison scope use_of left relation right ≡ Ok a → meaning.assertion scope use_of (parted left (told_relation strict relation) (told_terms strict left.value) right) ≡ Ok a
+      → meaning.comparison scope use_of left relation right ≡ Ok a → meaning.assertion scope use_of (parted left (stated_relation strict relation) (stated_terms strict left.value) right) ≡ Ok a
   parted_kept strict left relation right a none is h = go (sum_form scope use_of left) (sum_form scope use_of right) refl refl h
     where
       go : (r s : Checked FormValue) → sum_form scope use_of left ≡ r → sum_form scope use_of right ≡ s → (r >>= λ f. s >>= λ g. small_at left.place.start (compared relation f g)) ≡ Ok a
-          → meaning.assertion scope use_of (parted left (told_relation strict relation) (told_terms strict left.value) right) ≡ Ok a
+          → meaning.assertion scope use_of (parted left (stated_relation strict relation) (stated_terms strict left.value) right) ≡ Ok a
       go (Err fault) s e d k = absurd cc
       go (Ok f) (Err fault) e d k = absurd cc
       go (Ok f) (Ok g) e d k =
           let l = sum_found scope use_of left.value nothing f e in
           let r = sum_found scope use_of right.value nothing g d in
-          let told = told_terms strict left.value in
-          let known = told_found strict left.value l.0 in
-          let one_side = sum_ok scope use_of (left_side told) nothing (left_found told known) in
-          let other_side = sum_ok scope use_of (right_side told) nothing (right_found told known) in
+          let stated = stated_terms strict left.value in
+          let known = stated_found strict left.value l.0 in
+          let one_side = sum_ok scope use_of (left_side stated) nothing (left_found stated known) in
+          let other_side = sum_ok scope use_of (right_side stated) nothing (right_found stated known) in
           let test : Formula → Checked Formula = small_at left.place.start in
-          ap (λ (x : Checked FormValue). x >>= λ p. sum_from scope use_of nothing (right_side told) >>= λ q. test (compared (told_relation strict relation) p q)) one_side
-          ∙ ap (λ (x : Checked FormValue). x >>= λ q. test (compared (told_relation strict relation) (form (left_side told)) q)) other_side
-          ∙ ap test (told_compared strict relation left.value right.value none is ∙ ap₂ (λ x y. compared relation x y) (sym l.1) (sym r.1))
+          ap (λ (x : Checked FormValue). x >>= λ p. sum_from scope use_of nothing (right_side stated) >>= λ q. test (compared (stated_relation strict relation) p q)) one_side
+          ∙ ap (λ (x : Checked FormValue). x >>= λ q. test (compared (stated_relation strict relation) (form (left_side stated)) q)) other_side
+          ∙ ap test (stated_compared strict relation left.value right.value none is ∙ ap₂ (λ x y. compared relation x y) (sym l.1) (sym r.1))
           ∙ k
 
   comparison_kept : (left : tree.Sum) (relation : Relation) (right : tree.Sum) (a : Formula) → meaning.comparison scope use_of left relation right ≡ Ok a → meaning.assertion scope use_of (readable_comparison left relation right) ≡ Ok a
   comparison_kept left relation right a h =
       let strict = is_strict relation left.value in
-      cond_both (is_zero right.value) (parted left (told_relation strict relation) (told_terms strict left.value) right) (tree.Comparison left relation right) (λ c. meaning.assertion scope use_of c ≡ Ok a)
+      cond_both (is_zero right.value) (parted left (stated_relation strict relation) (stated_terms strict left.value) right) (tree.Comparison left relation right) (λ c. meaning.assertion scope use_of c ≡ Ok a)
       (λ none. parted_kept strict left relation right a none refl h)
       (λ some. h)
 

@@ -81,11 +81,11 @@ abbrev pub is_strict : Relation → List RawTerm → Bool
 is_strict relation ts = is_at_most relation && (is_one (slice_get ts (length ts - 1)) && (list_any is_added ts && list_any is_taken ts))
 
 -- the terms that `<` leaves, and the others as they are
-abbrev pub told_terms : Bool → List RawTerm → List RawTerm
-told_terms strict ts = if strict then take (length ts - 1) ts else ts
+abbrev pub stated_terms : Bool → List RawTerm → List RawTerm
+stated_terms strict ts = if strict then take (length ts - 1) ts else ts
 
-abbrev pub told_relation : Bool → Relation → Relation
-told_relation strict relation = if strict then relations.Less else relation
+abbrev pub stated_relation : Bool → Relation → Relation
+stated_relation strict relation = if strict then relations.Less else relation
 
 -- ---- relations
 
@@ -100,7 +100,7 @@ parted left relation ts right = Comparison (with_terms left (left_side ts)) rela
 abbrev pub readable_comparison : Sum → Relation → Sum → Assertion
 readable_comparison left relation right =
     if is_zero right.value
-    then parted left (told_relation (is_strict relation left.value) relation) (told_terms (is_strict relation left.value) left.value) right
+    then parted left (stated_relation (is_strict relation left.value) relation) (stated_terms (is_strict relation left.value) left.value) right
     else Comparison left relation right
 
 abbrev mutual

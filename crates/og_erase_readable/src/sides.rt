@@ -177,14 +177,14 @@ fn is_strict(relation: Relation, terms: &[RawTerm]) -> bool
     is_at_most(relation) && ends_in_one(terms) && some_added(terms) && some_taken(terms)
 }
 
-fn told_relation(strict: bool, relation: Relation) -> Relation
-    ensures { result ≡ wanted.told_relation strict relation }
+fn stated_relation(strict: bool, relation: Relation) -> Relation
+    ensures { result ≡ wanted.stated_relation strict relation }
 {
     if strict { Relation::Less } else { relation }
 }
 
-fn told_terms(strict: bool, terms: &[RawTerm]) -> &[RawTerm]
-    ensures { result.now ≡ wanted.told_terms strict terms.now }
+fn stated_terms(strict: bool, terms: &[RawTerm]) -> &[RawTerm]
+    ensures { result.now ≡ wanted.stated_terms strict terms.now }
 {
     if strict {
         &terms[..terms.len().saturating_sub(1)]
@@ -241,6 +241,12 @@ pub(crate) fn comparison(
         return copied(alloc, left, relation, right);
     }
     let strict = is_strict(relation, &left.terms);
-    let told = told_terms(strict, &left.terms);
-    parted(alloc, left, told_relation(strict, relation), told, right)
+    let stated = stated_terms(strict, &left.terms);
+    parted(
+        alloc,
+        left,
+        stated_relation(strict, relation),
+        stated,
+        right,
+    )
 }

@@ -48,15 +48,15 @@ module _ {X : Type 0} (one : X → Option (List Fact)) (whole : List X → Optio
 
 -- ---- parts after others
 
-abbrev pub left_after_parts : List (List Fact) → Option (List (List Fact)) → Option (List (List Fact))
-left_after_parts front added = option_map (λ ps. front ++ ps) added
+abbrev pub room_after_parts : List (List Fact) → Option (List (List Fact)) → Option (List (List Fact))
+room_after_parts front added = option_map (λ ps. front ++ ps) added
 
-pub parts_more : (front : List (List Fact)) (p : List Fact) (o : Option (List Fact)) (rest : Option (List (List Fact))) → o ≡ Some p → left_after_parts (front ++ p ∷ []) rest ≡ left_after_parts front (part_and o rest)
-parts_more front p o None e = sym (ap (λ (w : Option (List Fact)). left_after_parts front (part_and w None)) e)
-parts_more front p o (Some ps) e = ap Some (append_assoc front (p ∷ []) ps) ∙ sym (ap (λ (w : Option (List Fact)). left_after_parts front (part_and w (Some ps))) e)
+pub parts_more : (front : List (List Fact)) (p : List Fact) (o : Option (List Fact)) (rest : Option (List (List Fact))) → o ≡ Some p → room_after_parts (front ++ p ∷ []) rest ≡ room_after_parts front (part_and o rest)
+parts_more front p o None e = sym (ap (λ (w : Option (List Fact)). room_after_parts front (part_and w None)) e)
+parts_more front p o (Some ps) e = ap Some (append_assoc front (p ∷ []) ps) ∙ sym (ap (λ (w : Option (List Fact)). room_after_parts front (part_and w (Some ps))) e)
 
-pub parts_stop : (front : List (List Fact)) (o : Option (List Fact)) (rest : Option (List (List Fact))) → o ≡ None → left_after_parts front (part_and o rest) ≡ None
-parts_stop front o rest e = ap (λ (w : Option (List Fact)). left_after_parts front (part_and w rest)) e
+pub parts_stop : (front : List (List Fact)) (o : Option (List Fact)) (rest : Option (List (List Fact))) → o ≡ None → room_after_parts front (part_and o rest) ≡ None
+parts_stop front o rest e = ap (λ (w : Option (List Fact)). room_after_parts front (part_and w rest)) e
 
 pub map_push : {X Y : Type 0} (f : X → Y) (xs : List X) (x : X) → map f (xs ++ x ∷ []) ≡ map f xs ++ f x ∷ []
 map_push f [] x = refl
@@ -66,16 +66,16 @@ module _ {X Z : Type 0} (view : Z → List Fact) (one : X → Option (List Fact)
   part_turn : (all : List X) (i : ℕ) (x : X) → i < length all → x ≡ get_or all i x → whole (drop i all) ≡ part_and (one x) (whole (drop (i + 1) all))
   part_turn all i x h is = ap whole (drop_item all i x h is) ∙ more_is x (drop (i + 1) all)
 
-  pub parts_turn : (out new : List Z) (z : Z) (all : List X) (i : ℕ) (x : X) → i < length all → x ≡ get_or all i x → new ≡ out ++ z ∷ [] → one x ≡ Some (view z) → left_after_parts (map view new) (whole (drop (i + 1) all)) ≡ left_after_parts (map view out) (whole (drop i all))
+  pub parts_turn : (out new : List Z) (z : Z) (all : List X) (i : ℕ) (x : X) → i < length all → x ≡ get_or all i x → new ≡ out ++ z ∷ [] → one x ≡ Some (view z) → room_after_parts (map view new) (whole (drop (i + 1) all)) ≡ room_after_parts (map view out) (whole (drop i all))
   parts_turn out new z all i x h is made e =
-      ap (λ l. left_after_parts l (whole (drop (i + 1) all))) (ap (map view) made ∙ map_push view out z)
+      ap (λ l. room_after_parts l (whole (drop (i + 1) all))) (ap (map view) made ∙ map_push view out z)
       ∙ parts_more (map view out) (view z) (one x) (whole (drop (i + 1) all)) e
-      ∙ ap (left_after_parts (map view out)) (sym (part_turn all i x h is))
+      ∙ ap (room_after_parts (map view out)) (sym (part_turn all i x h is))
 
-  pub parts_stops : (out : List Z) (all : List X) (i : ℕ) (x : X) (answer : Option (List (List Fact))) → i < length all → x ≡ get_or all i x → left_after_parts (map view out) (whole (drop i all)) ≡ answer → one x ≡ None → answer ≡ None
+  pub parts_stops : (out : List Z) (all : List X) (i : ℕ) (x : X) (answer : Option (List (List Fact))) → i < length all → x ≡ get_or all i x → room_after_parts (map view out) (whole (drop i all)) ≡ answer → one x ≡ None → answer ≡ None
   parts_stops out all i x answer h is inv e =
-      sym inv ∙ ap (left_after_parts (map view out)) (part_turn all i x h is) ∙ parts_stop (map view out) (one x) (whole (drop (i + 1) all)) e
+      sym inv ∙ ap (room_after_parts (map view out)) (part_turn all i x h is) ∙ parts_stop (map view out) (one x) (whole (drop (i + 1) all)) e
 
-  pub parts_end : (out : List Z) (all : List X) (i : ℕ) (answer : Option (List (List Fact))) → length all ≤ i → left_after_parts (map view out) (whole (drop i all)) ≡ answer → answer ≡ Some (map view out)
+  pub parts_end : (out : List Z) (all : List X) (i : ℕ) (answer : Option (List (List Fact))) → length all ≤ i → room_after_parts (map view out) (whole (drop i all)) ≡ answer → answer ≡ Some (map view out)
   parts_end out all i answer h inv =
-      sym inv ∙ ap (λ l. left_after_parts (map view out) (whole l)) (drop_of_length-le all h) ∙ ap (left_after_parts (map view out)) none_is ∙ ap Some (append-nil (map view out))
+      sym inv ∙ ap (λ l. room_after_parts (map view out) (whole l)) (drop_of_length-le all h) ∙ ap (room_after_parts (map view out)) none_is ∙ ap Some (append-nil (map view out))

@@ -18,7 +18,7 @@ use Rattle.og_facts.specs.Facts.{Fact, split}
 use Rattle.og_facts.specs.Plain.{plain_fact}
 use Rattle.og_facts.specs.Answer.{shown, added_to}
 use Rattle.og_facts.specs.Walk.{part_and, walk, walk_all, walk_each, walk_parts, walk_lists, beyond, walk_values}
-use Rattle.og_facts.proofs.Adding.{left_after_parts, parts_end, parts_more, map_push, drop_item}
+use Rattle.og_facts.proofs.Adding.{room_after_parts, parts_end, parts_more, map_push, drop_item}
 use Rattle.og_facts.proofs.Trees.{split_many}
 
 -- a conjunction and a disjunction
@@ -49,11 +49,11 @@ split_pushed old new v o e h is =
     ∙ ap (λ l. Some (map plain_fact old ++ l)) (split_many v h)
     ∙ ap Some (sym (pushed old new (fact.Split v) e))
 
-pub each_end : (forms : Option MapValue) (b : Bool) (out : List (Vec fact_type.Fact Global)) (all : List Assert) (i : ℕ) → length all ≤ i → left_after_parts (map shown out) (walk_each forms b (formula_list (map formula (drop i all)))) ≡ walk_each forms b (formula_list (map formula all)) → walk_each forms b (formula_list (map formula all)) ≡ Some (map shown out)
+pub each_end : (forms : Option MapValue) (b : Bool) (out : List (Vec fact_type.Fact Global)) (all : List Assert) (i : ℕ) → length all ≤ i → room_after_parts (map shown out) (walk_each forms b (formula_list (map formula (drop i all)))) ≡ walk_each forms b (formula_list (map formula all)) → walk_each forms b (formula_list (map formula all)) ≡ Some (map shown out)
 each_end forms b out all i h inv =
     parts_end shown (λ a. walk forms b (formula a)) (λ l. walk_each forms b (formula_list (map formula l))) (λ x xs. refl) refl out all i _ h inv
 
-pub lists_end : (out : List (Vec fact_type.Fact Global)) (all : List (Vec Part Global)) (i : ℕ) → length all ≤ i → left_after_parts (map shown out) (walk_lists (map parts_of (drop i all))) ≡ walk_lists (map parts_of all) → walk_lists (map parts_of all) ≡ Some (map shown out)
+pub lists_end : (out : List (Vec fact_type.Fact Global)) (all : List (Vec Part Global)) (i : ℕ) → length all ≤ i → room_after_parts (map shown out) (walk_lists (map parts_of (drop i all))) ≡ walk_lists (map parts_of all) → walk_lists (map parts_of all) ≡ Some (map shown out)
 lists_end out all i h inv =
     parts_end shown (λ ps. walk_parts (parts_of ps)) (λ l. walk_lists (map parts_of l)) (λ x xs. refl) refl out all i _ h inv
 
@@ -65,14 +65,14 @@ mapped f (Some x) y e = (x, refl, same_Some (f x) y e)
 
 -- two parts more
 pub values_turn : (out middle new : List (Vec fact_type.Fact Global)) (p q : Vec fact_type.Fact Global) (all : List FormValue) (i : ℕ) (v l h : FormValue) → i < length all → v ≡ get_or all i v → middle ≡ out ++ p ∷ [] → new ≡ middle ++ q ∷ [] → low v ≡ Some l → high v ≡ Some h → beyond (Some l) ≡ Some (shown p) → beyond (Some h) ≡ Some (shown q)
-    → left_after_parts (map shown new) (walk_values (drop (i + 1) all)) ≡ left_after_parts (map shown out) (walk_values (drop i all))
+    → room_after_parts (map shown new) (walk_values (drop (i + 1) all)) ≡ room_after_parts (map shown out) (walk_values (drop i all))
 values_turn out middle new p q all i v l h lt is made_p made_q el eh ep eq =
     let rest = walk_values (drop (i + 1) all) in
-    ap (λ k. left_after_parts k rest) (ap (map shown) made_q ∙ map_push shown middle q)
+    ap (λ k. room_after_parts k rest) (ap (map shown) made_q ∙ map_push shown middle q)
     ∙ parts_more (map shown middle) (shown q) (beyond (high v)) rest (ap beyond eh ∙ eq)
-    ∙ ap (λ k. left_after_parts k (part_and (beyond (high v)) rest)) (ap (map shown) made_p ∙ map_push shown out p)
+    ∙ ap (λ k. room_after_parts k (part_and (beyond (high v)) rest)) (ap (map shown) made_p ∙ map_push shown out p)
     ∙ parts_more (map shown out) (shown p) (beyond (low v)) (part_and (beyond (high v)) rest) (ap beyond el ∙ ep)
-    ∙ ap (λ k. left_after_parts (map shown out) (walk_values k)) (sym (drop_item all i v lt is))
+    ∙ ap (λ k. room_after_parts (map shown out) (walk_values k)) (sym (drop_item all i v lt is))
 
 -- a value gives two parts
 pub values_many : (vs : List FormValue) (ps : List (List Fact)) → 0 < length vs → walk_values vs ≡ Some ps → 1 < length ps

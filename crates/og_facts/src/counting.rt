@@ -17,7 +17,7 @@ use og_typed::Assert;
 // The facts that say that the assertion is true, or false.
 #[cycle(counting)]
 #[tactic(auto, using(crate::proofs::Counted::all_of_and, crate::proofs::Counted::all_of_or, crate::proofs::Counted::some_of_and, crate::proofs::Counted::some_of_or))]
-fn left_after_assertion(room: usize, is_true: bool, a: &Assert) -> Option<usize>
+fn room_after_assertion(room: usize, is_true: bool, a: &Assert) -> Option<usize>
     ensures { Leaves room (count_said is_true (formula a.now)) result }
 {
     match (a, is_true) {
@@ -25,14 +25,14 @@ fn left_after_assertion(room: usize, is_true: bool, a: &Assert) -> Option<usize>
         (Assert::True, false) | (Assert::False, true) | (Assert::Le(_), _) => room.checked_sub(1),
         (Assert::Eq(_), true) | (Assert::Ne(_), false) => room.checked_sub(2),
         (Assert::Eq(_), false) | (Assert::Ne(_), true) => room.checked_sub(1),
-        (Assert::Not(a), _) => left_after_assertion(room, !is_true, a),
-        (Assert::And(all), true) => left_after_all(room, true, all),
-        (Assert::And(all), false) => left_after_some(room, false, all),
-        (Assert::Or(all), true) => left_after_some(room, true, all),
-        (Assert::Or(all), false) => left_after_all(room, false, all),
+        (Assert::Not(a), _) => room_after_assertion(room, !is_true, a),
+        (Assert::And(all), true) => room_after_all(room, true, all),
+        (Assert::And(all), false) => room_after_some(room, false, all),
+        (Assert::Or(all), true) => room_after_some(room, true, all),
+        (Assert::Or(all), false) => room_after_all(room, false, all),
         (Assert::Imp(..), true) => room.checked_sub(1),
-        (Assert::Imp(a, b), false) => left_after_assertion(
-            left_after_assertion(room, true, a)?,
+        (Assert::Imp(a, b), false) => room_after_assertion(
+            room_after_assertion(room, true, a)?,
             false,
             b,
         ),
@@ -41,12 +41,12 @@ fn left_after_assertion(room: usize, is_true: bool, a: &Assert) -> Option<usize>
 
 // The facts of all.
 #[cycle(counting)]
-fn left_after_all(room: usize, is_true: bool, all: &[Assert]) -> Option<usize>
+fn room_after_all(room: usize, is_true: bool, all: &[Assert]) -> Option<usize>
     ensures { Leaves room (count_all is_true (formula_list (map formula all.now))) result }
 {
     let mut left = room;
     for a in all {
-        left = left_after_assertion(left, is_true, a)?;
+        left = room_after_assertion(left, is_true, a)?;
     }
     Some(left)
 }
@@ -54,75 +54,75 @@ fn left_after_all(room: usize, is_true: bool, all: &[Assert]) -> Option<usize>
 // The facts of one of them.
 #[cycle(counting)]
 #[tactic(auto, using(crate::proofs::Counted::split_single, crate::proofs::Counted::split_others))]
-fn left_after_some(room: usize, is_true: bool, all: &[Assert]) -> Option<usize>
+fn room_after_some(room: usize, is_true: bool, all: &[Assert]) -> Option<usize>
     ensures { Leaves room (split_count (counts_each is_true (formula_list (map formula all.now))))
         result }
 {
     if all.len() == 1 {
-        left_after_assertion(room, is_true, &all[0])
+        room_after_assertion(room, is_true, &all[0])
     } else {
         room.checked_sub(1)
     }
 }
 
-fn left_after_part(room: usize, part: &Part) -> Option<usize>
+fn room_after_part(room: usize, part: &Part) -> Option<usize>
     ensures { Leaves room (count_part (part_of part.now)) result }
 {
     match part {
-        Part::Yes(a) => left_after_assertion(room, true, a),
-        Part::No(a) => left_after_assertion(room, false, a),
+        Part::Yes(a) => room_after_assertion(room, true, a),
+        Part::No(a) => room_after_assertion(room, false, a),
     }
 }
 
-fn left_after_parts(room: usize, parts: &[Part]) -> Option<usize>
+fn room_after_parts(room: usize, parts: &[Part]) -> Option<usize>
     ensures { Leaves room (count_parts (map part_of parts.now)) result }
 {
     let mut left = room;
     for part in parts {
-        left = left_after_part(left, part)?;
+        left = room_after_part(left, part)?;
     }
     Some(left)
 }
 
 // The parts of one of the lists.
 #[tactic(auto, using(crate::proofs::Counted::lists_single, crate::proofs::Counted::lists_others))]
-fn left_after_lists(room: usize, lists: &[Vec<Part>]) -> Option<usize>
+fn room_after_lists(room: usize, lists: &[Vec<Part>]) -> Option<usize>
     ensures { Leaves room (split_count (map count_parts (map parts_of lists.now))) result }
 {
     if lists.len() == 1 {
-        left_after_parts(room, &lists[0])
+        room_after_parts(room, &lists[0])
     } else {
         room.checked_sub(1)
     }
 }
 
-fn left_after_hypothesis(room: usize, hypothesis: &Hypothesis) -> Option<usize>
+fn room_after_hypothesis(room: usize, hypothesis: &Hypothesis) -> Option<usize>
     ensures { Leaves room (count_hypothesis (hypothesis_of hypothesis.now)) result }
 {
     match hypothesis {
-        Hypothesis::Is(part) => left_after_part(room, part),
+        Hypothesis::Is(part) => room_after_part(room, part),
         Hypothesis::Starts(..) => room.checked_sub(2),
-        Hypothesis::OneOf(lists) => left_after_lists(room, lists),
+        Hypothesis::OneOf(lists) => room_after_lists(room, lists),
     }
 }
 
-fn left_after_hypotheses(room: usize, hypotheses: &[Hypothesis]) -> Option<usize>
+fn room_after_hypotheses(room: usize, hypotheses: &[Hypothesis]) -> Option<usize>
     ensures { Leaves room (count_hypotheses (map hypothesis_of hypotheses.now)) result }
 {
     let mut left = room;
     for hypothesis in hypotheses {
-        left = left_after_hypothesis(left, hypothesis)?;
+        left = room_after_hypothesis(left, hypothesis)?;
     }
     Some(left)
 }
 
 /// The rest of the room after all facts of the condition.
-pub(crate) fn left_after_facts(room: usize, condition: &Condition) -> Option<usize>
+pub(crate) fn room_after_facts(room: usize, condition: &Condition) -> Option<usize>
     ensures { Leaves room (count (seen condition.now)) result }
 {
-    let left = left_after_hypotheses(room, &condition.hypotheses)?;
+    let left = room_after_hypotheses(room, &condition.hypotheses)?;
     match &condition.goal {
-        Goal::Holds(a) => left_after_assertion(left, false, a),
+        Goal::Holds(a) => room_after_assertion(left, false, a),
         Goal::Fits => left.checked_sub(1),
         Goal::Never => Some(left),
     }

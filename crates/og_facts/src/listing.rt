@@ -12,7 +12,7 @@ ghost use Rattle.og_facts.specs.Facts.{exact_facts, most_facts};
 ghost use Rattle.og_facts.specs.Rooms.{IsSize};
 ghost use Rattle.og_facts.specs.Walk.{joined, walk_hypotheses, walk_goal};
 
-use crate::counting::left_after_facts;
+use crate::counting::room_after_facts;
 use crate::fact::Fact;
 use crate::fault::{FactsError, FactsFault};
 use crate::goals::add_goal;
@@ -29,7 +29,7 @@ use std::alloc::Global;
 fn size_of(condition: &Condition) -> Option<usize>
     ensures { IsSize (count (seen condition.now)) result }
 {
-    let left = left_after_facts(FACT_LIMIT, condition)?;
+    let left = room_after_facts(FACT_LIMIT, condition)?;
     Some(FACT_LIMIT - left)
 }
 

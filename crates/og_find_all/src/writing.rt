@@ -118,7 +118,7 @@ impl Writing<'_> {
     }
 
     // The rest of the room after the entry of the condition at the index, which is made for that.
-    fn left_after_entry(
+    fn room_after_entry(
         &self,
         text: &mut Vec<u8>,
         room: usize,
@@ -135,7 +135,7 @@ impl Writing<'_> {
     }
 
     // The rest of the room after the entries of all conditions.
-    fn left_after_entries(&self, alloc: Global, room: usize) -> Result<Option<usize>, AllocError>
+    fn room_after_entries(&self, alloc: Global, room: usize) -> Result<Option<usize>, AllocError>
         requires lines { AreLines self.now.findings.now.verdicts.items self.now.lines.now }
         requires few { vec_len self.now.findings.now.own ≤ 999999999 }
         ensures { IfOk result (Leaves room
@@ -144,7 +144,7 @@ impl Writing<'_> {
         let mut text = Vec::new(alloc);
         let mut left = room;
         for index in 0..self.findings.own.len() {
-            match self.left_after_entry(&mut text, left, index)? {
+            match self.room_after_entry(&mut text, left, index)? {
                 Some(less) => left = less,
                 None => return Ok(None),
             }
@@ -162,7 +162,7 @@ impl Writing<'_> {
         let Some(room) = limit.checked_sub(FIRST_LINE.len()) else {
             return Ok(false);
         };
-        let left = self.left_after_entries(alloc, room)?;
+        let left = self.room_after_entries(alloc, room)?;
         Ok(left.is_some())
     }
 

@@ -23,17 +23,17 @@ use Rattle.og_pool.specs.Numbered.{by_condition, status_of}
 use Rattle.og_pool.specs.declared.status.Status.{Status}
 use Rattle.og_judge.specs.declared.entry.Entry.{Entry}
 use Rattle.og_judge.specs.Entries.{entry_of, entries_from, is_proved, is_safe, is_there_and_proved, is_unblocked}
-use Rattle.og_judge.specs.Parts.{told_from}
+use Rattle.og_judge.specs.Parts.{listed_from}
 
 -- each condition's status, at the places from the front
-told_is : (n : ℕ) (file : Entries) (cs : List Condition) (ss : List Status) → length ss ≡ length cs
+listed_is : (n : ℕ) (file : Entries) (cs : List Condition) (ss : List Status) → length ss ≡ length cs
     → ((i : ℕ) → i < length cs → slice_get ss i ≡ Some (by_condition (slice_get cs i) (certificate_of (n + i) file)))
-    → told_from cs ss ≡ entries_from n file cs
-told_is n file [] ss len each = refl
-told_is n file (c ∷ cs) [] len each = absurd (omega (arith, len))
-told_is n file (c ∷ cs) (s ∷ ss) len each =
+    → listed_from cs ss ≡ entries_from n file cs
+listed_is n file [] ss len each = refl
+listed_is n file (c ∷ cs) [] len each = absurd (omega (arith, len))
+listed_is n file (c ∷ cs) (s ∷ ss) len each =
     let first : s ≡ by_cert c (certificate_of n file) = status_at (each 0 (omega arith)) in
-    let rest = told_is (suc n) file cs ss (omega (arith, len)) (λ i less. later i (each (suc i) (omega (arith, less)))) in
+    let rest = listed_is (suc n) file cs ss (omega (arith, len)) (λ i less. later i (each (suc i) (omega (arith, less)))) in
     ap₂ (λ e es. entry_of c e ∷ es) first rest
   where
     status_at : Some s ≡ Some (by_cert c (certificate_of (n + 0) file)) → s ≡ by_cert c (certificate_of n file)
@@ -46,23 +46,23 @@ told_is n file (c ∷ cs) (s ∷ ss) len each =
 -- the statuses make the entries
 pub listed_entries : (conds : List its.Condition) (file : CertFile) (ss : List Status) (cs : List Condition) (es : List Entry) → map seen conds ≡ cs
     → length ss ≡ length conds → ((i : ℕ) → i < length conds → slice_get ss i ≡ Some (status_of conds file (i + 1)))
-    → es ≡ told_from (map seen conds) ss → es ≡ entries_from 1 (shown file) cs
+    → es ≡ listed_from (map seen conds) ss → es ≡ entries_from 1 (shown file) cs
 unfolding status_of
 listed_entries conds file ss cs es same len each made =
     let long = length-map conds seen in
-    made ∙ told_is 1 (shown file) (map seen conds) ss (omega (arith, len, long)) (λ i less. at i (each i (omega (arith, less, long)))) ∙ ap (entries_from 1 (shown file)) same
+    made ∙ listed_is 1 (shown file) (map seen conds) ss (omega (arith, len, long)) (λ i less. at i (each i (omega (arith, less, long)))) ∙ ap (entries_from 1 (shown file)) same
   where
     at : (i : ℕ) → slice_get ss i ≡ Some (by_condition (slice_get (map seen conds) (i + 1 - 1)) (certificate_of (i + 1) (shown file)))
         → slice_get ss i ≡ Some (by_condition (slice_get (map seen conds) i) (certificate_of (1 + i) (shown file)))
     at i e = e ∙ ap₂ (λ j k. Some (by_condition (slice_get (map seen conds) j) (certificate_of k (shown file)))) (omega arith) (omega arith)
 
 -- one entry more
-pub told_turn : (cs : List Condition) (ss : List Status) (i : ℕ) (c : Condition) (s : Status) (before after whole : List Entry) → slice_get cs i ≡ Some c → slice_get ss i ≡ Some s
-    → after ≡ before ++ entry_of c s ∷ [] → before ++ told_from (drop i cs) (drop i ss) ≡ whole → after ++ told_from (drop (i + 1) cs) (drop (i + 1) ss) ≡ whole
-told_turn cs ss i c s before after whole c_is s_is more h =
-    let rest = told_from (drop (i + 1) cs) (drop (i + 1) ss) in
+pub listed_turn : (cs : List Condition) (ss : List Status) (i : ℕ) (c : Condition) (s : Status) (before after whole : List Entry) → slice_get cs i ≡ Some c → slice_get ss i ≡ Some s
+    → after ≡ before ++ entry_of c s ∷ [] → before ++ listed_from (drop i cs) (drop i ss) ≡ whole → after ++ listed_from (drop (i + 1) cs) (drop (i + 1) ss) ≡ whole
+listed_turn cs ss i c s before after whole c_is s_is more h =
+    let rest = listed_from (drop (i + 1) cs) (drop (i + 1) ss) in
     ap (λ l. l ++ rest) more ∙ append_assoc before (entry_of c s ∷ []) rest
-    ∙ ap₂ (λ k l. before ++ told_from k l) (sym (dropped cs i c c_is)) (sym (dropped ss i s s_is)) ∙ h
+    ∙ ap₂ (λ k l. before ++ listed_from k l) (sym (dropped cs i c c_is)) (sym (dropped ss i s s_is)) ∙ h
   where
     dropped : {X : Type 0} (xs : List X) (i : ℕ) (x : X) → slice_get xs i ≡ Some x → drop i xs ≡ x ∷ drop (i + 1) xs
     dropped xs i x found = drop-cons xs i x (slice_get_within xs i x found) ∙ ap₂ (λ u j. u ∷ drop j xs) (get_or_from_slice_get xs i x x found) (sym (add-one i))

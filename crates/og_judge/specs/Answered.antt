@@ -1,7 +1,7 @@
 -- What a command answers to a refusal.
 use Rattle.std.specs.Prelude.{◌≡◌, ℕ, List, Option, None, Result, Ok, Err}
 use Rattle.og_report_text.specs.Faults.{place_of_input}
-use Rattle.og_report_text.specs.Told.{IsTold}
+use Rattle.og_report_text.specs.Answers.{IsFaultAnswer}
 use Rattle.og_report_text.specs.declared.answer.Answer.{Answer}
 use Rattle.og_pool.specs.declared.fault.PoolFault.{PoolFault}
 use Rattle.og_pool.specs.declared.fault.PoolFault.TheVariants as pool
@@ -16,7 +16,7 @@ place_of_refusal refusal.Memory = None
 
 -- the line of a fault, or memory ran out; want of threads, or of memory, stays what it is
 abbrev pub IsAnswered : List ℕ → Refusal → Result Answer PoolFault → Type 0
-IsAnswered source (refusal.Input fault) (Ok answer) = IsTold source fault answer
+IsAnswered source (refusal.Input fault) (Ok answer) = IsFaultAnswer source fault answer
 IsAnswered source (refusal.Input fault) (Err e) = e ≡ pool.Memory
 IsAnswered source refusal.Spawn (Ok answer) = ⊥
 IsAnswered source refusal.Spawn (Err e) = e ≡ pool.Spawn

@@ -8,6 +8,8 @@ use Rattle.og_cert_text.specs.declared.fault.CertTextError.TheVariants as certs
 use Rattle.og_pool.specs.declared.fault.PoolFault.{PoolFault}
 use Rattle.og_pool.specs.declared.fault.PoolFault.TheVariants as pool
 use Rattle.og_report_text.specs.declared.fault.InputFault.TheVariants as faults
+use Rattle.og_report_text.specs.declared.input_error.InputError.{InputError}
+use Rattle.og_report_text.specs.declared.input_error.InputError.TheVariants as input
 use Rattle.og_judge.specs.declared.refusal.Refusal.{Refusal}
 use Rattle.og_judge.specs.declared.refusal.Refusal.TheVariants as refusal
 
@@ -22,6 +24,10 @@ of_conditions conditions.Memory = refusal.Memory
 abbrev pub of_certs : CertTextError → Refusal
 of_certs (certs.Fault fault) = refusal.Input (faults.Certs fault)
 of_certs certs.Memory = refusal.Memory
+
+abbrev pub of_input : InputError → Refusal
+of_input (input.Fault fault) = refusal.Input fault
+of_input input.Memory = refusal.Memory
 
 abbrev pub of_pool : PoolFault → Refusal
 of_pool pool.Spawn = refusal.Spawn

@@ -1,21 +1,22 @@
 -- What an error of a judgement says of the texts.
 use Rattle.std.specs.Prelude.{ℕ, List, ⊤}
 use Rattle.og_typed.specs.Syntax.{Program}
+use Rattle.og_report_text.specs.declared.fault.InputFault.{InputFault}
+use Rattle.og_judge.specs.Entries.{AreRefused}
+use Rattle.og_judge.specs.Report.{IsRefused}
 use Rattle.og_judge.specs.declared.refusal.Refusal.{Refusal}
 use Rattle.og_judge.specs.declared.refusal.Refusal.TheVariants as refusal
-use Rattle.og_judge.specs.Entries.{AreRefused}
-use Rattle.std.specs.Prelude.{ℕ, List, ⊤}
-use Rattle.og_judge.specs.declared.refusal.Refusal.TheVariants as refusal
-use Rattle.og_judge.specs.Report.{IsRefused}
 
--- that fault; want of threads, or of memory, says nothing of the texts
+-- P of the fault; want of threads, or of memory, says nothing
+abbrev pub OnInput : (InputFault → Type 0) → Refusal → Type 0
+OnInput P (refusal.Input fault) = P fault
+OnInput P refusal.Spawn = ⊤
+OnInput P refusal.Memory = ⊤
+
+-- the fault of an outline and certificates
 abbrev pub AreNotFound : List ℕ → Program → Refusal → Type 0
-AreNotFound certs o (refusal.Input fault) = AreRefused certs o fault
-AreNotFound certs o refusal.Spawn = ⊤
-AreNotFound certs o refusal.Memory = ⊤
+AreNotFound certs o = OnInput (AreRefused certs o)
 
--- that fault; want of threads, or of memory, says nothing of the texts
+-- that of a source and certificates
 abbrev pub IsNotJudged : List ℕ → List ℕ → Refusal → Type 0
-IsNotJudged source certs (refusal.Input fault) = IsRefused source certs fault
-IsNotJudged source certs refusal.Spawn = ⊤
-IsNotJudged source certs refusal.Memory = ⊤
+IsNotJudged source certs = OnInput (IsRefused source certs)

@@ -9,10 +9,10 @@ use Rattle.og_judge.specs.declared.entry.Entry.{Entry}
 use Rattle.og_judge.specs.Entries.{entry_of, entries_from}
 
 -- each condition with the status at its place
-abbrev pub told_from : List Condition → List Status → List Entry
-told_from [] ss = []
-told_from (c ∷ cs) [] = []
-told_from (c ∷ cs) (s ∷ ss) = entry_of c s ∷ told_from cs ss
+abbrev pub listed_from : List Condition → List Status → List Entry
+listed_from [] ss = []
+listed_from (c ∷ cs) [] = []
+listed_from (c ∷ cs) (s ∷ ss) = entry_of c s ∷ listed_from cs ss
 
 -- the entries of the conditions by some file
 abbrev pub AreListed : Program → List Entry → Type 0

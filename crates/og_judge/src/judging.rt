@@ -5,7 +5,7 @@ ghost use Rattle.og_cond.specs.Seen.{seen};
 ghost use Rattle.og_judge.specs.Entries.{entry_of, AreEntries, is_safe, is_unblocked};
 ghost use Rattle.og_judge.specs.NotJudged.{AreNotFound, IsNotJudged};
 ghost use Rattle.og_judge.specs.Report.{IsReport};
-ghost use Rattle.og_judge.specs.Parts.{AreListed, told_from};
+ghost use Rattle.og_judge.specs.Parts.{AreListed, listed_from};
 ghost use Rattle.og_judge.specs.Shown.{looked_at, found_of, outline_of, entries_of};
 ghost use Rattle.og_judge.specs.declared.refusal.Refusal.TheVariants.{Spawn};
 
@@ -44,7 +44,7 @@ fn listed(
     statuses: &[Status],
 ) -> Result<Vec<Entry>, AllocError>
     requires { length statuses.now ≡ length conditions.now }
-    ensures { IfOk result (λ v. v.items ≡ told_from (map seen conditions.now) statuses.now) }
+    ensures { IfOk result (λ v. v.items ≡ listed_from (map seen conditions.now) statuses.now) }
 {
     let mut entries = Vec::with_capacity(alloc, conditions.len())?;
     for index in 0..conditions.len() {

@@ -3,13 +3,13 @@
 ghost use Rattle.std.specs.Prelude.{◌≡◌, ◌≤◌, ◌^◌, length, IsSome};
 ghost use Rattle.og_judge.specs.Answered.{place_of_refusal, IsAnswered};
 ghost use Rattle.og_judge.specs.Names.{number_of_refusal, name_of_refusal};
-ghost use Rattle.og_judge.specs.Errors.{of_source, of_conditions, of_certs, of_pool};
+ghost use Rattle.og_judge.specs.Errors.{of_source, of_conditions, of_certs, of_input, of_pool};
 ghost use Rattle.og_judge.specs.declared.refusal.Refusal.TheVariants.{Memory};
 
 use og_cert_text::CertTextError;
 use og_cond::ConditionsError;
 use og_pool::PoolFault;
-use og_report_text::{Answer, InputFault};
+use og_report_text::{Answer, InputError, InputFault};
 use og_typed::SourceError;
 use std::alloc::{AllocError, AllocFailed, Global};
 use thiserror::Error;
@@ -99,6 +99,17 @@ impl From<CertTextError> for Refusal {
         match error {
             CertTextError::Fault(fault) => Refusal::Input(InputFault::Certs(fault)),
             CertTextError::Memory => Refusal::Memory,
+        }
+    }
+}
+
+impl From<InputError> for Refusal {
+    ghost from_gives = { λ error refusal. refusal ≡ of_input error };
+
+    fn from(error: InputError) -> Refusal {
+        match error {
+            InputError::Fault(fault) => Refusal::Input(fault),
+            InputError::Memory => Refusal::Memory,
         }
     }
 }

@@ -2,6 +2,6 @@ pub mod Zips
 pub mod Faults
 pub mod Slots
 pub mod Steps
-pub mod Telling
+pub mod TaskAnswers
 pub mod Statuses
 pub mod Serving

@@ -7,8 +7,8 @@ use Rattle.std.proofs.lemmas.List.{length-map}
 use Rattle.std.proofs.lemmas.List.Elements.{All-nil, All-cons}
 use Rattle.std.proofs.lemmas.Option.{slice_get_within, get_or_from_slice_get, slice_get-map}
 use Rattle.og_pool.specs.Answers.{AreAnswers}
-use Rattle.og_pool.specs.Telling.{Tells, IsRight, IsFilled, AreRight}
-use Rattle.og_pool.specs.declared.told.Told.{Told}
+use Rattle.og_pool.specs.TaskAnswers.{HasAnswer, IsRight, IsFilled, AreRight}
+use Rattle.og_pool.specs.declared.answered.TaskAnswer.{TaskAnswer}
 
 all_at : {X : Type 0} (P : X → Type 0) (xs : List X) (i : ℕ) (x : X) → All P xs → slice_get xs i ≡ Some x → P x
 all_at P xs i x h at = subst P (get_or_from_slice_get xs i x x at) (h i x (slice_get_within xs i x at))
@@ -18,17 +18,17 @@ pub none_right : {A : Type 0} (is : ℕ → A → Type 0) (slots : List (Option 
 none_right is slots h i a at = let no : Some a ≡ None = all_at (λ s. s ≡ None) slots i (Some a) h at in absurd (cc)
 
 -- a task is answered before the last one, or last
-snoc_at : {A : Type 0} (xs : List (Told A)) (t : Told A) (n k : ℕ) (u : Told A) → slice_get (xs ++ t ∷ []) k ≡ Some u → u.number ≡ n → Tells xs n ⊎ (t.number ≡ n)
-snoc_at {A} [] t n zero u at number = inr (let same : t ≡ u = cc in ap (λ (q : Told A). q.number) same ∙ number)
+snoc_at : {A : Type 0} (xs : List (TaskAnswer A)) (t : TaskAnswer A) (n k : ℕ) (u : TaskAnswer A) → slice_get (xs ++ t ∷ []) k ≡ Some u → u.number ≡ n → HasAnswer xs n ⊎ (t.number ≡ n)
+snoc_at {A} [] t n zero u at number = inr (let same : t ≡ u = cc in ap (λ (q : TaskAnswer A). q.number) same ∙ number)
 snoc_at [] t n (suc k) u at number = absurd (cc)
 snoc_at (x ∷ xs) t n zero u at number = inl (0, u, at, number)
 snoc_at (x ∷ xs) t n (suc k) u at number = ⊎_elim
-    (λ (h : Tells xs n). inl (suc h.0, h.1, h.2, h.3))
+    (λ (h : HasAnswer xs n). inl (suc h.0, h.1, h.2, h.3))
     (λ (h : t.number ≡ n). inr h)
     (snoc_at xs t n k u at number)
 
 -- one answer more in its slot
-pub right_more : {A : Type 0} (is : ℕ → A → Type 0) (before after : List (Option A)) (t : Told A) → IsRight is t → length after ≡ length before
+pub right_more : {A : Type 0} (is : ℕ → A → Type 0) (before after : List (Option A)) (t : TaskAnswer A) → IsRight is t → length after ≡ length before
     → (t.number ≤ length before → slice_get after (t.number - 1) ≡ Some (Some t.answer))
     → ((i : ℕ) → i ≢ t.number - 1 → slice_get after i ≡ slice_get before i) → AreRight is before → AreRight is after
 right_more {A} is before after t right len here others h i a at = ⊎_elim
@@ -44,15 +44,15 @@ right_more {A} is before after t right len here others h i a at = ⊎_elim
     (λ (e : (eqb i (t.number - 1) ≡ false) × (i ≢ t.number - 1)). h i a (sym (others i e.1) ∙ at))
     (eqb_tells i (t.number - 1))
 
-pub filled_more : {A : Type 0} (count : ℕ) (before after : List (Option A)) (all told rest : List (Told A)) (t : Told A) → 0 < t.number → length before ≡ count
-    → told ≡ rest ++ t ∷ []
+pub filled_more : {A : Type 0} (count : ℕ) (before after : List (Option A)) (all answered rest : List (TaskAnswer A)) (t : TaskAnswer A) → 0 < t.number → length before ≡ count
+    → answered ≡ rest ++ t ∷ []
     → (t.number ≤ length before → slice_get after (t.number - 1) ≡ Some (Some t.answer))
     → ((i : ℕ) → i ≢ t.number - 1 → slice_get after i ≡ slice_get before i)
-    → ((n : ℕ) → 0 < n → n ≤ count → Tells all n → Tells told n ⊎ IsFilled before (n - 1))
-    → (n : ℕ) → 0 < n → n ≤ count → Tells all n → Tells rest n ⊎ IsFilled after (n - 1)
-filled_more {A} count before after all told rest t some len is here others h n above below given = ⊎_elim
-    (λ (tells : Tells told n). let last = subst (λ (ts : List (Told A)). Tells ts n) is tells in ⊎_elim
-    (λ (old : Tells rest n). inl old)
+    → ((n : ℕ) → 0 < n → n ≤ count → HasAnswer all n → HasAnswer answered n ⊎ IsFilled before (n - 1))
+    → (n : ℕ) → 0 < n → n ≤ count → HasAnswer all n → HasAnswer rest n ⊎ IsFilled after (n - 1)
+filled_more {A} count before after all answered rest t some len is here others h n above below given = ⊎_elim
+    (λ (tells : HasAnswer answered n). let last = subst (λ (ts : List (TaskAnswer A)). HasAnswer ts n) is tells in ⊎_elim
+    (λ (old : HasAnswer rest n). inl old)
     (λ (same : t.number ≡ n). inr (fills (ap (λ (k : ℕ). k - 1) (sym same))))
     (snoc_at rest t n last.0 last.1 last.2 last.3))
     (λ (was : IsFilled before (n - 1)). inr (⊎_elim
@@ -66,8 +66,8 @@ filled_more {A} count before after all told rest t some len is here others h n a
         let put = here (omega (arith, some, place, len, above, below)) in
         (t.answer, subst (λ (k : ℕ). slice_get after k ≡ Some (Some t.answer)) (sym place) put)
 
-pub none_told : {A : Type 0} (told : List (Told A)) (n : ℕ) → told ≡ [] → Tells told n → ⊥
-none_told {A} told n is tells = let no = subst (λ (ts : List (Told A)). slice_get ts tells.0 ≡ Some tells.1) is tells.2 in absurd (cc)
+pub none_answered : {A : Type 0} (answered : List (TaskAnswer A)) (n : ℕ) → answered ≡ [] → HasAnswer answered n → ⊥
+none_answered {A} answered n is tells = let no = subst (λ (ts : List (TaskAnswer A)). slice_get ts tells.0 ≡ Some tells.1) is tells.2 in absurd (cc)
 
 -- slots that all have answers
 pub all_filled : {A : Type 0} (slots : List (Option A)) → ((i : ℕ) → i < length slots → IsFilled slots i) → All (λ s. IsSome s) slots

@@ -1,6 +1,6 @@
 pub mod Answers
 pub mod Drawing
-pub mod Telling
+pub mod TaskAnswers
 pub mod Kept
 pub mod Names
 pub mod Status

@@ -5,6 +5,7 @@
 //! certificates so.
 #![tactic(auto)]
 
+mod answered;
 mod checks;
 mod draws;
 mod fault;
@@ -17,7 +18,6 @@ mod rule;
 mod status;
 mod thread_fault;
 mod threads;
-mod told;
 mod workers;
 
 pub use checks::check_all;

@@ -4,12 +4,12 @@ ghost use Rattle.std.specs.Prelude.{◌≡◌, ℕ, ◌<◌, ◌≤◌, [], IfOk
 ghost use Rattle.std.specs.List.{All};
 ghost use Rattle.og_pool.specs.Answers.{AreAnswers};
 ghost use Rattle.og_pool.specs.Drawing.{IsOne};
-ghost use Rattle.og_pool.specs.Telling.{PartDone};
+ghost use Rattle.og_pool.specs.TaskAnswers.{PartDone};
 ghost use Rattle.og_pool.specs.declared.thread_fault.ThreadFault.TheVariants.{Spawn};
 
+use crate::answered::{TaskAnswer, in_order};
 use crate::draws::{Drawer, Draws};
 use crate::numbered::Numbered;
-use crate::told::{Told, in_order};
 use crate::{Job, ThreadFault, in_threads};
 use std::alloc::{AllocError, Global};
 use std::sync::Wait;
@@ -26,12 +26,12 @@ struct Workers<'a, N> {
 impl<'a, N: Numbered> Job for Workers<'a, N> {
     ghost use Rattle.std.specs.Prelude.{◌≡◌};
     ghost use Rattle.og_pool.specs.Drawing.{IsOne};
-    ghost use Rattle.og_pool.specs.Telling.{PartDone};
+    ghost use Rattle.og_pool.specs.TaskAnswers.{PartDone};
     ghost use Rattle.og_pool.specs.declared.thread_fault.ThreadFault.TheVariants.{Memory};
 
     type Part = Drawer;
 
-    type Gain = (Drawer, Vec<Told<N::Answer>>);
+    type Gain = (Drawer, Vec<TaskAnswer<N::Answer>>);
 
     ghost can = { λ w d. IsOne w.draws.now d × (w.draws.now.count ≡ N.count w.tasks.now) };
 
@@ -43,14 +43,14 @@ impl<'a, N: Numbered> Job for Workers<'a, N> {
         &self,
         _rt: &R,
         mut drawer: Drawer,
-    ) -> Result<(Drawer, Vec<Told<N::Answer>>), ThreadFault> {
-        let mut told = Vec::new(self.alloc);
+    ) -> Result<(Drawer, Vec<TaskAnswer<N::Answer>>), ThreadFault> {
+        let mut answered = Vec::new(self.alloc);
         let mut kept = self.tasks.kept();
         while let Some(number) = self.draws.draw(&mut drawer) {
             let answer = self.tasks.answer(self.alloc, number, &mut kept)?;
-            told.push(Told { number, answer })?;
+            answered.push(TaskAnswer { number, answer })?;
         }
-        Ok((drawer, told))
+        Ok((drawer, answered))
     }
 
     fn give_up<R: Wait>(&self, _rt: &R) {}
@@ -60,22 +60,22 @@ impl<'a, N: Numbered> Workers<'a, N> {
     // The numbers that all workers drew and their answers, together.
     fn together(
         &self,
-        mut gains: Vec<(Drawer, Vec<Told<N::Answer>>)>,
-    ) -> Result<(Drawer, Vec<Told<N::Answer>>), AllocError>
+        mut gains: Vec<(Drawer, Vec<TaskAnswer<N::Answer>>)>,
+    ) -> Result<(Drawer, Vec<TaskAnswer<N::Answer>>), AllocError>
         requires some { 0 < vec_len gains }
         requires each { All (λ r. PartDone self.now.draws.now 1 (N.may_answer self.now.tasks.now)
             r.0 r.1.items) gains.items }
         ensures { IfOk result (λ r. PartDone self.now.draws.now (vec_len gains)
             (N.may_answer self.now.tasks.now) r.0 r.1.items) }
     {
-        let Some((mut drawer, mut told)) = gains.pop() else {
+        let Some((mut drawer, mut answered)) = gains.pop() else {
             unreachable!()
         };
         while let Some((other, mut more)) = gains.pop() {
             self.draws.join(&mut drawer, other);
-            told.append(&mut more)?;
+            answered.append(&mut more)?;
         }
-        Ok((drawer, told))
+        Ok((drawer, answered))
     }
 
     // Each worker draws until nothing is left, in a thread of its own but one.
@@ -83,7 +83,7 @@ impl<'a, N: Numbered> Workers<'a, N> {
         &self,
         rt: &R,
         drawers: Vec<Drawer>,
-    ) -> Result<(Drawer, Vec<Told<N::Answer>>), ThreadFault>
+    ) -> Result<(Drawer, Vec<TaskAnswer<N::Answer>>), ThreadFault>
         requires some { 0 < vec_len drawers }
         requires each { All (IsOne self.now.draws.now) drawers.items }
         requires count { self.now.draws.now.count ≡ N.count self.now.tasks.now }
@@ -126,7 +126,7 @@ pub fn answers<N: Numbered, R: Threads + Wait + Sync>(
         tasks,
         draws: &draws,
     };
-    let (drawer, told) = shared.draw_all(rt, drawers)?;
+    let (drawer, answered) = shared.draw_all(rt, drawers)?;
     draws.close(drawer);
-    Ok(in_order(alloc, tasks, told, count)?)
+    Ok(in_order(alloc, tasks, answered, count)?)
 }

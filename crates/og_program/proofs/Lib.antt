@@ -1,5 +1,6 @@
 pub mod Faults
 pub mod Along
 pub mod Ending
+pub mod Refusals
 pub mod Status
 pub mod Words

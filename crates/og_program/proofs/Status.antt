@@ -1,30 +1,31 @@
 -- What status 0 of the program says.
-use Rattle.std.proofs.Common.{◌≡◌, inl, inr, ℕ, List, Bool, true, false, None, Some, Option, sym, ap, subst, arith, ◌∙◌}
+use Rattle.std.proofs.Common.{◌≡◌, inl, inr, ℕ, List, [], Bool, true, false, None, Some, Option, Ok, sym, ap, subst, arith, ◌∙◌}
 use Rattle.std.specs.Prelude.{⊤, IfSome, IfNone, is_some, codes}
 use Rattle.std.specs.Borrow.{Bor}
+use Rattle.og_typed.specs.Syntax.{Program}
 use Rattle.og_report_text.specs.Yes.{SaysUnblocked}
 use Rattle.og_report_text.specs.declared.answer.Answer.{Answer}
+use Rattle.og_report_text.specs.declared.fault.InputFault.{InputFault}
+use Rattle.og_report_text.specs.InputErrors.{IsFaultOfConditions}
 use Rattle.og_judge.specs.Proven.{IsProvenSource}
 use Rattle.og_judge.specs.NeverStuck.{IsNeverStuckSource}
+use Rattle.og_judge.specs.Report.{IsRefused as IsRefusedCheck}
 use Rattle.og_command_check.specs.Inputs.{source_of, Reads}
 use Rattle.og_command_check.specs.Wrote.{Wrote}
 use Rattle.og_template.specs.Front.{is_template}
 use Rattle.og_template_outline.specs.Expanded.{HoldsBy, HoldsOf}
 use Rattle.og_command_check.proofs.Promised.{written_text, wrote_unblocked}
-use Rattle.og_command_run.proofs.Answering.{run_proven}
-use Rattle.og_command_run.specs.Running.{IsRanProved}
+use Rattle.og_command_run.specs.Running.{IsRanProved, IsProven as IsProvenOutline}
+use Rattle.og_command_run.specs.declared.reply.Ran.{Ran}
 use Rattle.og_command_run.specs.declared.reply.Reply.{Reply as Running}
 use Rattle.og_command_run.specs.declared.reply.Reply.TheVariants as runnings
 use Rattle.og_command_prove.specs.Printed.{SaysUnblockedIn}
+use Rattle.og_command_prove.specs.Reply.{IsFaultOfText}
 use Rattle.og_command_prove.specs.Warrants.{WarrantsAnswer, WarrantsBy}
 use Rattle.og_command_prove.specs.declared.form.ReportForm.{ReportForm}
 use Rattle.og_command_prove.specs.declared.form.ReportForm.TheVariants as reports
 use Rattle.og_command_prove.specs.declared.reply.Reply.{Reply as Proving}
 use Rattle.og_command_prove.specs.declared.reply.Reply.TheVariants as provings
-use Rattle.og_report_refusal.specs.Remarks.{IsConditionsRemark, IsTooManyRemark}
-use Rattle.og_report_refusal.specs.Starting.{IsProvedRunRemark}
-use Rattle.og_report_refusal.specs.Values.{IsValueRemark}
-use Rattle.og_report_refusal.specs.declared.values.Gives.TheVariants as gives
 use Rattle.og_words.specs.Jobs.{word_bytes}
 use Rattle.og_words.specs.declared.job.Job.{Job}
 use Rattle.og_words.specs.declared.job.Job.TheVariants as jobs
@@ -35,23 +36,23 @@ use Rattle.og_program.specs.World.{World, Text, Stream, Trace, named, bytes_in}
 use Rattle.og_program.specs.Sound.{IsProven, IsProvenFile, IsProvenText}
 use Rattle.og_program.specs.Unblocked.{PrintsUnblocked, IsNeverStuck}
 use Rattle.og_program.specs.Written.{Gets, SaysWhy, Writes}
-use Rattle.og_program.specs.Beside.{Remarks, Noted, OnReport, OnBadValue}
-use Rattle.og_program.specs.Commands.{report_form, IsExpansionNote, IsCheckReport, IsRunReport, IsWordRemark, AnswersBy, FollowsProving, FollowsRunning, Proves, Shows, RunsBy, IsOutcome}
+use Rattle.og_program.specs.Beside.{Noted, OnReport, OnBadValue, IsRefusal, Refuses}
+use Rattle.og_program.specs.Commands.{report_form, IsExpansionNote, IsStartRemark, IsCheckReport, IsCheckOutcome, IsRunReport, IsWordRemark, FollowsProving, FollowsRunning, Proves, Shows, RunsBy, IsOutcome}
 use Rattle.og_program.specs.Served.{EndsJob}
 use Rattle.og_program.specs.declared.ended.Ended.{Ended}
 use Rattle.og_program.specs.declared.outcome.Outcome.{Outcome}
 use Rattle.og_program.specs.declared.outcome.Outcome.TheVariants as outcomes
 use Rattle.og_program.specs.declared.outcome.Report.{Report}
 
--- ---- of what is written
+-- ---- writing
 
 three_not_0 : (text : List ℕ) (err : Stream) (ended : Ended) → SaysWhy text 3 err ended → ended.status ≡ 0 → ⊥
-three_not_0 text err ended (inl told) zero = let three = told.0 in omega (arith, three, zero)
-three_not_0 text err ended (inr told) zero = let four = told.0 in omega (arith, four, zero)
+three_not_0 text err ended (inl printed) zero = let three = printed.0 in omega (arith, three, zero)
+three_not_0 text err ended (inr printed) zero = let four = printed.0 in omega (arith, four, zero)
 
 four_not_0 : (text : List ℕ) (err : Stream) (ended : Ended) → SaysWhy text 4 err ended → ended.status ≡ 0 → ⊥
-four_not_0 text err ended (inl told) zero = let four = told.0 in omega (arith, four, zero)
-four_not_0 text err ended (inr told) zero = let four = told.0 in omega (arith, four, zero)
+four_not_0 text err ended (inl printed) zero = let four = printed.0 in omega (arith, four, zero)
+four_not_0 text err ended (inr printed) zero = let four = printed.0 in omega (arith, four, zero)
 
 -- what status 0 says of an outcome that was written: a report is whole and has it, and a word or a step is not refused
 abbrev IsDone : Stream → Outcome → Type 0
@@ -96,9 +97,13 @@ answered X answer out o h done =
     let r = on_report (λ r. (r.answer ≡ answer) × X r) out o h done in
     subst (IsAnswer out) r.1.0 (r.2, r.3)
 
-answered_by : (b : Bool) (source : Text) (answer : Answer) (out : Stream) (o : Outcome) → AnswersBy b source answer o → IsDone out o → IsAnswer out answer
-answered_by true source answer out o h done = answered (Remarks (IsTooManyRemark source.name source.bytes)) answer out o h done
-answered_by false source answer out o h done = answered (Remarks (IsConditionsRemark source.name source.bytes)) answer out o h done
+-- a refusal has status 2
+refused : (F : InputFault → Type 0) (source : Text) (certs : List ℕ) (out : Stream) (o : Outcome) → Refuses F source certs o → IsDone out o → ⊥
+refused F source certs out o h done =
+    let r = on_report (IsRefusal source certs h.0) out o h.2 done in
+    let two = r.1.line.1 in
+    let zero = r.2 in
+    omega (arith, two, zero)
 
 -- ---- of a command that proves
 
@@ -109,15 +114,15 @@ warranted b form runs text answer out w is =
     (w.0 is.0, λ wrote. w.1 is.0 (written_text (SaysUnblockedIn runs form) out.before out.after answer.text.items is.1 wrote))
 
 proved : (b : Bool) (form : ReportForm) (runs : Bool) (source : Text) (reply : Proving) (out : Stream) (o : Outcome) → WarrantsBy b form runs source.bytes reply
-    → FollowsProving b source reply o → IsDone out o
+    → FollowsProving source reply o → IsDone out o
     → HoldsBy b IsProvenSource source.bytes × (Wrote (SaysUnblockedIn runs form) out.before out.after → HoldsBy b IsNeverStuckSource source.bytes)
 proved b form runs source (provings.Answer a) out o w follows done =
-    warranted b form runs source.bytes a out w (answered_by b source a out o follows done)
+    warranted b form runs source.bytes a out w (answered (λ r. r.note ≡ Ok None) a out o follows done)
 proved b form runs source (provings.Refused a fault) out o w follows done =
     warranted b form runs source.bytes a out w (answered (Noted (IsExpansionNote source fault)) a out o follows done)
 proved b form runs source (provings.BadConstant word) out o w follows done = absurd (no_word (λ _ _. ⊥) word out o follows done)
 proved b form runs source (provings.BadStart word own) out o w follows done =
-    absurd (no_word (IsValueRemark gives.Ranges own.items) word out o follows done)
+    absurd (no_word (IsStartRemark own.items) word out o follows done)
 
 -- a text or JSON without runs says it as a check does
 says_in : (json : Bool) (before after : Option (List ℕ)) → Wrote (SaysUnblocked json) before after → Wrote (SaysUnblockedIn false (report_form json)) before after
@@ -129,45 +134,60 @@ unblocked_by : (runs : Option ℕ) (json : Bool) (out : Stream) (P : Type 0) →
 unblocked_by None json out P f = λ wrote. f (says_in json out.before out.after wrote)
 unblocked_by (Some limit) json out P f = tt
 
-ran_proved : (limit : ℕ) (source certs : List ℕ) (words : List (List ℕ)) (R : Option (List ℕ) → Type 0) (V : List ℕ → List ℕ → Type 0) (reply : Running) (out : Stream) (o : Outcome)
-    → IsRanProved limit source certs words reply → FollowsRunning R V reply o → IsDone out o → IsProvenSource source
-ran_proved limit source certs words R V (runnings.Told ran) out o is follows done =
-    let r = on_report (IsRunReport R ran) out o follows done in
-    run_proven limit source certs words (runnings.Told ran) is (inl (ap (λ a. a.status) (sym r.1.0) ∙ r.2))
-ran_proved limit source certs words R V (runnings.BadValue word) out o is follows done = absurd (no_word V word out o follows done)
-ran_proved limit source certs words R V (runnings.NotMade line) out o is follows done = absurd (subst (IsDone out) follows done)
+-- a run with status 0 is one that certificates prove safe
+proven_of : (limit : ℕ) (o : Program) (source certs : List ℕ) (words : List (List ℕ)) (ran : Ran) → IsRanProved limit o source certs words (runnings.Ran ran)
+    → ran.answer.status ≡ 0 → IsProvenOutline o
+proven_of limit o source certs words ran (inl early) zero = absurd early
+proven_of limit o source certs words ran (inr (values, gives, (entries, found, inl unsafe))) zero =
+    let one = unsafe.1.0.1 in absurd (omega (arith, one, zero))
+proven_of limit o source certs words ran (inr (values, gives, (entries, found, inr safe))) zero = safe.1
+
+ran_proved : (limit : ℕ) (source : Text) (certs : List ℕ) (p : Program) (words : List (List ℕ)) (reply : Running) (out : Stream) (o : Outcome)
+    → IsRanProved limit p source.bytes certs words reply → FollowsRunning source p words None reply o → IsDone out o → IsProvenOutline p
+ran_proved limit source certs p words (runnings.Ran ran) out o is follows done =
+    let r = on_report (IsRunReport source p words ran) out o follows done in
+    proven_of limit p source.bytes certs words ran is (ap (λ (a : Answer). a.status) (sym r.1.0) ∙ r.2)
+ran_proved limit source certs p words (runnings.BadValue word) out o is follows done = absurd (no_word (IsWordRemark p None) word out o follows done)
+ran_proved limit source certs p words (runnings.NotMade line) out o is follows done = absurd (subst (IsDone out) follows done)
 
 -- ---- of a job
 
 of_prove : (world : World) (out : Stream) (prove : Prove) (o : Outcome) → Proves world prove o → IsDone out o
     → IsProvenText world prove.source.now
     × IfNone prove.runs (PrintsUnblocked prove.json out → Reads source_of (bytes_in world prove.source.now) (HoldsOf IsNeverStuckSource))
-of_prove world out prove o h done =
-    let source = named prove.source.now h.0 in
-    let w = proved (is_template h.0) (report_form prove.json) (is_some prove.runs) source h.2.0 out o h.2.2 h.2.3 done in (
-      (h.0, h.1, w.0),
+of_prove world out prove o (source, text, inl (reply, is, warrants, follows)) done =
+    let w = proved (is_template source) (report_form prove.json) (is_some prove.runs) (named prove.source.now source) reply out o warrants follows done in (
+      (source, text, w.0),
       unblocked_by prove.runs prove.json out (Reads source_of (bytes_in world prove.source.now) (HoldsOf IsNeverStuckSource))
-          (λ wrote. (h.0, h.1, w.1 wrote)),
+          (λ wrote. (source, text, w.1 wrote)),
     )
+of_prove world out prove o (source, text, inr refusal) done =
+    absurd (refused (IsFaultOfText source) (named prove.source.now source) [] out o refusal done)
 
 of_show : (world : World) (out : Stream) (show : Show) (o : Outcome) → Shows world show o → IsDone out o → IsProvenFile world show.source.now
-of_show world out show o h done =
-    let w = proved false reports.Page (is_some show.runs) (named show.source.now h.0) h.2.0 out o h.2.2 h.2.3 done in
-    (h.0, h.1, w.0)
+of_show world out show o (source, text, inl (reply, is, warrants, follows)) done =
+    let w = proved false reports.Page (is_some show.runs) (named show.source.now source) reply out o warrants follows done in
+    (source, text, w.0)
+of_show world out show o (source, text, inr refusal) done =
+    absurd (refused (IsFaultOfConditions source) (named show.source.now source) [] out o refusal done)
 
 of_run : (certs schedule : Option (Bor (List ℕ))) (world : World) (out : Stream) (run : Run) (o : Outcome) → RunsBy certs schedule world run o → IsDone out o
     → IfSome certs (λ _. IsProvenFile world run.source.now)
 of_run None schedule world out run o h done = tt
-of_run (Some certs) schedule world out run o h done =
-    let words = word_bytes run.values.items in
-    let r = h.2.2 in
-    (h.0, h.1, ran_proved run.limit h.0 h.2.0 words (IsProvedRunRemark run.source.now certs.now h.0 h.2.0 words) (IsWordRemark h.0 None) r.0 out o r.1 r.2 done)
+of_run (Some certs) schedule world out run o (source, text, (k, certs_text, inl (p, is, (reply, ran, follows)))) done =
+    let proven = ran_proved run.limit (named run.source.now source) k p (word_bytes run.values.items) reply out o ran follows done in
+    (source, text, (p, is, proven.0, proven.1))
+of_run (Some certs) schedule world out run o (source, text, (k, certs_text, inr refusal)) done =
+    absurd (refused (IsRefusedCheck source k) (named run.source.now source) certs.now out o refusal done)
 
-of_check : (json : Bool) (source certs : Text) (out : Stream) (o : Outcome) → OnReport (IsCheckReport json source certs) o → IsDone out o
+of_check : (json : Bool) (source certs : Text) (out : Stream) (o : Outcome) → IsCheckOutcome json source certs o → IsDone out o
     → IsProvenSource source.bytes × (PrintsUnblocked json out → IsNeverStuckSource source.bytes)
-of_check json source certs out o h done =
+of_check json source certs out o (inl h) done =
     let r = on_report (IsCheckReport json source certs) out o h done in
-    (r.1.1.0 r.2, λ wrote. wrote_unblocked json source.bytes r.0.answer.text.items out.before out.after r.0.answer.status r.1.1 r.3 r.2 wrote)
+    let warrants = r.1.4 in
+    (warrants.0 r.2, λ wrote. wrote_unblocked json source.bytes r.0.answer.text.items out.before out.after r.0.answer.status warrants r.3 r.2 wrote)
+of_check json source certs out o (inr refusal) done =
+    absurd (refused (IsRefusedCheck source.bytes certs.bytes) source certs.name out o refusal done)
 
 of_done : (world : World) (out : Stream) (job : Job) (o : Outcome) → IsOutcome world job o → IsDone out o → IsProven world job × IsNeverStuck world out job
 of_done world out jobs.Joined o h done =

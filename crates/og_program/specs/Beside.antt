@@ -1,9 +1,15 @@
 -- What goes to standard error beside an answer or certificates, and which outcome a reply has.
-use Rattle.std.specs.Prelude.{◌≡◌, ◌≢◌, ℕ, List, Option, option_map, None, IfSome, Result, Ok, IfOk, Vec}
+use Rattle.std.specs.Prelude.{◌≡◌, ◌≢◌, ℕ, List, Option, option_map, None, Some, IfSome, Result, Ok, IfOk, Vec}
 use Rattle.std.specs.Borrow.{Bor}
 use Rattle.std.specs.Global.{Global}
 use Rattle.std.specs.declared.alloc.AllocError.{AllocError}
+use Rattle.og_judge.specs.declared.refusal.Refusal.{Refusal}
+use Rattle.og_judge.specs.declared.refusal.Refusal.TheVariants as refusals
+use Rattle.og_report_refusal.specs.Advice.{IsAdvice}
+use Rattle.og_report_text.specs.Answers.{IsFaultAnswer}
 use Rattle.og_report_text.specs.declared.answer.Answer.{Answer}
+use Rattle.og_report_text.specs.declared.fault.InputFault.{InputFault}
+use Rattle.og_program.specs.World.{Text}
 use Rattle.og_program.specs.declared.outcome.Certificates.{Certificates}
 use Rattle.og_program.specs.declared.outcome.Outcome.{Outcome}
 use Rattle.og_program.specs.declared.outcome.Outcome.TheVariants as outcomes
@@ -16,16 +22,17 @@ IsNote R note = IfOk note (λ text. R (option_map (λ t. t.items) text))
 abbrev pub Noted : (Option (List ℕ) → Type 0) → Report → Type 0
 Noted R report = IsNote R report.note
 
--- where the status is 2 it is such as R says, and else it is nothing
-abbrev pub Remarks : (Option (List ℕ) → Type 0) → Report → Type 0
-Remarks R report =
-    (report.answer.status ≡ 2 → Noted R report) × (report.answer.status ≢ 2 → report.note ≡ Ok None)
+-- ---- the refusal of input
 
--- the same, and where the status is 1 it is such as M says
-abbrev pub RemarksBoth : (Option (List ℕ) → Type 0) → (Option (List ℕ) → Type 0) → Report → Type 0
-RemarksBoth R M report =
-    (report.answer.status ≡ 2 → Noted R report) × (report.answer.status ≡ 1 → Noted M report)
-    × (report.answer.status ≢ 2 → report.answer.status ≢ 1 → report.note ≡ Ok None)
+-- where the fault of a source stands, why, and what to write
+abbrev pub IsAdviceNote : Text → List ℕ → InputFault → Option (List ℕ) → Type 0
+IsAdviceNote source certs fault None = ⊥
+IsAdviceNote source certs fault (Some text) = IsAdvice source.name certs source.bytes fault text
+
+-- of a source, and of certificates of this name, for a fault: its line with status 2, and that beside it
+pub record IsRefusal (source : Text) (certs : List ℕ) (fault : InputFault) (report : Report) : Type 0 where
+  pub line : IsFaultAnswer source.bytes fault report.answer
+  pub why : Noted (IsAdviceNote source certs fault) report
 
 -- ---- an outcome of one kind, such as P says
 
@@ -45,10 +52,24 @@ OnBadValue V word _ = ⊥
 
 -- ---- an answer
 
--- this one, and beside a refusal what R says
-abbrev pub Answers : (Option (List ℕ) → Type 0) → Answer → Outcome → Type 0
-Answers R answer outcome = OnReport (λ report. (report.answer ≡ answer) × Remarks R report) outcome
+-- this one, and nothing beside it
+abbrev pub Answers : Answer → Outcome → Type 0
+Answers answer = OnReport (λ report. (report.answer ≡ answer) × (report.note ≡ Ok None))
 
--- this one, which is a refusal, and beside it what R says
-abbrev pub Refuses : (Option (List ℕ) → Type 0) → Answer → Outcome → Type 0
-Refuses R answer outcome = OnReport (λ report. (report.answer ≡ answer) × Noted R report) outcome
+-- this one, and beside it what R says
+abbrev pub Remarks : (Option (List ℕ) → Type 0) → Answer → Outcome → Type 0
+Remarks R answer = OnReport (λ report. (report.answer ≡ answer) × Noted R report)
+
+-- ---- what a refusal of input becomes
+
+-- the refusal for this fault; want of memory or of a thread has no outcome
+abbrev pub IsRefused : Text → List ℕ → Refusal → Outcome → Type 0
+IsRefused source certs (refusals.Input fault) outcome =
+    OnReport (IsRefusal source certs fault) outcome
+IsRefused source certs refusals.Spawn outcome = ⊥
+IsRefused source certs refusals.Memory outcome = ⊥
+
+-- the refusal for a fault such as F says
+abbrev pub Refuses : (InputFault → Type 0) → Text → List ℕ → Outcome → Type 0
+Refuses F source certs outcome =
+    (fault : InputFault) × F fault × OnReport (IsRefusal source certs fault) outcome

@@ -1,14 +1,17 @@
 -- Which outcome each command has, by the texts that it reads.
-use Rattle.std.specs.Prelude.{◌≡◌, ◌≢◌, ◌⊎◌, ℕ, Bool, true, false, List, [], Option, None, Some, is_some, Ok, codes}
+use Rattle.std.specs.Prelude.{◌≡◌, ◌≢◌, ◌⊎◌, ℕ, Bool, true, false, List, [], Option, None, Some, IfSome, is_some, Result, Ok, Vec, codes}
 use Rattle.std.specs.Borrow.{Bor}
+use Rattle.std.specs.Global.{Global}
+use Rattle.std.specs.declared.alloc.AllocError.{AllocError}
 use Rattle.og_io.specs.Joined.{IsSplit}
+use Rattle.og_typed.specs.Syntax.{Program}
+use Rattle.og_typed.specs.Source.{IsSource}
 use Rattle.og_find.specs.declared.counting.Missing.{Missing}
-use Rattle.og_report_text.specs.Told.{Says}
+use Rattle.og_report_text.specs.Answers.{Says}
 use Rattle.og_report_text.specs.declared.answer.Answer.{Answer}
 use Rattle.og_report_refusal.specs.Expansion.{IsExpansionRemark}
-use Rattle.og_report_refusal.specs.Missing.{missing_text, long_text, IsMissingRemark}
-use Rattle.og_report_refusal.specs.Remarks.{IsSourceRemark, IsConditionsRemark, IsTooManyRemark, IsCheckRemark, IsCertificatesRemark}
-use Rattle.og_report_refusal.specs.Starting.{IsRunRemark, IsProvedRunRemark}
+use Rattle.og_report_refusal.specs.Missing.{missing_text, long_text}
+use Rattle.og_report_refusal.specs.Starting as starting
 use Rattle.og_report_refusal.specs.Values.{schedule_text, reason_line, IsValueRemark}
 use Rattle.og_report_refusal.specs.declared.values.Gives.TheVariants as gives
 use Rattle.og_report_conditions.specs.Chosen as listing
@@ -16,15 +19,18 @@ use Rattle.og_report_conditions.specs.declared.choosing.Reply.{Reply as Listing}
 use Rattle.og_report_conditions.specs.declared.choosing.Reply.TheVariants as listings
 use Rattle.og_report_conditions.specs.declared.form.Form.{Form}
 use Rattle.og_report_conditions.specs.declared.form.Form.TheVariants as forms
-use Rattle.og_template.specs.Front.{is_template}
 use Rattle.og_template_outline.specs.Expanded as expanding
 use Rattle.og_template_outline.specs.declared.fault.ExpandFault.{ExpandFault}
 use Rattle.og_template_outline.specs.declared.expanding.Reply.{Reply as Expanding}
 use Rattle.og_template_outline.specs.declared.expanding.Reply.TheVariants as expandings
-use Rattle.og_command_check.specs.Answers.{IsChecked}
+use Rattle.og_command_check.specs.Answers.{IsReported}
 use Rattle.og_command_check.specs.Commands.{IsErased}
 use Rattle.og_command_check.specs.Inputs.{joined_of, Reads}
-use Rattle.og_command_check.specs.Making.{IsFound, IsMigrated}
+use Rattle.og_command_check.specs.Making.{IsFound, IsMigrated, IsFaultOfCerts}
+use Rattle.og_command_check.specs.declared.answer.CheckReply.{CheckReply}
+use Rattle.og_judge.specs.Report.{IsRefused as IsRefusedCheck}
+use Rattle.og_report_text.specs.InputErrors.{IsFaultOfSource, IsFaultOfConditions}
+use Rattle.og_report_text.specs.declared.fault.InputFault.{InputFault}
 use Rattle.og_command_check.specs.Warrants.{Warrants}
 use Rattle.og_command_check.specs.declared.making.FindReply.{FindReply}
 use Rattle.og_command_check.specs.declared.making.FindReply.TheVariants as finds
@@ -32,7 +38,8 @@ use Rattle.og_command_check.specs.declared.making.LongText.{LongText}
 use Rattle.og_command_explore.specs.Explored as exploring
 use Rattle.og_command_explore.specs.declared.exploring.Reply.{Reply as Exploring}
 use Rattle.og_command_explore.specs.declared.exploring.Reply.TheVariants as explorings
-use Rattle.og_command_notes.specs.Noted.{IsNoted}
+use Rattle.og_command_notes.specs.Noted.{IsNotes}
+use Rattle.og_report_text.specs.Subject.{in_own_text}
 use Rattle.og_command_prove.specs.Reply as proving
 use Rattle.og_command_prove.specs.Warrants as warrants
 use Rattle.og_command_prove.specs.declared.form.ReportForm.{ReportForm}
@@ -59,32 +66,59 @@ use Rattle.og_words.specs.declared.job.Show.{Show}
 use Rattle.og_words.specs.declared.job.Job.{Job}
 use Rattle.og_words.specs.declared.job.Job.TheVariants as jobs
 use Rattle.og_program.specs.World.{World, Text, named, OfSource, OfCerts, OfBoth}
-use Rattle.og_program.specs.Beside.{IsNote, Noted, Remarks, RemarksBoth, OnReport, OnCertificates, OnBadValue, Answers, Refuses}
-use Rattle.og_program.specs.declared.outcome.Certificates.{Certificates}
+use Rattle.og_program.specs.Beside.{IsNote, Noted, Remarks, OnReport, OnCertificates, OnBadValue, Answers, Refuses}
 use Rattle.og_program.specs.declared.outcome.Outcome.{Outcome}
 use Rattle.og_program.specs.declared.outcome.Outcome.TheVariants as outcomes
 use Rattle.og_program.specs.declared.outcome.Report.{Report}
 
+-- ---- an outline
+
+-- P of the text of a source and of its outline, or the refusal for its first fault
+abbrev pub OfOutline : World → List ℕ → (Text → Program → Outcome → Type 0) → Outcome → Type 0
+OfOutline world name P outcome =
+    OfSource world name (λ source. ((o : Program) × IsSource source.bytes o × P source o outcome)
+    ⊎ Refuses (IsFaultOfSource source.bytes) source [] outcome)
+
 -- ---- check
 
--- the answer of a check, and what it says of the source
+-- how many conditions have no certificate
+abbrev pub IsMissingNote : List ℕ → Missing → Option (List ℕ) → Type 0
+IsMissingNote name missing None = ⊥
+IsMissingNote name missing (Some text) = text ≡ missing_text name missing.count missing.conditions
+
+-- that stands beside an answer where some condition has none
+abbrev pub NotesCount : List ℕ → Missing → Result (Option (Vec ℕ Global)) AllocError → Type 0
+NotesCount name missing note =
+    (missing.count ≡ 0 → note ≡ Ok None) × (missing.count ≢ 0 → IsNote (IsMissingNote name missing) note)
+
+-- the same beside the report of a check, where that is not safe
+abbrev pub NotesCheck : List ℕ → CheckReply → Result (Option (Vec ℕ Global)) AllocError → Type 0
+NotesCheck name checked note =
+    (checked.answer.status ≡ 1 → NotesCount name checked.missing note)
+    × (checked.answer.status ≢ 1 → note ≡ Ok None)
+
+-- the report of a check, and what it says of the source
 abbrev pub IsCheckReport : Bool → Text → Text → Report → Type 0
 IsCheckReport json source certs report =
-    IsChecked json source.bytes certs.bytes report.answer
+    (checked : CheckReply) × IsReported json source.bytes certs.bytes checked
+    × (report.answer ≡ checked.answer) × NotesCheck source.name checked report.note
     × Warrants json source.bytes report.answer.text.items report.answer.status
-    × RemarksBoth (IsCheckRemark source.name certs.name source.bytes certs.bytes)
-    (IsMissingRemark source.name source.bytes certs.bytes) report
+
+abbrev pub IsCheckOutcome : Bool → Text → Text → Outcome → Type 0
+IsCheckOutcome json source certs outcome =
+    OnReport (IsCheckReport json source certs) outcome
+    ⊎ Refuses (IsRefusedCheck source.bytes certs.bytes) source certs.name outcome
 
 abbrev pub Checks : World → Check → Outcome → Type 0
 Checks world check outcome =
     OfBoth world check.source.now check.certs.now
-    (λ source certs. OnReport (IsCheckReport check.json source certs) outcome)
+    (λ source certs. IsCheckOutcome check.json source certs outcome)
 
 -- a source and certificates in one input
 abbrev pub ChecksInput : World → Outcome → Type 0
 ChecksInput world outcome =
     Reads joined_of world.input (λ input. (source certs : List ℕ) × IsSplit input source certs
-    × OnReport (IsCheckReport false (named (codes "-") source) (named (codes "-") certs)) outcome)
+    × IsCheckOutcome false (named (codes "-") source) (named (codes "-") certs) outcome)
 
 -- ---- expand
 
@@ -96,17 +130,17 @@ IsExpansionNote template fault (Some text) =
 
 -- of a bad word no line says why
 abbrev pub FollowsExpanding : Text → Expanding → Outcome → Type 0
-FollowsExpanding template (expandings.Answer answer) =
-    Answers (IsSourceRemark template.name template.bytes) answer
+FollowsExpanding template (expandings.Answer answer) = Answers answer
 FollowsExpanding template (expandings.Refused answer fault) =
-    Refuses (IsExpansionNote template fault) answer
+    Remarks (IsExpansionNote template fault) answer
 FollowsExpanding template (expandings.BadValue word) = OnBadValue (λ _ _. ⊥) word
 
 abbrev pub ExpandsText : Expand → Text → Outcome → Type 0
 ExpandsText expand template outcome =
-    (reply : Expanding)
+    ((reply : Expanding)
     × expanding.IsReply expand.as_map template.bytes (word_bytes expand.values.items) reply
-    × FollowsExpanding template reply outcome
+    × FollowsExpanding template reply outcome)
+    ⊎ Refuses (IsFaultOfSource template.bytes) template [] outcome
 
 abbrev pub Expands : World → Expand → Outcome → Type 0
 Expands world expand outcome =
@@ -119,21 +153,18 @@ abbrev pub report_form : Bool → ReportForm
 report_form true = reports.Json
 report_form false = reports.Text
 
--- an answer about a source, or about a template: its outline is refused for the number of its conditions
--- alone
-abbrev pub AnswersBy : Bool → Text → Answer → Outcome → Type 0
-AnswersBy true source = Answers (IsTooManyRemark source.name source.bytes)
-AnswersBy false source = Answers (IsConditionsRemark source.name source.bytes)
+-- why a word gives no variable of the outline in a text a range
+abbrev pub IsStartRemark : List ℕ → List ℕ → List ℕ → Type 0
+IsStartRemark own word line = (o : Program) × IsSource own o × IsValueRemark gives.Ranges o word line
 
 -- of a word that gives no start a line says why by the outline, of one that gives no constant a value
 -- no line does
-abbrev pub FollowsProving : Bool → Text → Proving → Outcome → Type 0
-FollowsProving template source (provings.Answer answer) = AnswersBy template source answer
-FollowsProving template source (provings.Refused answer fault) =
-    Refuses (IsExpansionNote source fault) answer
-FollowsProving template source (provings.BadConstant word) = OnBadValue (λ _ _. ⊥) word
-FollowsProving template source (provings.BadStart word outline) =
-    OnBadValue (IsValueRemark gives.Ranges outline.items) word
+abbrev pub FollowsProving : Text → Proving → Outcome → Type 0
+FollowsProving source (provings.Answer answer) = Answers answer
+FollowsProving source (provings.Refused answer fault) = Remarks (IsExpansionNote source fault) answer
+FollowsProving source (provings.BadConstant word) = OnBadValue (λ _ _. ⊥) word
+FollowsProving source (provings.BadStart word outline) =
+    OnBadValue (IsStartRemark outline.items) word
 
 -- what searches find of each condition of a source or a template, with the runs to false ones where they
 -- are asked for, and what that says of its runs
@@ -141,9 +172,9 @@ abbrev pub ProvesText : Prove → Text → Outcome → Type 0
 ProvesText prove source outcome =
     let form = report_form prove.json in
     let runs = is_some prove.runs in
-    (reply : Proving) × proving.IsReply form runs source.bytes (word_bytes prove.words.items) reply
-    × warrants.Warrants form runs source.bytes reply
-    × FollowsProving (is_template source.bytes) source reply outcome
+    ((reply : Proving) × proving.IsReply form runs source.bytes (word_bytes prove.words.items) reply
+    × warrants.Warrants form runs source.bytes reply × FollowsProving source reply outcome)
+    ⊎ Refuses (proving.IsFaultOfText source.bytes) source [] outcome
 
 abbrev pub Proves : World → Prove → Outcome → Type 0
 Proves world prove outcome =
@@ -153,60 +184,48 @@ Proves world prove outcome =
 abbrev pub ShowsText : Show → Text → Outcome → Type 0
 ShowsText show source outcome =
     let runs = is_some show.runs in
-    (reply : Proving)
+    ((reply : Proving)
     × proving.IsOfSource reports.Page runs source.bytes (word_bytes show.words.items) reply
     × warrants.WarrantsBy false reports.Page runs source.bytes reply
-    × FollowsProving false source reply outcome
+    × FollowsProving source reply outcome)
+    ⊎ Refuses (IsFaultOfConditions source.bytes) source [] outcome
 
 abbrev pub Shows : World → Show → Outcome → Type 0
 Shows world show outcome = OfSource world show.source.now (λ source. ShowsText show source outcome)
 
 -- ---- explore
 
-abbrev pub FollowsExploring : Text → Exploring → Outcome → Type 0
-FollowsExploring source (explorings.Answer answer) =
-    Answers (IsSourceRemark source.name source.bytes) answer
-FollowsExploring source (explorings.BadValue word) =
-    OnBadValue (IsValueRemark gives.Ranges source.bytes) word
+abbrev pub FollowsExploring : Program → Exploring → Outcome → Type 0
+FollowsExploring o (explorings.Answer answer) = Answers answer
+FollowsExploring o (explorings.BadValue word) = OnBadValue (IsValueRemark gives.Ranges o) word
 
-abbrev pub ExploresText : Explore → Text → Outcome → Type 0
-ExploresText explore source outcome =
-    let ranges = word_bytes explore.ranges.items in
-    (reply : Exploring) × exploring.IsReply explore.json source.bytes explore.erased ranges reply
-    × FollowsExploring source reply outcome
+abbrev pub ExploresOutline : Explore → Text → Program → Outcome → Type 0
+ExploresOutline explore source o outcome =
+    let words = word_bytes explore.ranges.items in
+    (reply : Exploring) × exploring.IsReply explore.json (in_own_text o source.bytes) explore.erased words reply
+    × FollowsExploring o reply outcome
 
 abbrev pub Explores : World → Explore → Outcome → Type 0
 Explores world explore outcome =
-    OfSource world explore.source.now (λ source. ExploresText explore source outcome)
+    OfOutline world explore.source.now (ExploresOutline explore) outcome
 
 -- ---- notes, erase and migrate
 
-abbrev pub IsNotesReport : Text → Report → Type 0
-IsNotesReport source report =
-    IsNoted source.bytes report.answer × Remarks (IsSourceRemark source.name source.bytes) report
-
 abbrev pub NotesOn : World → Notes → Outcome → Type 0
 NotesOn world notes outcome =
-    OfSource world notes.source.now (λ source. OnReport (IsNotesReport source) outcome)
-
-abbrev pub IsEraseReport : Bool → Text → Report → Type 0
-IsEraseReport readable source report =
-    IsErased readable source.bytes report.answer
-    × Remarks (IsSourceRemark source.name source.bytes) report
+    OfOutline world notes.source.now
+    (λ s o outcome. (answer : Answer) × IsNotes (in_own_text o s.bytes) answer × Answers answer outcome) outcome
 
 abbrev pub Erases : World → Erase → Outcome → Type 0
 Erases world erase outcome =
-    OfSource world erase.source.now
-    (λ source. OnReport (IsEraseReport erase.readable source) outcome)
-
-abbrev pub IsMigrateReport : Text → Report → Type 0
-IsMigrateReport certs report =
-    IsMigrated certs.bytes report.answer
-    × Remarks (IsCertificatesRemark certs.name certs.bytes) report
+    OfOutline world erase.source.now
+    (λ s o outcome. (answer : Answer) × IsErased erase.readable o answer × Answers answer outcome) outcome
 
 abbrev pub Migrates : World → Migrate → Outcome → Type 0
 Migrates world migrate outcome =
-    OfCerts world migrate.certs.now (λ certs. OnReport (IsMigrateReport certs) outcome)
+    OfCerts world migrate.certs.now
+    (λ c. ((answer : Answer) × IsMigrated c.bytes answer × Answers answer outcome)
+    ⊎ Refuses (IsFaultOfCerts c.bytes) (named [] []) c.name outcome)
 
 -- ---- conditions
 
@@ -216,19 +235,21 @@ form_of triples true = forms.Script
 form_of true false = forms.Triples
 form_of false false = forms.Facts
 
-abbrev pub FollowsListing : Text → Listing → Outcome → Type 0
-FollowsListing source (listings.Listing text) outcome = outcome ≡ outcomes.Listing text
-FollowsListing source (listings.Refused answer) outcome =
-    Answers (IsConditionsRemark source.name source.bytes) answer outcome
-FollowsListing source (listings.Bad word why) outcome =
+abbrev pub FollowsListing : Listing → Outcome → Type 0
+FollowsListing (listings.Listing text) outcome = outcome ≡ outcomes.Listing text
+FollowsListing (listings.Bad word why) outcome =
     outcome ≡ outcomes.BadValue (record { word = word; why = Some why })
 
--- all of a source, or those of a word
+-- all of an outline, or those of a word
+abbrev pub IsListing : Conditions → Program → List ℕ → Listing → Type 0
+IsListing conditions o source reply =
+    listing.IsReply (form_of conditions.triples conditions.smt2) conditions.only o source reply
+
 abbrev pub ListsText : Conditions → Text → Outcome → Type 0
 ListsText conditions source outcome =
-    let form = form_of conditions.triples conditions.smt2 in
-    (reply : Listing) × listing.IsReply form conditions.only source.bytes reply
-    × FollowsListing source reply outcome
+    ((o : Program) × IsSource source.bytes o
+    × ((reply : Listing) × IsListing conditions o source.bytes reply × FollowsListing reply outcome))
+    ⊎ Refuses (IsFaultOfConditions source.bytes) source [] outcome
 
 abbrev pub Lists : World → Conditions → Outcome → Type 0
 Lists world conditions outcome =
@@ -236,93 +257,84 @@ Lists world conditions outcome =
 
 -- ---- find
 
--- how many conditions have no certificate
-abbrev pub IsMissingNote : List ℕ → Missing → Option (List ℕ) → Type 0
-IsMissingNote name missing None = ⊥
-IsMissingNote name missing (Some text) = text ≡ missing_text name missing.count missing.conditions
-
--- it stands beside the certificates where some condition has none
-abbrev pub NotesMissing : List ℕ → Certificates → Type 0
-NotesMissing name certs =
-    (certs.found.missing.count ≡ 0 → certs.note ≡ Ok None)
-    × (certs.found.missing.count ≢ 0 → IsNote (IsMissingNote name certs.found.missing) certs.note)
-
 -- the certificates take more bytes than they may
 abbrev pub IsLongNote : List ℕ → LongText → Option (List ℕ) → Type 0
 IsLongNote name long None = ⊥
 IsLongNote name long (Some text) = text ≡ long_text name long.limit long.second
 
-abbrev pub FollowsFinding : Text → FindReply → Outcome → Type 0
-FollowsFinding source (finds.Found found) =
-    OnCertificates (λ certs. (certs.found ≡ found) × NotesMissing source.name certs)
-FollowsFinding source (finds.TooLong long) =
-    OnReport (λ report. Says [] 1 report.answer × Noted (IsLongNote source.name long) report)
-FollowsFinding source (finds.Refused answer) =
-    Refuses (IsConditionsRemark source.name source.bytes) answer
+abbrev pub FollowsFinding : List ℕ → FindReply → Outcome → Type 0
+FollowsFinding name (finds.Found found) =
+    OnCertificates (λ certs. (certs.found ≡ found) × NotesCount name found.missing certs.note)
+FollowsFinding name (finds.TooLong long) =
+    OnReport (λ report. Says [] 1 report.answer × Noted (IsLongNote name long) report)
 
 -- those that searches find, in a text that may be read
 abbrev pub FindsText : Find → Text → Outcome → Type 0
 FindsText find source outcome =
-    (reply : FindReply) × IsFound find.version 67108864 source.bytes reply
-    × FollowsFinding source reply outcome
+    ((o : Program) × IsSource source.bytes o
+    × ((reply : FindReply) × IsFound find.version 67108864 o reply
+    × FollowsFinding source.name reply outcome))
+    ⊎ Refuses (IsFaultOfConditions source.bytes) source [] outcome
 
 abbrev pub Finds : World → Find → Outcome → Type 0
 Finds world find outcome = OfSource world find.source.now (λ source. FindsText find source outcome)
 
 -- ---- run
 
--- the answer of a run, and beside a refusal what R says, and else the run's line
-abbrev pub IsRunReport : (Option (List ℕ) → Type 0) → Ran → Report → Type 0
-IsRunReport R ran report =
-    (report.answer ≡ ran.answer) × (report.answer.status ≡ 2 → Noted R report)
+-- why the start of a run is refused, where a line says it
+abbrev pub IsStartNote : Text → Program → List (List ℕ) → Option (List ℕ) → Type 0
+IsStartNote source o words note = IfSome note (starting.IsStartRemark source.name source.bytes o words)
+
+-- the answer of a run, and beside the refusal of its start that, and else the run's line
+abbrev pub IsRunReport : Text → Program → List (List ℕ) → Ran → Report → Type 0
+IsRunReport source o words ran report =
+    (report.answer ≡ ran.answer) × (report.answer.status ≡ 2 → Noted (IsStartNote source o words) report)
     × (report.answer.status ≢ 2 → report.note ≡ Ok ran.note)
 
 -- why a word gives no value, or is no schedule
-abbrev pub IsWordRemark : List ℕ → Option (Bor (List ℕ)) → List ℕ → List ℕ → Type 0
-IsWordRemark source None word line = IsValueRemark gives.Values source word line
-IsWordRemark source (Some schedule) word line =
-    IsValueRemark gives.Values source word line
+abbrev pub IsWordRemark : Program → Option (Bor (List ℕ)) → List ℕ → List ℕ → Type 0
+IsWordRemark o None word line = IsValueRemark gives.Values o word line
+IsWordRemark o (Some schedule) word line =
+    IsValueRemark gives.Values o word line
     ⊎ ((word ≡ schedule.now) × (line ≡ reason_line schedule_text))
 
--- R beside a refusal, and V of a word
-abbrev pub FollowsRunning : (Option (List ℕ) → Type 0) → (List ℕ → List ℕ → Type 0) → Running
-    → Outcome → Type 0
-FollowsRunning R V (runnings.Told ran) outcome = OnReport (IsRunReport R ran) outcome
-FollowsRunning R V (runnings.BadValue word) outcome = OnBadValue V word outcome
-FollowsRunning R V (runnings.NotMade line) outcome = outcome ≡ outcomes.NotMade line
+abbrev pub FollowsRunning : Text → Program → List (List ℕ) → Option (Bor (List ℕ)) → Running → Outcome → Type 0
+FollowsRunning source o words schedule (runnings.Ran ran) outcome =
+    OnReport (IsRunReport source o words ran) outcome
+FollowsRunning source o words schedule (runnings.BadValue word) outcome =
+    OnBadValue (IsWordRemark o schedule) word outcome
+FollowsRunning source o words schedule (runnings.NotMade line) outcome = outcome ≡ outcomes.NotMade line
 
 -- in threads
-abbrev pub RunsText : Run → Text → Outcome → Type 0
-RunsText run source outcome =
-    let values = word_bytes run.values.items in
-    (reply : Running) × IsRan run.erased run.limit source.bytes values reply
-    × FollowsRunning (IsRunRemark source.name source.bytes values) (IsWordRemark source.bytes None)
-    reply outcome
+abbrev pub RunsOutline : Run → Text → Program → Outcome → Type 0
+RunsOutline run source o outcome =
+    let words = word_bytes run.values.items in
+    (reply : Running) × IsRan run.erased run.limit o source.bytes words reply
+    × FollowsRunning source o words None reply outcome
 
 -- in one thread, by a schedule
-abbrev pub RunsScheduled : Run → Bor (List ℕ) → Text → Outcome → Type 0
-RunsScheduled run schedule source outcome =
-    let values = word_bytes run.values.items in
-    (reply : Running) × IsScheduled run.erased source.bytes values schedule.now reply
-    × FollowsRunning (IsRunRemark source.name source.bytes values)
-    (IsWordRemark source.bytes (Some schedule)) reply outcome
+abbrev pub RunsScheduled : Run → Bor (List ℕ) → Text → Program → Outcome → Type 0
+RunsScheduled run schedule source o outcome =
+    let words = word_bytes run.values.items in
+    (reply : Running) × IsScheduled run.erased o source.bytes words schedule.now reply
+    × FollowsRunning source o words (Some schedule) reply outcome
 
 -- in threads, where certificates prove it safe
-abbrev pub RunsProved : Run → Text → Text → Outcome → Type 0
-RunsProved run source certs outcome =
-    let values = word_bytes run.values.items in
-    (reply : Running) × IsRanProved run.limit source.bytes certs.bytes values reply
-    × FollowsRunning (IsProvedRunRemark source.name certs.name source.bytes certs.bytes values)
-    (IsWordRemark source.bytes None) reply outcome
+abbrev pub RunsProved : Run → Text → List ℕ → Program → Outcome → Type 0
+RunsProved run source certs o outcome =
+    let words = word_bytes run.values.items in
+    (reply : Running) × IsRanProved run.limit o source.bytes certs words reply
+    × FollowsRunning source o words None reply outcome
 
 -- by its certificates, and else by its schedule
 abbrev pub RunsBy : Option (Bor (List ℕ)) → Option (Bor (List ℕ)) → World → Run → Outcome → Type 0
-RunsBy None None world run outcome =
-    OfSource world run.source.now (λ source. RunsText run source outcome)
+RunsBy None None world run outcome = OfOutline world run.source.now (RunsOutline run) outcome
 RunsBy None (Some schedule) world run outcome =
-    OfSource world run.source.now (λ source. RunsScheduled run schedule source outcome)
+    OfOutline world run.source.now (RunsScheduled run schedule) outcome
 RunsBy (Some certs) schedule world run outcome =
-    OfBoth world run.source.now certs.now (λ source certs. RunsProved run source certs outcome)
+    OfBoth world run.source.now certs.now (λ s c.
+    ((o : Program) × IsSource s.bytes o × RunsProved run s c.bytes o outcome)
+    ⊎ Refuses (IsRefusedCheck s.bytes c.bytes) s c.name outcome)
 
 abbrev pub Runs : World → Run → Outcome → Type 0
 Runs world run = RunsBy run.certs run.schedule world run

@@ -27,13 +27,18 @@ fault_text (faults.NotWritten writes.Failed) = codes "og: write failed\n"
 fault_text faults.Memory = codes "og: out of memory\n"
 fault_text faults.Spawn = codes "og: no thread\n"
 
--- a job that opens these files was not done: one of them was not read, memory ran out, or, only
--- where S, a thread was not started; nothing is written yet
+-- memory ran out, or, only where S, a thread was not started
+abbrev pub IsWant : Type 0 → Fault → Type 0
+IsWant S (faults.NotRead name why) = ⊥
+IsWant S (faults.NotWritten fault) = ⊥
+IsWant S faults.Memory = ⊤
+IsWant S faults.Spawn = S
+
+-- a job that opens these files was not done: one of them was not read, or there was such a want;
+-- nothing is written yet
 abbrev pub IsFault : FileNames → Type 0 → Fault → Type 0
 IsFault files S (faults.NotRead name why) = Opens files name.now
-IsFault files S (faults.NotWritten fault) = ⊥
-IsFault files S faults.Memory = ⊤
-IsFault files S faults.Spawn = S
+IsFault files S fault = IsWant S fault
 
 abbrev pub is_not_read : Fault → Bool
 is_not_read (faults.NotRead name why) = true

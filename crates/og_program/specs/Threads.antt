@@ -2,6 +2,8 @@
 use Rattle.std.specs.Prelude.{◌<◌, ℕ, List, Option, None, Some}
 use Rattle.std.specs.Borrow.{Bor}
 use Rattle.og_command_run.specs.Starts.{HasStart, HasProvedStart}
+use Rattle.og_typed.specs.Source.{IsSource}
+use Rattle.og_typed.specs.Syntax.{Program}
 use Rattle.og_words.specs.Jobs.{word_bytes}
 use Rattle.og_words.specs.declared.job.Job.{Job}
 use Rattle.og_words.specs.declared.job.Job.TheVariants as jobs
@@ -11,13 +13,15 @@ use Rattle.og_program.specs.World.{World, OfSource, OfBoth}
 -- a run without certificates and without a schedule: its values are a start
 abbrev pub StartsFree : World → Run → Type 0
 StartsFree world run =
-    OfSource world run.source.now (λ s. HasStart run.erased s.bytes (word_bytes run.values.items))
+    OfSource world run.source.now (λ s. (o : Program) × IsSource s.bytes o
+    × HasStart run.erased o (word_bytes run.values.items))
 
 -- a run by certificates: its values are a start of what they prove safe
 abbrev pub StartsProved : World → Run → List ℕ → Type 0
 StartsProved world run certs =
     OfBoth world run.source.now certs
-    (λ s c. HasProvedStart s.bytes c.bytes (word_bytes run.values.items))
+    (λ s c. (o : Program) × IsSource s.bytes o
+    × HasProvedStart o c.bytes (word_bytes run.values.items))
 
 -- by its certificates, and else by its schedule; along a schedule there are none
 abbrev pub StartsBy : Option (Bor (List ℕ)) → Option (Bor (List ℕ)) → World → Run → Type 0

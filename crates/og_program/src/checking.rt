@@ -1,20 +1,21 @@
 //! Checks, by threads.
 
 ghost use Rattle.std.specs.Prelude.{◌≡◌, ◌<◌, true, IfOk, IfErr, codes};
-ghost use Rattle.og_pool.specs.declared.fault.PoolFault.TheVariants.{Spawn};
 ghost use Rattle.og_program.specs.World.{world_of, named};
 ghost use Rattle.og_program.specs.Opened.{One, Both, LeavesInput, lacks};
-ghost use Rattle.og_program.specs.Failing.{IsFault, IsUnread};
-ghost use Rattle.og_program.specs.Commands.{IsCheckReport, Checks, ChecksInput};
+ghost use Rattle.og_program.specs.Failing.{IsFault, IsUnread, IsWant};
+ghost use Rattle.og_program.specs.Commands.{IsCheckOutcome, Checks, ChecksInput};
 
+use crate::beside::beside_check;
 use crate::fault::Fault;
 use crate::files::Files;
-use crate::outcome::{Outcome, Report};
+use crate::outcome::Outcome;
 use crate::program::Program;
 use crate::reading::{INPUT, joined_from};
+use crate::refusing::refuse;
 use og_command_check::{Options, checked};
 use og_io::{Workers, split};
-use og_pool::{Gate, PoolFault};
+use og_pool::Gate;
 use og_report_refusal::Names;
 use og_words::Check;
 use std::io::Read;
@@ -23,20 +24,25 @@ use std::thread::Threads;
 
 impl<'r, F: Files, G: Gate, H: Threads + Wait + Sync> Program<'r, F, G, H> {
     // Checks a source by certificates of these names.
-    fn check_bytes(
+    fn check_bytes<'a>(
         &self,
         names: Names<'_>,
         source: &[u8],
         certs: &[u8],
         options: Options,
-    ) -> Result<Report, PoolFault>
+    ) -> Result<Outcome<'a>, Fault<'a>>
         ensures report { IfOk result
-            (IsCheckReport options.json (named names.entry.source.now source.now)
+            (IsCheckOutcome options.json (named names.entry.source.now source.now)
             (named names.entry.certs.now certs.now)) }
-        ensures spawn { IfErr result (λ e. e ≡ Spawn → 1 < options.workers) }
+        ensures want { IfErr result (IsWant (1 < options.workers)) }
     {
-        let answer = checked(self.rt, self.alloc, source, certs, options, self.gate)?;
-        Ok(self.beside_check(names, source, certs, answer))
+        match checked(self.rt, self.alloc, source, certs, options, self.gate) {
+            Ok(checked) => {
+                let report = beside_check(self.alloc, names.source, checked);
+                Ok(Outcome::Report(report))
+            }
+            Err(refusal) => refuse(self.alloc, names, source, refusal),
+        }
     }
 
     /// Checks one input that holds the source and then the certificates.
@@ -55,8 +61,7 @@ impl<'r, F: Files, G: Gate, H: Threads + Wait + Sync> Program<'r, F, G, H> {
             workers: Workers::ONE,
             json: false,
         };
-        let report = self.check_bytes(names, source, certs, options)?;
-        Ok(Outcome::Report(report))
+        self.check_bytes(names, source, certs, options)
     }
 
     /// Checks a source by certificates.
@@ -83,7 +88,6 @@ impl<'r, F: Files, G: Gate, H: Threads + Wait + Sync> Program<'r, F, G, H> {
             json: check.json,
         };
         let (source, certs) = self.both_bytes(names, input)?;
-        let report = self.check_bytes(names, &source, &certs, options)?;
-        Ok(Outcome::Report(report))
+        self.check_bytes(names, &source, &certs, options)
     }
 }

@@ -1,24 +1,30 @@
 //! Commands that print what they make of one file, in one thread.
 
 ghost use Rattle.std.specs.Prelude.{◌≡◌, true, IfErr, IfOk};
+ghost use Rattle.og_typed.specs.Syntax as syntax;
+ghost use Rattle.og_typed.specs.Source.{IsSource};
+ghost use Rattle.og_report_text.specs.InputErrors.{OnFault, IsFaultOfConditions};
 ghost use Rattle.og_program.specs.World.{world_of};
 ghost use Rattle.og_program.specs.Opened.{One, LeavesInput, lacks};
 ghost use Rattle.og_program.specs.Failing.{IsFault, IsUnread};
-ghost use Rattle.og_program.specs.Commands.{form_of, NotesOn, Lists, Erases, Explores, Expands, Migrates};
+ghost use Rattle.og_program.specs.Commands.{form_of, IsListing, NotesOn, Lists, Erases, Explores, Expands, Migrates};
 
-use crate::beside::{
-    beside_certificates, beside_expansion, beside_exploration, beside_listing, beside_source,
-};
+use crate::beside::{alone, beside_expansion, beside_exploration, beside_listing};
 use crate::fault::Fault;
 use crate::files::Files;
 use crate::outcome::Outcome;
 use crate::program::Program;
+use crate::refusing::{refuse, refuse_source, refuse_unread};
 use og_command_check::{erased, migrated};
 use og_command_explore::{Request, explored};
 use og_command_notes::noted;
-use og_report_conditions::{Form, listed};
+use og_report_conditions::{Form, Reply as Listed, listed};
+use og_report_refusal::Names;
+use og_report_text::{InputError, Subject};
 use og_template_outline::expanded;
+use og_typed::Source;
 use og_words::{Conditions, Erase, Expand, Explore, Migrate, Notes};
+use std::alloc::Global;
 use std::io::Read;
 
 // How conditions are listed, by the flags that are given.
@@ -34,6 +40,21 @@ fn form_of(triples: bool, smt2: bool) -> Form
     }
 }
 
+// The conditions of a source, in the form that is asked for.
+fn list<'a>(
+    alloc: Global,
+    conditions: &Conditions<'a>,
+    bytes: &[u8],
+) -> Result<Listed<'a>, InputError>
+    ensures listing { IfOk result (λ reply. (o : syntax.Program) × IsSource bytes.now o
+        × IsListing conditions.now o bytes.now reply) }
+    ensures refused { IfErr result (OnFault (IsFaultOfConditions bytes.now)) }
+{
+    let source = Source::read(alloc, bytes)?;
+    let form = form_of(conditions.triples, conditions.smt2);
+    listed(alloc, form, conditions.only, source)
+}
+
 impl<'r, F: Files, G, H> Program<'r, F, G, H> {
     /// What a yes of an outline claims, for a reviewer.
     pub(crate) fn notes<'a, I: Read>(
@@ -41,18 +62,22 @@ impl<'r, F: Files, G, H> Program<'r, F, G, H> {
         notes: &Notes<'a>,
         input: &mut I,
     ) -> Result<Outcome<'a>, Fault<'a>>
-        ensures outcome { IfOk result (NotesOn
-            (world_of F.contents F.is_missing I.remaining self.now input.old) notes.now) }
+        ensures outcome { IfOk result
+            (NotesOn (world_of F.contents F.is_missing I.remaining self.now input.old) notes.now) }
         ensures fault { IfErr result (IsFault (One notes.now.source.now) ⊥) }
         ensures missing { lacks (F.is_missing self.now.files.now) (One notes.now.source.now) ≡ true
             → IsUnread result }
         ensures kept { LeavesInput (One notes.now.source.now)
             → I.remaining input.new ≡ I.remaining input.old }
     {
-        let source = self.source_bytes(notes.source, input)?;
-        let answer = noted(self.alloc, &source, notes.budget)?;
-        let report = beside_source(self.alloc, notes.source, &source, answer);
-        Ok(Outcome::Report(report))
+        let bytes = self.source_bytes(notes.source, input)?;
+        match Source::read(self.alloc, &bytes) {
+            Ok(source) => {
+                let answer = noted(self.alloc, &Subject::of_source(&source), notes.budget)?;
+                Ok(Outcome::Report(alone(answer)))
+            }
+            Err(error) => refuse_unread(self.alloc, notes.source, &bytes, error),
+        }
     }
 
     /// The conditions of a source: all, or those whose numbers a word has.
@@ -61,18 +86,19 @@ impl<'r, F: Files, G, H> Program<'r, F, G, H> {
         conditions: &Conditions<'a>,
         input: &mut I,
     ) -> Result<Outcome<'a>, Fault<'a>>
-        ensures outcome { IfOk result (Lists
-            (world_of F.contents F.is_missing I.remaining self.now input.old) conditions.now) }
+        ensures outcome { IfOk result
+            (Lists (world_of F.contents F.is_missing I.remaining self.now input.old) conditions.now) }
         ensures fault { IfErr result (IsFault (One conditions.now.source.now) ⊥) }
         ensures missing { lacks (F.is_missing self.now.files.now)
             (One conditions.now.source.now) ≡ true → IsUnread result }
         ensures kept { LeavesInput (One conditions.now.source.now)
             → I.remaining input.new ≡ I.remaining input.old }
     {
-        let source = self.source_bytes(conditions.source, input)?;
-        let form = form_of(conditions.triples, conditions.smt2);
-        let reply = listed(self.alloc, form, conditions.only, &source)?;
-        Ok(beside_listing(self.alloc, conditions.source, &source, reply))
+        let bytes = self.source_bytes(conditions.source, input)?;
+        match list(self.alloc, conditions, &bytes) {
+            Ok(reply) => Ok(beside_listing(reply)),
+            Err(error) => refuse_source(self.alloc, conditions.source, &bytes, error.into()),
+        }
     }
 
     /// The program of a source without its auxiliary variables.
@@ -81,18 +107,22 @@ impl<'r, F: Files, G, H> Program<'r, F, G, H> {
         erase: &Erase<'a>,
         input: &mut I,
     ) -> Result<Outcome<'a>, Fault<'a>>
-        ensures outcome { IfOk result (Erases
-            (world_of F.contents F.is_missing I.remaining self.now input.old) erase.now) }
+        ensures outcome { IfOk result
+            (Erases (world_of F.contents F.is_missing I.remaining self.now input.old) erase.now) }
         ensures fault { IfErr result (IsFault (One erase.now.source.now) ⊥) }
         ensures missing { lacks (F.is_missing self.now.files.now) (One erase.now.source.now) ≡ true
             → IsUnread result }
         ensures kept { LeavesInput (One erase.now.source.now)
             → I.remaining input.new ≡ I.remaining input.old }
     {
-        let source = self.source_bytes(erase.source, input)?;
-        let answer = erased(self.alloc, &source, erase.readable)?;
-        let report = beside_source(self.alloc, erase.source, &source, answer);
-        Ok(Outcome::Report(report))
+        let bytes = self.source_bytes(erase.source, input)?;
+        match Source::read(self.alloc, &bytes) {
+            Ok(source) => {
+                let answer = erased(self.alloc, source.outline(), erase.readable)?;
+                Ok(Outcome::Report(alone(answer)))
+            }
+            Err(error) => refuse_unread(self.alloc, erase.source, &bytes, error),
+        }
     }
 
     /// What exploring the program of a source finds, from the starts that the words give.
@@ -101,22 +131,28 @@ impl<'r, F: Files, G, H> Program<'r, F, G, H> {
         explore: &Explore<'a>,
         input: &mut I,
     ) -> Result<Outcome<'a>, Fault<'a>>
-        ensures outcome { IfOk result (Explores
-            (world_of F.contents F.is_missing I.remaining self.now input.old) explore.now) }
+        ensures outcome { IfOk result
+            (Explores (world_of F.contents F.is_missing I.remaining self.now input.old) explore.now) }
         ensures fault { IfErr result (IsFault (One explore.now.source.now) ⊥) }
         ensures missing { lacks (F.is_missing self.now.files.now)
             (One explore.now.source.now) ≡ true → IsUnread result }
         ensures kept { LeavesInput (One explore.now.source.now)
             → I.remaining input.new ≡ I.remaining input.old }
     {
-        let source = self.source_bytes(explore.source, input)?;
+        let bytes = self.source_bytes(explore.source, input)?;
         let request = Request {
             limit: explore.limit.moments(),
             erased: explore.erased,
             json: explore.json,
         };
-        let reply = explored(self.alloc, &source, &explore.ranges, request)?;
-        Ok(beside_exploration(self.alloc, explore.source, &source, reply))
+        match Source::read(self.alloc, &bytes) {
+            Ok(source) => {
+                let subject = Subject::of_source(&source);
+                let reply = explored(self.alloc, &subject, &explore.ranges, request)?;
+                Ok(beside_exploration(self.alloc, source.outline(), reply))
+            }
+            Err(error) => refuse_unread(self.alloc, explore.source, &bytes, error),
+        }
     }
 
     /// The outline that a template means, under the values that the words give.
@@ -125,8 +161,8 @@ impl<'r, F: Files, G, H> Program<'r, F, G, H> {
         expand: &Expand<'a>,
         input: &mut I,
     ) -> Result<Outcome<'a>, Fault<'a>>
-        ensures outcome { IfOk result (Expands
-            (world_of F.contents F.is_missing I.remaining self.now input.old) expand.now) }
+        ensures outcome { IfOk result
+            (Expands (world_of F.contents F.is_missing I.remaining self.now input.old) expand.now) }
         ensures fault { IfErr result (IsFault (One expand.now.template.now) ⊥) }
         ensures missing { lacks (F.is_missing self.now.files.now)
             (One expand.now.template.now) ≡ true → IsUnread result }
@@ -134,8 +170,10 @@ impl<'r, F: Files, G, H> Program<'r, F, G, H> {
             → I.remaining input.new ≡ I.remaining input.old }
     {
         let template = self.source_bytes(expand.template, input)?;
-        let reply = expanded(self.alloc, &template, &expand.values, expand.as_map)?;
-        Ok(beside_expansion(self.alloc, expand.template, &template, reply))
+        match expanded(self.alloc, &template, &expand.values, expand.as_map) {
+            Ok(reply) => Ok(beside_expansion(self.alloc, expand.template, &template, reply)),
+            Err(error) => refuse_source(self.alloc, expand.template, &template, error.into()),
+        }
     }
 
     /// Certificates in version 2.
@@ -144,8 +182,8 @@ impl<'r, F: Files, G, H> Program<'r, F, G, H> {
         migrate: &Migrate<'a>,
         input: &mut I,
     ) -> Result<Outcome<'a>, Fault<'a>>
-        ensures outcome { IfOk result (Migrates
-            (world_of F.contents F.is_missing I.remaining self.now input.old) migrate.now) }
+        ensures outcome { IfOk result
+            (Migrates (world_of F.contents F.is_missing I.remaining self.now input.old) migrate.now) }
         ensures fault { IfErr result (IsFault (One migrate.now.certs.now) ⊥) }
         ensures missing { lacks (F.is_missing self.now.files.now) (One migrate.now.certs.now) ≡ true
             → IsUnread result }
@@ -153,8 +191,13 @@ impl<'r, F: Files, G, H> Program<'r, F, G, H> {
             → I.remaining input.new ≡ I.remaining input.old }
     {
         let certs = self.certificate_bytes(migrate.certs, input)?;
-        let answer = migrated(self.alloc, &certs)?;
-        let report = beside_certificates(self.alloc, migrate.certs, &certs, answer);
-        Ok(Outcome::Report(report))
+        let names = Names {
+            source: "",
+            certs: migrate.certs,
+        };
+        match migrated(self.alloc, &certs) {
+            Ok(answer) => Ok(Outcome::Report(alone(answer))),
+            Err(error) => refuse(self.alloc, names, b"", error.into()),
+        }
     }
 }

@@ -10,6 +10,7 @@ mod files;
 mod outcome;
 mod program;
 mod reading;
+mod refusing;
 mod running;
 mod searching;
 mod serving;

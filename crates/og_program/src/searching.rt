@@ -1,6 +1,12 @@
 //! Commands that search, by threads.
 
 ghost use Rattle.std.specs.Prelude.{◌≡◌, ◌<◌, true, IfErr, IfOk};
+ghost use Rattle.og_typed.specs.Syntax as syntax;
+ghost use Rattle.og_typed.specs.Source.{IsSource};
+ghost use Rattle.og_judge.specs.NotJudged.{OnInput};
+ghost use Rattle.og_judge.specs.declared.refusal.Refusal.TheVariants as refusals;
+ghost use Rattle.og_report_text.specs.InputErrors.{IsFaultOfConditions};
+ghost use Rattle.og_command_check.specs.Making.{IsFound};
 ghost use Rattle.og_program.specs.World.{world_of};
 ghost use Rattle.og_program.specs.Opened.{One, LeavesInput, lacks};
 ghost use Rattle.og_program.specs.Failing.{IsFault, IsUnread};
@@ -11,10 +17,12 @@ use crate::fault::Fault;
 use crate::files::Files;
 use crate::outcome::Outcome;
 use crate::program::Program;
-use og_command_check::{CERTS_LIMIT, Wanted, found};
+use crate::refusing::refuse_source;
+use og_command_check::{CERTS_LIMIT, FindReply, Wanted, found};
 use og_command_prove::{Prover, ReportForm, Search};
+use og_judge::Refusal;
 use og_pool::Gate;
-use og_template::is_template;
+use og_typed::Source;
 use og_words::{Find, Prove, Show};
 use std::io::Read;
 use std::sync::Wait;
@@ -66,9 +74,10 @@ impl<'r, F: Files, G: Gate, H: Threads + Wait + Sync> Program<'r, F, G, H> {
             runs: prove.runs,
         };
         let form = report_form(prove.json);
-        let reply = self.prover(search).prove(&bytes, &prove.words, form)?;
-        let template = is_template(&bytes);
-        Ok(beside_proof(self.alloc, prove.source, &bytes, template, reply))
+        match self.prover(search).prove(&bytes, &prove.words, form) {
+            Ok(reply) => Ok(beside_proof(self.alloc, prove.source, &bytes, reply)),
+            Err(refusal) => refuse_source(self.alloc, prove.source, &bytes, refusal),
+        }
     }
 
     /// A page of what searches find of the conditions of a source, and of runs where they are to be
@@ -92,8 +101,21 @@ impl<'r, F: Files, G: Gate, H: Threads + Wait + Sync> Program<'r, F, G, H> {
             workers: show.workers,
             runs: show.runs,
         };
-        let reply = self.prover(search).show(&bytes, &show.words)?;
-        Ok(beside_proof(self.alloc, show.source, &bytes, false, reply))
+        match self.prover(search).show(&bytes, &show.words) {
+            Ok(reply) => Ok(beside_proof(self.alloc, show.source, &bytes, reply)),
+            Err(refusal) => refuse_source(self.alloc, show.source, &bytes, refusal),
+        }
+    }
+
+    // The certificates that are found for the outline of a source.
+    fn find_in(&self, bytes: &[u8], wanted: Wanted) -> Result<FindReply, Refusal>
+        ensures found { IfOk result (λ reply. (o : syntax.Program) × IsSource bytes.now o
+            × IsFound wanted.version wanted.limit o reply) }
+        ensures refused { IfErr result (OnInput (IsFaultOfConditions bytes.now)) }
+        ensures spawn { IfErr result (λ e. e ≡ refusals.Spawn → 1 < wanted.workers) }
+    {
+        let source = Source::read(self.alloc, bytes)?;
+        found(self.rt, self.alloc, source.outline(), wanted, self.gate)
     }
 
     /// The certificates that are found for a source.
@@ -117,7 +139,9 @@ impl<'r, F: Files, G: Gate, H: Threads + Wait + Sync> Program<'r, F, G, H> {
             version: find.version,
             limit: CERTS_LIMIT,
         };
-        let reply = found(self.rt, self.alloc, &bytes, wanted, self.gate)?;
-        Ok(beside_found(self.alloc, find.source, &bytes, reply))
+        match self.find_in(&bytes, wanted) {
+            Ok(reply) => Ok(beside_found(self.alloc, find.source, reply)),
+            Err(refusal) => refuse_source(self.alloc, find.source, &bytes, refusal),
+        }
     }
 }

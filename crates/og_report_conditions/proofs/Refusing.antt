@@ -1,28 +1,16 @@
--- The answer where conditions are not listed.
-use Rattle.std.proofs.Common.{◌≡◌, ◌<◌, ℕ, List, length, Result, Ok, Err, IfOk, subst}
-use Rattle.std.specs.declared.alloc.AllocError.{AllocError}
+-- Why conditions are not listed.
+use Rattle.std.proofs.Common.{◌≡◌, ◌<◌, length, subst, sym}
 use Rattle.og_typed.specs.Syntax.{Program}
 use Rattle.og_cond.specs.Conditions.{conditions}
 use Rattle.og_cond.specs.Limits.{condition_limit}
 use Rattle.og_cond.specs.declared.fault.ConditionsError.{ConditionsError}
 use Rattle.og_cond.specs.declared.fault.ConditionsError.TheVariants as errors
-use Rattle.og_report_text.specs.Told.{IsTold}
-use Rattle.og_report_text.specs.declared.answer.Answer.{Answer}
-use Rattle.og_report_text.specs.declared.fault.InputFault.TheVariants as faults
-use Rattle.og_report_text.specs.Told.{HasTooMany}
-use Rattle.og_report_conditions.specs.Chosen.{IsWhyNot, IsNotListed}
-use Rattle.og_report_conditions.specs.declared.choosing.Reply.{Reply}
-use Rattle.og_report_conditions.specs.declared.choosing.Reply.TheVariants as replies
+use Rattle.og_report_text.specs.InputErrors.{of_conditions, OnFault, IsFaultOfCount}
+use Rattle.og_report_text.specs.declared.input_error.InputError.{InputError}
+use Rattle.og_report_conditions.specs.Chosen.{IsWhyNot}
 
--- the outline and the bytes that were asked are those of the source
-pub of_error : (P : Reply → Type 0) (source bytes : List ℕ) (o p : Program) (error : ConditionsError) (r : Result Reply AllocError) → bytes ≡ source → p ≡ o
-    → IsWhyNot p error → IfOk r (IsNotListed bytes error) → ((answer : Answer) → HasTooMany o source answer → P (replies.Refused answer)) → IfOk r P
-of_error P source bytes o p error (Err e) same_bytes same why told refused = tt
-of_error P source bytes o p (errors.Fault fault) (Ok (replies.Listing text)) same_bytes same why told refused = absurd told
-of_error P source bytes o p (errors.Fault fault) (Ok (replies.Refused answer)) same_bytes same why told refused =
-    refused answer (
-      subst (λ (q : Program). condition_limit < length (conditions q)) same why,
-      (fault, subst (λ (s : List ℕ). IsTold s (faults.Conditions fault) answer) same_bytes told),
-    )
-of_error P source bytes o p (errors.Fault fault) (Ok (replies.Bad word line)) same_bytes same why told refused = absurd told
-of_error P source bytes o p errors.Memory (Ok reply) same_bytes same why told refused = absurd told
+-- the outline that was asked is that of the source
+pub too_many : (o p : Program) (error : ConditionsError) (e : InputError) → p ≡ o → IsWhyNot p error → e ≡ of_conditions error → OnFault (IsFaultOfCount o) e
+too_many o p (errors.Fault fault) e same why is =
+    subst (OnFault (IsFaultOfCount o)) (sym is) (subst (λ (q : Program). condition_limit < length (conditions q)) same why)
+too_many o p errors.Memory e same why is = subst (OnFault (IsFaultOfCount o)) (sym is) tt

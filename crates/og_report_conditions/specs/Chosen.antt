@@ -10,10 +10,6 @@ use Rattle.og_cond.specs.declared.fault.ConditionsError.{ConditionsError}
 use Rattle.og_cond.specs.declared.fault.ConditionsError.TheVariants as errors
 use Rattle.og_report_text.specs.Places.{◌&◌}
 use Rattle.og_io.specs.Numbers.{AreNumbers}
-use Rattle.og_typed.specs.Source.{IsSource}
-use Rattle.og_report_text.specs.Told.{IsTold, IsUnread}
-use Rattle.og_report_text.specs.declared.fault.InputFault.TheVariants as faults
-use Rattle.og_report_text.specs.Told.{HasTooMany}
 use Rattle.og_report_conditions.specs.Listings.{listing_text}
 use Rattle.og_report_conditions.specs.declared.form.Form.{Form}
 use Rattle.og_report_conditions.specs.declared.choosing.Reply.{Reply}
@@ -38,13 +34,6 @@ abbrev pub IsCounted : Program → Result ℕ ConditionsError → Type 0
 IsCounted o (Ok count) = (count ≡ length (conditions o)) × (length (conditions o) ≤ condition_limit)
 IsCounted o (Err error) = IsWhyNot o error
 
--- the line that says that there are too many conditions
-abbrev pub IsNotListed : List ℕ → ConditionsError → Reply → Type 0
-IsNotListed source (errors.Fault fault) (replies.Listing text) = ⊥
-IsNotListed source (errors.Fault fault) (replies.Refused answer) = IsTold source (faults.Conditions fault) answer
-IsNotListed source (errors.Fault fault) (replies.Bad word line) = ⊥
-IsNotListed source errors.Memory reply = ⊥
-
 -- the listing has this text, and the conditions are within the limit
 abbrev pub IsListing : Form → Option (List ℕ) → Program → List ℕ → List ℕ → Type 0
 IsListing form only o source text = (text ≡ listing_text form only o source) × (length (conditions o) ≤ condition_limit)
@@ -62,20 +51,17 @@ IsNoCondition numbers count line = (n : ℕ) × (find (λ m. not (is_number coun
 
 abbrev pub IsNoNumbers : Bor (List ℕ) → Reply → Type 0
 IsNoNumbers word (replies.Listing text) = ⊥
-IsNoNumbers word (replies.Refused answer) = ⊥
 IsNoNumbers word (replies.Bad bad line) = (bad ≡ word) × (line.items ≡ no_numbers_line)
 
--- where all are asked for: the listing of all, or the line that says that there are too many
+-- where all are asked for: the listing of all
 abbrev pub IsReplyToAll : Form → Program → List ℕ → Reply → Type 0
 IsReplyToAll form o source (replies.Listing text) = IsListing form None o source text
-IsReplyToAll form o source (replies.Refused answer) = HasTooMany o source answer
 IsReplyToAll form o source (replies.Bad word line) = ⊥
 
--- of the numbers in a word: the listing of these, each of which is a condition's, or the line that says that there are too many conditions; or the line of the first number that no condition has
+-- of the numbers in a word: the listing of these, each of which is a condition's; or the line of the first number that no condition has
 abbrev pub IsReplyOf : Form → Bor (List ℕ) → List ℕ → Program → List ℕ → Reply → Type 0
 IsReplyOf form word numbers o source (replies.Listing text) =
     (list_all (is_number (length (conditions o))) numbers ≡ true) × IsListing form (Some numbers) o source text
-IsReplyOf form word numbers o source (replies.Refused answer) = HasTooMany o source answer
 IsReplyOf form word numbers o source (replies.Bad bad line) =
     (bad ≡ word) × IsNoCondition numbers (length (conditions o)) line.items × (length (conditions o) ≤ condition_limit)
 
@@ -86,16 +72,6 @@ IsReplyTo form word o source reply =
     ⊎ (IsNoNumbers word reply × ((numbers : List ℕ) → AreNumbers word.now numbers → ⊥))
 
 -- of a word where there is one
-abbrev pub IsReplyIn : Form → Option (Bor (List ℕ)) → Program → List ℕ → Reply → Type 0
-IsReplyIn form None o source reply = IsReplyToAll form o source reply
-IsReplyIn form (Some word) o source reply = IsReplyTo form word o source reply
-
--- the line of a refused source
-abbrev pub IsRefusal : List ℕ → Reply → Type 0
-IsRefusal source (replies.Listing text) = ⊥
-IsRefusal source (replies.Refused answer) = IsUnread source answer
-IsRefusal source (replies.Bad word line) = ⊥
-
--- of a source: that of its outline, or the line of a refusal
-abbrev pub IsReply : Form → Option (Bor (List ℕ)) → List ℕ → Reply → Type 0
-IsReply form only source reply = IsRefusal source reply ⊎ ((o : Program) × IsSource source o × IsReplyIn form only o source reply)
+abbrev pub IsReply : Form → Option (Bor (List ℕ)) → Program → List ℕ → Reply → Type 0
+IsReply form None o source reply = IsReplyToAll form o source reply
+IsReply form (Some word) o source reply = IsReplyTo form word o source reply

@@ -1,16 +1,17 @@
 //! The answer to a request for the conditions of a source.
 
-ghost use Rattle.std.specs.Prelude.{◌≡◌, ◌≤◌, length, not, find, IfOk};
+ghost use Rattle.std.specs.Prelude.{◌≡◌, ◌≤◌, length, not, find, IfOk, IfErr};
 ghost use Rattle.og_cond.specs.Groups.{rest};
 ghost use Rattle.og_cond.specs.Limits.{condition_limit};
+ghost use Rattle.og_report_text.specs.InputErrors.{OnFault, IsFaultOfCount};
 ghost use Rattle.og_report_conditions.specs.Chosen as specified;
-ghost use Rattle.og_report_conditions.specs.Chosen.{no_numbers_line, no_condition_line, IsWithin, IsCounted, IsNotListed, IsReplyOf, IsReplyToAll, IsReplyTo, IsReply};
+ghost use Rattle.og_report_conditions.specs.Chosen.{no_numbers_line, no_condition_line, IsWithin, IsCounted, IsReplyOf, IsReplyToAll, IsReplyTo, IsReply};
 
 use crate::form::Form;
 use crate::listing::Listing;
 use og_cond::{ConditionsError, Groups};
 use og_io::numbers;
-use og_report_text::{Answer, InputFault, put_number};
+use og_report_text::{InputError, put_number};
 use og_typed::{Outline, Source};
 use std::alloc::{AllocError, Global};
 
@@ -19,8 +20,6 @@ use std::alloc::{AllocError, Global};
 pub enum Reply<'a> {
     /// The listing, of which nothing is written yet.
     Listing(Listing),
-    /// The line of a refusal, and status 2.
-    Refused(Answer),
     /// This word names no conditions; and the line that says why, after two blanks.
     Bad(&'a str, Vec<u8>),
 }
@@ -94,31 +93,13 @@ fn first_other(count: u32, numbers: &[u32]) -> Option<u32>
     None
 }
 
-// The answer where conditions are not listed.
-fn not_listed<'a>(
-    alloc: Global,
-    error: ConditionsError,
-    source: &[u8],
-) -> Result<Reply<'a>, AllocError>
-    ensures { IfOk result (IsNotListed source.now error) }
-{
-    match error {
-        ConditionsError::Fault(fault) => {
-            let refusal = Answer::refused(alloc, &InputFault::Conditions(fault), source)?;
-            Ok(Reply::Refused(refusal))
-        }
-        ConditionsError::Memory => Err(AllocError),
-    }
-}
-
 // The answer where all conditions are asked for.
-fn of_all<'a>(alloc: Global, form: Form, source: Source<'_>) -> Result<Reply<'a>, AllocError>
-    ensures { IfOk result (IsReplyToAll form source.entry.outline source.entry.bytes) }
+fn of_all<'a>(alloc: Global, form: Form, source: Source<'_>) -> Result<Reply<'a>, InputError>
+    ensures reply { IfOk result (IsReplyToAll form source.entry.outline source.entry.bytes) }
+    ensures refused { IfErr result (OnFault (IsFaultOfCount source.entry.outline)) }
 {
-    match within_limit(alloc, source.outline()) {
-        Ok(()) => Ok(Reply::Listing(Listing::of(alloc, form, None, source)?)),
-        Err(error) => not_listed(alloc, error, source.bytes()),
-    }
+    within_limit(alloc, source.outline())?;
+    Ok(Reply::Listing(Listing::of(alloc, form, None, source)?))
 }
 
 // The answer to the numbers in a word.
@@ -128,16 +109,15 @@ fn of_numbers<'a>(
     word: &'a str,
     numbers: Vec<u32>,
     source: Source<'_>,
-) -> Result<Reply<'a>, AllocError>
-    ensures { IfOk result (IsReplyOf form word.entry numbers.items source.entry.outline
+) -> Result<Reply<'a>, InputError>
+    ensures reply { IfOk result (IsReplyOf form word.entry numbers.items source.entry.outline
         source.entry.bytes) }
+    ensures refused { IfErr result (OnFault (IsFaultOfCount source.entry.outline)) }
 {
-    match count(alloc, source.outline()) {
-        Ok(count) => match first_other(count, &numbers) {
-            Some(number) => Ok(Reply::Bad(word, no_condition(alloc, number, count)?)),
-            None => Ok(Reply::Listing(Listing::of(alloc, form, Some(numbers), source)?)),
-        },
-        Err(error) => not_listed(alloc, error, source.bytes()),
+    let count = count(alloc, source.outline())?;
+    match first_other(count, &numbers) {
+        Some(number) => Ok(Reply::Bad(word, no_condition(alloc, number, count)?)),
+        None => Ok(Reply::Listing(Listing::of(alloc, form, Some(numbers), source)?)),
     }
 }
 
@@ -147,8 +127,9 @@ fn of_word<'a>(
     form: Form,
     word: &'a str,
     source: Source<'_>,
-) -> Result<Reply<'a>, AllocError>
-    ensures { IfOk result (IsReplyTo form word.entry source.entry.outline source.entry.bytes) }
+) -> Result<Reply<'a>, InputError>
+    ensures reply { IfOk result (IsReplyTo form word.entry source.entry.outline source.entry.bytes) }
+    ensures refused { IfErr result (OnFault (IsFaultOfCount source.entry.outline)) }
 {
     match numbers(alloc, word)? {
         Some(numbers) => of_numbers(alloc, form, word, numbers, source),
@@ -157,29 +138,27 @@ fn of_word<'a>(
 }
 
 /// The answer to a request for the conditions of a source in this form: all, or those whose numbers
-/// are in a word, counted from 1 and with a comma between two. Either the listing, of which nothing
-/// is written yet; or the line of a refusal and status 2, where the source has no outline, or more
-/// than 4,000,000 conditions.
+/// are in a word, counted from 1 and with a comma between two: the listing, of which nothing is
+/// written yet.
 ///
 /// `Bad` where the word is anything else, once the source was read, or has a number that no
 /// condition has; its line has the first one.
 ///
 /// # Errors
 ///
-/// An allocation was refused.
+/// `Fault` where the source has more than 4,000,000 conditions. `Memory` where an allocation was
+/// refused.
 pub fn listed<'a>(
     alloc: Global,
     form: Form,
     only: Option<&'a str>,
-    source: &[u8],
-) -> Result<Reply<'a>, AllocError>
-    ensures { IfOk result (IsReply form only.entry source.now) }
+    source: Source<'_>,
+) -> Result<Reply<'a>, InputError>
+    ensures reply { IfOk result (IsReply form only.entry source.entry.outline source.entry.bytes) }
+    ensures refused { IfErr result (OnFault (IsFaultOfCount source.entry.outline)) }
 {
-    match Source::read(alloc, source) {
-        Ok(source) => match only {
-            Some(word) => of_word(alloc, form, word, source),
-            None => of_all(alloc, form, source),
-        },
-        Err(error) => Ok(Reply::Refused(Answer::unread(alloc, &error, source)?)),
+    match only {
+        Some(word) => of_word(alloc, form, word, source),
+        None => of_all(alloc, form, source),
     }
 }

@@ -24,6 +24,6 @@ IsStand o s (stand.Ended site) = IsTrueSite o s (note_of site)
 abbrev pub GetsStuck : Program → List ℤ → Type 0
 GetsStuck o s = (m : Moment) × IsReached o m × (m.state ≡ s) × IsStuck o m
 
--- where they may stand, as far as the assertions tell; or places in a state in which a run gets stuck
+-- where they may stand, as far as the assertions say; or places in a state in which a run gets stuck
 abbrev pub AreStands : Program → List ℤ → List Stand → Type 0
 AreStands o s stands = All (IsStand o s) stands ⊎ (GetsStuck o s × All (IsPlace o s) stands)

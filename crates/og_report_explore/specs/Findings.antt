@@ -14,8 +14,8 @@ use Rattle.og_violation.specs.Violations.{IsWrong}
 use Rattle.og_violation.specs.declared.violation.Violation.{Violation}
 use Rattle.og_violation.specs.declared.violation.Wrong.{Wrong}
 use Rattle.og_violation.specs.declared.violation.Wrong.TheVariants as wrongs
-use Rattle.og_report_explore.specs.declared.finding.Did.{Did}
-use Rattle.og_report_explore.specs.declared.finding.Did.TheVariants as did
+use Rattle.og_report_explore.specs.declared.finding.Effect.{Effect}
+use Rattle.og_report_explore.specs.declared.finding.Effect.TheVariants as effect
 use Rattle.og_report_explore.specs.declared.finding.Row.{Row}
 use Rattle.og_report_explore.specs.declared.finding.Fault.{Fault}
 use Rattle.og_report_explore.specs.declared.finding.Fault.TheVariants as fault
@@ -44,9 +44,9 @@ assigned_below zero body s = []
 assigned_below (suc x) body s = assigned_below x body s ++ (if assigns x body then (x, value_at s x) ∷ [] else [])
 
 -- the statement's test was so in the state before; or it has none, and these are the variables that it assigned, with their values after it
-abbrev pub IsDid : Program → Statement → List ℤ → List ℤ → Did → Type 0
-IsDid o stmt before after (did.Tested holds) = (a : Formula) × (branch_test stmt ≡ Some a) × (truth a before ≡ holds)
-IsDid o stmt before after (did.Assigned entries) =
+abbrev pub IsDid : Program → Statement → List ℤ → List ℤ → Effect → Type 0
+IsDid o stmt before after (effect.Tested holds) = (a : Formula) × (branch_test stmt ≡ Some a) × (truth a before ≡ holds)
+IsDid o stmt before after (effect.Assigned entries) =
     (branch_test stmt ≡ None) × (entries.items ≡ assigned_below (length o.names) (assignments_of stmt) after)
 
 -- from the moment m process p steps to the moment k; the row has its statement, and what that did
@@ -54,7 +54,7 @@ pub record IsRow (o : Program) (m k : Moment) (p : ℕ) (row : Row) : Type 0 whe
   pub step : next m p ≡ Some k
   pub process : row.process ≡ p
   pub head : slice_get (todo m p) 0 ≡ Some (item_pair row.item.now)
-  pub did : IsDid o (statement row.item.now.stmt) m.state k.state row.did
+  pub effect : IsDid o (statement row.item.now.stmt) m.state k.state row.effect
 
 -- a row for each step of the history, from the moment m to the moment k
 abbrev pub AreRows : Program → Moment → List ℕ → List Row → Moment → Type 0

@@ -1,11 +1,11 @@
 -- The table of the steps of a run.
 use Rattle.std.specs.Prelude.{ℕ, ◌+◌, ◌-◌, ◌==◌, max, ℤ, List, [], ◌∷◌, length, replicate, true, false, if◌then◌else◌, codes}
 use Rattle.std.specs.Fmt.{decimal}
-use Rattle.og_report_text.specs.Places.{◌&◌, position_of, position_text}
-use Rattle.og_report_text.specs.Quotes.{quote_text}
+use Rattle.og_report_text.specs.Origins.{Rows, place_text_at, quoted_at}
+use Rattle.og_report_text.specs.Places.{◌&◌}
 use Rattle.og_report_text.specs.Values.{value_text}
-use Rattle.og_report_explore.specs.declared.finding.Did.{Did}
-use Rattle.og_report_explore.specs.declared.finding.Did.TheVariants as did
+use Rattle.og_report_explore.specs.declared.finding.Effect.{Effect}
+use Rattle.og_report_explore.specs.declared.finding.Effect.TheVariants as effect
 use Rattle.og_report_explore.specs.declared.finding.Row.{Row}
 use Rattle.og_report_explore.specs.declared.table.Column.{Column}
 use Rattle.og_report_explore.specs.declared.table.Column.TheVariants as column
@@ -42,18 +42,18 @@ module _ (names : List (List ℕ)) where
   entries_text opening (e ∷ es) = (opening & value_text names e.0 e.1) & entries_text (codes ", ") es
 
   -- what a step did
-  abbrev pub did_text : Did → List ℕ
-  did_text (did.Tested true) = codes "true"
-  did_text (did.Tested false) = codes "false"
-  did_text (did.Assigned entries) = if length entries.items == 0 then codes "-" else entries_text [] entries.items
+  abbrev pub did_text : Effect → List ℕ
+  did_text (effect.Tested true) = codes "true"
+  did_text (effect.Tested false) = codes "false"
+  did_text (effect.Assigned entries) = if length entries.items == 0 then codes "-" else entries_text [] entries.items
 
-  module _ (source : List ℕ) (main : ℕ) where
+  module _ (source : List ℕ) (origins : Rows) (main : ℕ) where
     -- a cell of the row with this number
     abbrev pub cell_text : Column → ℕ → Row → List ℕ
     cell_text column.Step n row = decimal n
     cell_text column.Process n row = decimal (printed_number main row.process)
-    cell_text column.Place n row = position_text (position_of source row.item.now.at)
-    cell_text column.Statement n row = quote_text 48 source row.item.now.at
+    cell_text column.Place n row = place_text_at source origins row.item.now.at
+    cell_text column.Statement n row = quoted_at 48 source origins row.item.now.at
 
     -- as wide as its widest cell
     abbrev pub width_of : List Row → Column → ℕ
@@ -71,7 +71,7 @@ module _ (names : List (List ℕ)) where
     row_line w n row =
         padded w.step (cell_text column.Step n row) & padded w.process (cell_text column.Process n row)
         & padded w.place (cell_text column.Place n row) & padded w.statement (cell_text column.Statement n row)
-        & codes "  " & did_text row.did & codes "\n"
+        & codes "  " & did_text row.effect & codes "\n"
 
     abbrev pub row_lines : Widths → ℕ → List Row → List ℕ
     row_lines w n [] = []

@@ -3,10 +3,10 @@ use Rattle.std.specs.Prelude.{ℕ, ◌+◌, ◌==◌, zero, suc, ℤ, List, [], 
 use Rattle.std.specs.Fmt.{decimal}
 use Rattle.og_typed.specs.declared.statement.Item.{Item}
 use Rattle.og_cond.specs.Names.{name_of_kind}
-use Rattle.og_report_text.specs.Places.{◌&◌, position_of, position_text, with_text}
+use Rattle.og_report_text.specs.Origins.{Rows, place_text_at, with_place_text, quoted_at}
+use Rattle.og_report_text.specs.Places.{◌&◌}
 use Rattle.og_typed.specs.declared.sites.Part.{Part}
 use Rattle.og_typed.specs.declared.sites.Part.TheVariants as parts
-use Rattle.og_report_text.specs.Quotes.{quote_text}
 use Rattle.og_report_text.specs.Values.{values_text}
 use Rattle.og_report_prove.specs.Sentences.{part_text}
 use Rattle.og_report_prove.specs.Blocks.{quoted_line, false_lines, too_large_line}
@@ -45,27 +45,27 @@ abbrev pub where_text : Bool → ℕ → List ℕ
 where_text true steps = codes " is false before step " & decimal steps & codes "\n"
 where_text false steps = codes " is false in this state\n"
 
-abbrev pub blame_line : List ℕ → ℕ → Option Blame → List ℕ
-blame_line source steps None = []
-blame_line source steps (Some b) =
-    codes "  condition " & decimal b.number & codes " " & name_of_kind b.kind & with_text source b.action_at & where_text b.before steps
+abbrev pub blame_line : List ℕ → Rows → ℕ → Option Blame → List ℕ
+blame_line source rows steps None = []
+blame_line source rows steps (Some b) =
+    codes "  condition " & decimal b.number & codes " " & name_of_kind b.kind & with_place_text source rows b.action_at & where_text b.before steps
 
 -- processes with their numbers from 1, where they stand that have no step
 abbrev pub ended_line : ℕ → List ℕ
 ended_line n = codes "  process " & decimal n & codes " has ended\n"
 
-abbrev pub waits_line : List ℕ → ℕ → ℕ → List ℕ
-waits_line source n at =
-    codes "  process " & decimal n & codes " waits at " & position_text (position_of source at) & codes ": "
-    & quote_text 72 source at & codes "\n"
+abbrev pub waits_line : List ℕ → Rows → ℕ → ℕ → List ℕ
+waits_line source rows n at =
+    codes "  process " & decimal n & codes " waits at " & place_text_at source rows at & codes ": "
+    & quoted_at 72 source rows at & codes "\n"
 
-abbrev pub stand_line : List ℕ → ℕ → Option (Bor Item) → List ℕ
-stand_line source n None = ended_line n
-stand_line source n (Some item) = waits_line source n item.now.at
+abbrev pub stand_line : List ℕ → Rows → ℕ → Option (Bor Item) → List ℕ
+stand_line source rows n None = ended_line n
+stand_line source rows n (Some item) = waits_line source rows n item.now.at
 
-abbrev pub stand_lines : List ℕ → ℕ → List (Option (Bor Item)) → List ℕ
-stand_lines source n [] = []
-stand_lines source n (stand ∷ stands) = stand_line source n stand & stand_lines source (n + 1) stands
+abbrev pub stand_lines : List ℕ → Rows → ℕ → List (Option (Bor Item)) → List ℕ
+stand_lines source rows n [] = []
+stand_lines source rows n (stand ∷ stands) = stand_line source rows n stand & stand_lines source rows (n + 1) stands
 
 -- the first n numbers
 abbrev pub numbers : ℕ → List ℕ
@@ -73,9 +73,9 @@ numbers zero = []
 numbers (suc n) = numbers n ++ n ∷ []
 
 -- the violation, its place, and after how many steps
-abbrev pub head_line : List ℕ → ℕ → ℕ → Finding → List ℕ
-head_line source main cobegin_at f =
-    position_text (position_of source (place_of cobegin_at f.fault)) & codes ": " & what_text main f.fault
+abbrev pub head_line : List ℕ → Rows → ℕ → ℕ → Finding → List ℕ
+head_line source rows main cobegin_at f =
+    place_text_at source rows (place_of cobegin_at f.fault) & codes ": " & what_text main f.fault
     & when_text (length f.rows.items)
 
 module _ (names : List (List ℕ)) where
@@ -86,27 +86,27 @@ module _ (names : List (List ℕ)) where
   abbrev pub all_line : List ℕ → List ℤ → List ℕ
   all_line word s = codes "  " & word & codes ": " & all_values s & codes "\n"
 
-  module _ (source : List ℕ) where
+  module _ (source : List ℕ) (rows : Rows) where
     abbrev pub overflow_lines : ℕ → ℕ → ℤ → List ℕ
-    overflow_lines at x v = quoted_line source None (codes "next") at & too_large_line names x v
+    overflow_lines at x v = quoted_line source rows (codes "next") at & too_large_line names x v
 
     -- what makes it wrong
     abbrev pub fault_lines : Fault → List ℕ
-    fault_lines (fault.Assertion p note all) = false_lines names source None note.now.at all.items
+    fault_lines (fault.Assertion p note all) = false_lines names source rows note.now.at all.items
     fault_lines (fault.Overflow p item x v) = overflow_lines item.now.at x v
-    fault_lines (fault.Post note all) = false_lines names source None note.now.at all.items
-    fault_lines (fault.Stuck stands) = stand_lines source 1 stands.items
+    fault_lines (fault.Post note all) = false_lines names source rows note.now.at all.items
+    fault_lines (fault.Stuck stands) = stand_lines source rows 1 stands.items
 
     -- the run that leads there
     abbrev pub run_lines : ℕ → Finding → List ℕ
     run_lines main f =
-        all_line (codes "start") f.start & table_text names source main f.rows.items & all_line (codes "state") f.state
+        all_line (codes "start") f.start & table_text names source rows main f.rows.items & all_line (codes "state") f.state
 
-  module _ (source : List ℕ) (main cobegin_at : ℕ) where
+  module _ (source : List ℕ) (rows : Rows) (main cobegin_at : ℕ) where
     abbrev pub finding_text : Finding → List ℕ
     finding_text f =
-        head_line source main cobegin_at f & run_lines source main f & fault_lines source f.fault
-        & blame_line source (length f.rows.items) f.blame
+        head_line source rows main cobegin_at f & run_lines source rows main f & fault_lines source rows f.fault
+        & blame_line source rows (length f.rows.items) f.blame
 
     abbrev pub findings_text : List Finding → List ℕ
     findings_text [] = []

@@ -15,7 +15,7 @@ use std::alloc::{AllocError, Global};
 
 /// Where a run goes wrong: where its last step began, and the violation then.
 #[derive(Clone, Copy)]
-pub(crate) struct Scene<'b, 'a> {
+pub(crate) struct Failure<'b, 'a> {
     pub(crate) index: &'b Index<'a>,
     /// The byte offsets of the last statement, and of the assertion to which it led first.
     pub(crate) step_at: Option<u32>,
@@ -23,7 +23,7 @@ pub(crate) struct Scene<'b, 'a> {
     pub(crate) fault: &'b Fault<'a>,
 }
 
-impl<'b, 'a> Scene<'b, 'a> {
+impl<'b, 'a> Failure<'b, 'a> {
     // The byte offset of the assertion that is false.
     fn note_at(&self) -> Option<u32> {
         match self.fault {
@@ -88,17 +88,17 @@ impl<'b, 'a> Scene<'b, 'a> {
     }
 
     // The one or the other.
-    fn looks_at(&self, condition: &Condition, way: Way) -> Option<bool> {
-        match way {
-            Way::Place => self.side(condition),
-            Way::Left => self.left(condition),
+    fn looks_at(&self, condition: &Condition, belonging: Belonging) -> Option<bool> {
+        match belonging {
+            Belonging::Place => self.side(condition),
+            Belonging::Left => self.left(condition),
         }
     }
 }
 
-// By what conditions belong to a scene.
+// By what a condition belongs to a failure.
 #[derive(Clone, Copy)]
-enum Way {
+enum Belonging {
     // They are those of its step and place.
     Place,
     // They are those of branches and bodies that its step left.
@@ -113,11 +113,11 @@ fn is_false(alloc: Global, condition: &Condition, state: &State) -> Result<bool,
     is_verdict(alloc, condition, &Verdict::False(copy))
 }
 
-// Whether the condition is one of the scene, and false there; and if so, whether before the step.
+// Whether the condition is one of the failure, and false there; and if so, whether before the step.
 fn is_blamed(
     alloc: Global,
-    scene: Scene,
-    way: Way,
+    failure: Failure,
+    belonging: Belonging,
     condition: &Condition,
     before: &State,
     last: &State,
@@ -125,7 +125,7 @@ fn is_blamed(
     ensures { IfOk result (λ found. IfSome found
         (λ side. IsFalseAt (seen condition.now) (if side then before.now else last.now))) }
 {
-    let Some(side) = scene.looks_at(condition, way) else {
+    let Some(side) = failure.looks_at(condition, belonging) else {
         return Ok(None);
     };
     let state = if side { before } else { last };
@@ -136,11 +136,11 @@ fn is_blamed(
     }
 }
 
-// The first condition of the scene that is false in the state before its step or in the last one.
+// The first condition of the failure that is false in the state before its step or in the last one.
 fn first_false(
     alloc: Global,
-    scene: Scene,
-    way: Way,
+    failure: Failure,
+    belonging: Belonging,
     conditions: &[Condition],
     before: &State,
     last: &State,
@@ -150,7 +150,7 @@ fn first_false(
 {
     for index in 0..conditions.len() {
         let condition = &conditions[index];
-        if let Some(side) = is_blamed(alloc, scene, way, condition, before, last)? {
+        if let Some(side) = is_blamed(alloc, failure, belonging, condition, before, last)? {
             return Ok(Some(Blame {
                 number: index + 1,
                 kind: condition.kind,
@@ -162,8 +162,8 @@ fn first_false(
     Ok(None)
 }
 
-/// The first condition of the scene's step and place that is false in the state before the step or
-/// in the last one; where there is none, the first one of a branch or a body that the step left.
+/// The first condition of the failure's step and place that is false in the state before the step
+/// or in the last one; where there is none, the first one of a branch or a body that the step left.
 /// Nothing is promised of which condition that is: it is evaluated.
 ///
 /// # Errors
@@ -171,7 +171,7 @@ fn first_false(
 /// An allocation was refused.
 pub(crate) fn blame(
     alloc: Global,
-    scene: Scene,
+    failure: Failure,
     conditions: &[Condition],
     before: &State,
     last: &State,
@@ -179,9 +179,9 @@ pub(crate) fn blame(
     ensures { IfOk result (λ found.
         IfSome found (IsBlame (map seen conditions.now) before.now last.now)) }
 {
-    let found = first_false(alloc, scene, Way::Place, conditions, before, last)?;
+    let found = first_false(alloc, failure, Belonging::Place, conditions, before, last)?;
     if found.is_some() {
         return Ok(found);
     }
-    first_false(alloc, scene, Way::Left, conditions, before, last)
+    first_false(alloc, failure, Belonging::Left, conditions, before, last)
 }

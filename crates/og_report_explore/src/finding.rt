@@ -6,7 +6,7 @@ use og_typed::{Assert, Item, Note};
 
 /// What a step did.
 #[derive(Debug, Drop)]
-pub enum Did {
+pub enum Effect {
     /// Its test came out so.
     Tested(bool),
     /// It assigned these variables, in their order, each of which has this value then.
@@ -21,7 +21,7 @@ pub struct Row<'a> {
     /// The statement, and the assertion before it.
     pub item: &'a Item,
     /// What it did.
-    pub did: Did,
+    pub effect: Effect,
 }
 
 /// The violation at the end of a run. Processes have their numbers from 0; the main process has the

@@ -11,14 +11,14 @@ mod passing;
 mod reporting;
 mod rows;
 mod table;
-mod telling;
 mod texts;
 mod totals;
+mod violations;
 
-pub use finding::{Blame, Did, Fault, Finding, Row};
+pub use finding::{Blame, Effect, Fault, Finding, Row};
 pub use passing::{first_at, goes_through};
 pub use reporting::json;
 pub use table::{printed_number, put_did};
-pub use telling::{rows_of, tell};
 pub use texts::{numbers, place_of, report};
 pub use totals::{Found, Totals};
+pub use violations::{finding_of, rows_of};

@@ -7,7 +7,7 @@ ghost use Rattle.og_typed.specs.Truth.{truth};
 ghost use Rattle.og_subst.specs.Actions.{action_body};
 ghost use Rattle.og_report_explore.specs.Findings.{branch_test, assigned_below, assignments_of, IsRow};
 
-use crate::finding::{Did, Row};
+use crate::finding::{Effect, Row};
 use og_linear::State;
 use og_step::{Moment, Turn};
 use og_subst::{Action, Values};
@@ -103,22 +103,22 @@ pub(crate) fn row<'a>(
             let Turn::Moved = moment.step(p) else {
                 return Ok(None);
             };
-            let did = Did::Tested(holds);
+            let effect = Effect::Tested(holds);
             Ok(Some(Row {
                 process: p,
                 item,
-                did,
+                effect,
             }))
         }
         None => {
             let Turn::Moved = moment.step(p) else {
                 return Ok(None);
             };
-            let did = Did::Assigned(assigned_by(alloc, outline, &item.stmt, moment.state())?);
+            let effect = Effect::Assigned(assigned_by(alloc, outline, &item.stmt, moment.state())?);
             Ok(Some(Row {
                 process: p,
                 item,
-                did,
+                effect,
             }))
         }
     }

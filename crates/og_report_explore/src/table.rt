@@ -4,8 +4,8 @@ ghost use Rattle.std.specs.Prelude.{◌≡◌, ◌++◌, [], replicate, IfOk, On
 ghost use Rattle.og_report_text.specs.Values.{value_text};
 ghost use Rattle.og_report_explore.specs.Table.{printed_number, heading, padded, head_line, entries_text, did_text, cell_text, width_of, widths_of, row_line, row_lines, table_text};
 
-use crate::finding::{Did, Row};
-use og_report_text::{Places, put_number, put_position, put_quote, put_value};
+use crate::finding::{Effect, Row};
+use og_report_text::{Origins, put_number, put_value};
 use og_text::Name;
 use std::alloc::{AllocError, Global};
 
@@ -34,8 +34,8 @@ pub(crate) struct Widths {
 #[derive(Clone, Copy)]
 pub(crate) struct Page<'a> {
     pub(crate) names: &'a [Name],
-    pub(crate) source: &'a [u8],
-    pub(crate) places: &'a Places<'a>,
+    /// Where the parts of the outline are said to stand.
+    pub(crate) origins: &'a Origins<'a>,
     /// The number of the main process.
     pub(crate) main: u32,
 }
@@ -66,7 +66,7 @@ pub fn printed_number(main: u32, process: u32) -> u64
     }
 }
 
-// So many blanks.
+// This many blanks.
 fn put_blanks(text: &mut Vec<u8>, count: usize) -> Result<(), AllocError>
     ensures { OnOk result (text.new.items ≡ text.old.items ++ replicate count 32) }
 {
@@ -110,13 +110,13 @@ fn put_entries(text: &mut Vec<u8>, names: &[Name], entries: &[(u32, i64)]) -> Re
 /// # Errors
 ///
 /// An allocation was refused; the text has what it had, and perhaps a part of this.
-pub fn put_did(text: &mut Vec<u8>, names: &[Name], did: &Did) -> Result<(), AllocError>
-    ensures { OnOk result (text.new.items ≡ text.old.items ++ did_text names.now did.now) }
+pub fn put_did(text: &mut Vec<u8>, names: &[Name], effect: &Effect) -> Result<(), AllocError>
+    ensures { OnOk result (text.new.items ≡ text.old.items ++ did_text names.now effect.now) }
 {
-    match did {
-        Did::Tested(true) => text.extend_from_slice(b"true"),
-        Did::Tested(false) => text.extend_from_slice(b"false"),
-        Did::Assigned(entries) => {
+    match effect {
+        Effect::Tested(true) => text.extend_from_slice(b"true"),
+        Effect::Tested(false) => text.extend_from_slice(b"false"),
+        Effect::Assigned(entries) => {
             if entries.is_empty() {
                 return text.extend_from_slice(b"-");
             }
@@ -133,15 +133,15 @@ fn put_cell(
     number: u128,
     row: &Row,
 ) -> Result<(), AllocError>
-    requires { page.places.now ≡ page.source.now }
+    requires { page.origins.now.places.now ≡ page.origins.now.source.now }
     ensures { OnOk result (text.new.items ≡ text.old.items ++ cell_text page.entry.names.now
-        page.entry.source.now page.entry.main column number row.now) }
+        page.entry.origins.now.source.now page.entry.origins.now.rows page.entry.main column number row.now) }
 {
     match column {
         Column::Step => put_number(text, number),
         Column::Process => put_number(text, u128::from(printed_number(page.main, row.process))),
-        Column::Place => put_position(text, page.places.position(row.item.at)),
-        Column::Statement => put_quote(text, STATEMENT_LIMIT, page.source, row.item.at),
+        Column::Place => page.origins.put_place(text, row.item.at),
+        Column::Statement => page.origins.put_quote(text, STATEMENT_LIMIT, row.item.at),
     }
 }
 
@@ -153,8 +153,8 @@ fn cell(
     number: u128,
     row: &Row,
 ) -> Result<Vec<u8>, AllocError>
-    requires { page.places.now ≡ page.source.now }
-    ensures { IfOk result (λ cell. cell.items ≡ cell_text page.entry.names.now page.entry.source.now
+    requires { page.origins.now.places.now ≡ page.origins.now.source.now }
+    ensures { IfOk result (λ cell. cell.items ≡ cell_text page.entry.names.now page.entry.origins.now.source.now page.entry.origins.now.rows
         page.entry.main column number row.now) }
 {
     let mut cell = Vec::new(alloc);
@@ -164,9 +164,9 @@ fn cell(
 
 // How wide the column is.
 fn width(alloc: Global, page: Page, column: Column, rows: &[Row]) -> Result<usize, AllocError>
-    requires { page.places.now ≡ page.source.now }
+    requires { page.origins.now.places.now ≡ page.origins.now.source.now }
     ensures { IfOk result (λ width. width
-        ≡ width_of page.entry.names.now page.entry.source.now page.entry.main rows.now column) }
+        ≡ width_of page.entry.names.now page.entry.origins.now.source.now page.entry.origins.now.rows page.entry.main rows.now column) }
 {
     let mut width = column.heading().len();
     for index in 0..rows.len() {
@@ -179,9 +179,9 @@ fn width(alloc: Global, page: Page, column: Column, rows: &[Row]) -> Result<usiz
 impl Widths {
     // How wide each column is.
     fn of(alloc: Global, page: Page, rows: &[Row]) -> Result<Widths, AllocError>
-        requires { page.places.now ≡ page.source.now }
+        requires { page.origins.now.places.now ≡ page.origins.now.source.now }
         ensures { IfOk result (λ widths. widths
-            ≡ widths_of page.entry.names.now page.entry.source.now page.entry.main rows.now) }
+            ≡ widths_of page.entry.names.now page.entry.origins.now.source.now page.entry.origins.now.rows page.entry.main rows.now) }
     {
         Ok(Widths {
             step: width(alloc, page, Column::Step, rows)?,
@@ -212,9 +212,9 @@ fn put_wide(
     number: u128,
     row: &Row,
 ) -> Result<(), AllocError>
-    requires { page.places.now ≡ page.source.now }
+    requires { page.origins.now.places.now ≡ page.origins.now.source.now }
     ensures { OnOk result (text.new.items ≡ text.old.items ++ padded width (cell_text
-        page.entry.names.now page.entry.source.now page.entry.main column number row.now)) }
+        page.entry.names.now page.entry.origins.now.source.now page.entry.origins.now.rows page.entry.main column number row.now)) }
 {
     let cell = cell(*text.allocator(), page, column, number, row)?;
     put_padded(text, width, &cell)
@@ -228,24 +228,24 @@ fn put_row(
     number: u128,
     row: &Row,
 ) -> Result<(), AllocError>
-    requires { page.places.now ≡ page.source.now }
+    requires { page.origins.now.places.now ≡ page.origins.now.source.now }
     ensures { OnOk result (text.new.items ≡ text.old.items ++ row_line page.entry.names.now
-        page.entry.source.now page.entry.main widths number row.now) }
+        page.entry.origins.now.source.now page.entry.origins.now.rows page.entry.main widths number row.now) }
 {
     put_wide(text, page, Column::Step, widths.step, number, row)?;
     put_wide(text, page, Column::Process, widths.process, number, row)?;
     put_wide(text, page, Column::Place, widths.place, number, row)?;
     put_wide(text, page, Column::Statement, widths.statement, number, row)?;
     text.extend_from_slice(b"  ")?;
-    put_did(text, page.names, &row.did)?;
+    put_did(text, page.names, &row.effect)?;
     text.extend_from_slice(b"\n")
 }
 
 // The rows, numbered from 1.
 fn put_rows(text: &mut Vec<u8>, page: Page, widths: Widths, rows: &[Row]) -> Result<(), AllocError>
-    requires { page.places.now ≡ page.source.now }
+    requires { page.origins.now.places.now ≡ page.origins.now.source.now }
     ensures { OnOk result (text.new.items ≡ text.old.items
-        ++ row_lines page.entry.names.now page.entry.source.now page.entry.main widths 1 rows.now) }
+        ++ row_lines page.entry.names.now page.entry.origins.now.source.now page.entry.origins.now.rows page.entry.main widths 1 rows.now) }
 {
     for index in 0..rows.len() {
         put_row(text, page, widths, index as u128 + 1, &rows[index])?;
@@ -259,9 +259,9 @@ fn put_rows(text: &mut Vec<u8>, page: Page, widths: Widths, rows: &[Row]) -> Res
 ///
 /// An allocation was refused; the text has what it had, and perhaps a part of this.
 pub(crate) fn put_table(text: &mut Vec<u8>, page: Page, rows: &[Row]) -> Result<(), AllocError>
-    requires { page.places.now ≡ page.source.now }
+    requires { page.origins.now.places.now ≡ page.origins.now.source.now }
     ensures { OnOk result (text.new.items ≡ text.old.items
-        ++ table_text page.entry.names.now page.entry.source.now page.entry.main rows.now) }
+        ++ table_text page.entry.names.now page.entry.origins.now.source.now page.entry.origins.now.rows page.entry.main rows.now) }
 {
     if rows.is_empty() {
         return Ok(());

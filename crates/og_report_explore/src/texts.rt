@@ -1,6 +1,6 @@
 //! The report of the end of a run, and of all that was explored.
 
-ghost use Rattle.std.specs.Prelude.{◌≡◌, ◌++◌, ◌≤◌, ◌^◌, true, length, None, IfOk, OnOk};
+ghost use Rattle.std.specs.Prelude.{◌≡◌, ◌++◌, ◌≤◌, ◌^◌, true, length, IfOk, OnOk};
 ghost use Rattle.og_report_prove.specs.Blocks.{false_lines};
 ghost use Rattle.og_report_explore.specs.Texts.{when_text, part_of, what_text, place_of, where_text, blame_line, ended_line, waits_line, stand_line, stand_lines, numbers, all_values, all_line, overflow_lines, fault_lines, head_line, run_lines, finding_text, findings_text, report_text};
 
@@ -8,12 +8,10 @@ use crate::finding::{Blame, Fault, Finding};
 use crate::table::{Page, put_table};
 use crate::totals::{Totals, put_totals};
 use og_report_prove::{put_false, put_part, put_quoted, put_too_large};
-use og_report_text::{
-    Origins, Places, put_action_place, put_number, put_position, put_quote, put_values,
-};
+use og_report_text::{Origins, Places, Subject, put_number, put_values};
 use og_subst::Values;
 use og_text::Name;
-use og_typed::{Assert, Item, Outline, Part};
+use og_typed::{Assert, Item, Part};
 use std::alloc::{AllocError, Global};
 
 /// The most bytes of a quote.
@@ -99,11 +97,13 @@ fn put_where(text: &mut Vec<u8>, before: bool, steps: usize) -> Result<(), Alloc
 // The condition that is false.
 fn put_blame(
     text: &mut Vec<u8>,
-    places: &Places,
+    origins: &Origins,
     steps: usize,
     blame: Option<Blame>,
 ) -> Result<(), AllocError>
-    ensures { OnOk result (text.new.items ≡ text.old.items ++ blame_line places.now steps blame) }
+    requires { origins.now.places.now ≡ origins.now.source.now }
+    ensures { OnOk result (text.new.items ≡ text.old.items
+        ++ blame_line origins.now.source.now origins.now.rows steps blame) }
 {
     let Some(blame) = blame else {
         return Ok(());
@@ -112,7 +112,7 @@ fn put_blame(
     put_number(text, blame.number as u128)?;
     text.extend_from_slice(b" ")?;
     text.extend_from_slice(blame.kind.name().as_bytes())?;
-    put_action_place(text, places, blame.action_at)?;
+    origins.put_action_place(text, blame.action_at)?;
     put_where(text, blame.before, steps)
 }
 
@@ -126,55 +126,49 @@ fn put_ended(text: &mut Vec<u8>, number: u128) -> Result<(), AllocError>
 }
 
 // Where a process waits.
-fn put_waits(
-    text: &mut Vec<u8>,
-    source: &[u8],
-    places: &Places,
-    number: u128,
-    at: u32,
-) -> Result<(), AllocError>
-    requires { places.now ≡ source.now }
-    ensures { OnOk result (text.new.items ≡ text.old.items ++ waits_line source.now number at) }
+fn put_waits(text: &mut Vec<u8>, origins: &Origins, number: u128, at: u32) -> Result<(), AllocError>
+    requires { origins.now.places.now ≡ origins.now.source.now }
+    ensures { OnOk result (text.new.items ≡ text.old.items
+        ++ waits_line origins.now.source.now origins.now.rows number at) }
 {
     text.extend_from_slice(b"  process ")?;
     put_number(text, number)?;
     text.extend_from_slice(b" waits at ")?;
-    put_position(text, places.position(at))?;
+    origins.put_place(text, at)?;
     text.extend_from_slice(b": ")?;
-    put_quote(text, QUOTE_LIMIT, source, at)?;
+    origins.put_quote(text, QUOTE_LIMIT, at)?;
     text.extend_from_slice(b"\n")
 }
 
 // Where a process stands that has no step.
 fn put_stand(
     text: &mut Vec<u8>,
-    source: &[u8],
-    places: &Places,
+    origins: &Origins,
     number: u128,
     stand: Option<&Item>,
 ) -> Result<(), AllocError>
-    requires { places.now ≡ source.now }
+    requires { origins.now.places.now ≡ origins.now.source.now }
     ensures { OnOk result (text.new.items ≡ text.old.items
-        ++ stand_line source.now number stand.entry) }
+        ++ stand_line origins.now.source.now origins.now.rows number stand.entry) }
 {
     match stand {
         None => put_ended(text, number),
-        Some(item) => put_waits(text, source, places, number, item.at),
+        Some(item) => put_waits(text, origins, number, item.at),
     }
 }
 
 // Where each process stands.
 fn put_stands(
     text: &mut Vec<u8>,
-    source: &[u8],
-    places: &Places,
+    origins: &Origins,
     stands: &[Option<&Item>],
 ) -> Result<(), AllocError>
-    requires { places.now ≡ source.now }
-    ensures { OnOk result (text.new.items ≡ text.old.items ++ stand_lines source.now 1 stands.now) }
+    requires { origins.now.places.now ≡ origins.now.source.now }
+    ensures { OnOk result (text.new.items ≡ text.old.items
+        ++ stand_lines origins.now.source.now origins.now.rows 1 stands.now) }
 {
     for index in 0..stands.len() {
-        put_stand(text, source, places, index as u128 + 1, stands[index])?;
+        put_stand(text, origins, index as u128 + 1, stands[index])?;
     }
     Ok(())
 }
@@ -232,12 +226,11 @@ fn put_overflow(
     var: u32,
     value: i128,
 ) -> Result<(), AllocError>
-    requires { page.places.now ≡ page.source.now }
+    requires { page.origins.now.places.now ≡ page.origins.now.source.now }
     ensures { OnOk result (text.new.items ≡ text.old.items
-        ++ overflow_lines page.entry.names.now page.entry.source.now at var value) }
+        ++ overflow_lines page.entry.names.now page.entry.origins.now.source.now page.entry.origins.now.rows at var value) }
 {
-    let origins = Origins::own(page.source, page.places);
-    put_quoted(text, b"next", &origins, at)?;
+    put_quoted(text, b"next", page.origins, at)?;
     put_too_large(text, page.names, var, value)
 }
 
@@ -248,25 +241,24 @@ fn put_false_at(
     at: u32,
     found: &[&Assert],
 ) -> Result<(), AllocError>
-    requires { page.places.now ≡ page.source.now }
+    requires { page.origins.now.places.now ≡ page.origins.now.source.now }
     ensures { OnOk result (text.new.items ≡ text.old.items
-        ++ false_lines page.entry.names.now page.entry.source.now None at found.now) }
+        ++ false_lines page.entry.names.now page.entry.origins.now.source.now page.entry.origins.now.rows at found.now) }
 {
-    let origins = Origins::own(page.source, page.places);
-    put_false(text, page.names, &origins, at, found)
+    put_false(text, page.names, page.origins, at, found)
 }
 
 // What makes it wrong.
 fn put_fault(text: &mut Vec<u8>, page: Page, fault: &Fault) -> Result<(), AllocError>
-    requires { page.places.now ≡ page.source.now }
+    requires { page.origins.now.places.now ≡ page.origins.now.source.now }
     ensures { OnOk result (text.new.items ≡ text.old.items
-        ++ fault_lines page.entry.names.now page.entry.source.now fault.now) }
+        ++ fault_lines page.entry.names.now page.entry.origins.now.source.now page.entry.origins.now.rows fault.now) }
 {
     match fault {
         Fault::Assertion(_, note, all) => put_false_at(text, page, note.at, all),
         Fault::Overflow(_, item, var, value) => put_overflow(text, page, item.at, *var, *value),
         Fault::Post(note, all) => put_false_at(text, page, note.at, all),
-        Fault::Stuck(stands) => put_stands(text, page.source, page.places, stands),
+        Fault::Stuck(stands) => put_stands(text, page.origins, stands),
     }
 }
 
@@ -277,12 +269,12 @@ fn put_head(
     cobegin_at: u32,
     finding: &Finding,
 ) -> Result<(), AllocError>
-    requires { page.places.now ≡ page.source.now }
+    requires { page.origins.now.places.now ≡ page.origins.now.source.now }
     ensures { OnOk result (text.new.items ≡ text.old.items
-        ++ head_line page.entry.source.now page.entry.main cobegin_at finding.now) }
+        ++ head_line page.entry.origins.now.source.now page.entry.origins.now.rows page.entry.main cobegin_at finding.now) }
 {
     let at = place_of(cobegin_at, &finding.fault);
-    put_position(text, page.places.position(at))?;
+    page.origins.put_place(text, at)?;
     text.extend_from_slice(b": ")?;
     put_what(text, page.main, &finding.fault)?;
     put_when(text, finding.rows.len())
@@ -290,10 +282,10 @@ fn put_head(
 
 // The run that leads there.
 fn put_run(text: &mut Vec<u8>, page: Page, finding: &Finding) -> Result<(), AllocError>
-    requires places { page.places.now ≡ page.source.now }
+    requires places { page.origins.now.places.now ≡ page.origins.now.source.now }
     requires few { length page.names.now ≤ 256 }
     ensures { OnOk result (text.new.items ≡ text.old.items
-        ++ run_lines page.entry.names.now page.entry.source.now page.entry.main finding.now) }
+        ++ run_lines page.entry.names.now page.entry.origins.now.source.now page.entry.origins.now.rows page.entry.main finding.now) }
 {
     put_all_line(text, page.names, b"start", &finding.start)?;
     put_table(text, page, &finding.rows)?;
@@ -307,15 +299,15 @@ fn put_finding(
     cobegin_at: u32,
     finding: &Finding,
 ) -> Result<(), AllocError>
-    requires places { page.places.now ≡ page.source.now }
+    requires places { page.origins.now.places.now ≡ page.origins.now.source.now }
     requires few { length page.names.now ≤ 256 }
     ensures { OnOk result (text.new.items ≡ text.old.items ++ finding_text page.entry.names.now
-        page.entry.source.now page.entry.main cobegin_at finding.now) }
+        page.entry.origins.now.source.now page.entry.origins.now.rows page.entry.main cobegin_at finding.now) }
 {
     put_head(text, page, cobegin_at, finding)?;
     put_run(text, page, finding)?;
     put_fault(text, page, &finding.fault)?;
-    put_blame(text, page.places, finding.rows.len(), finding.blame)
+    put_blame(text, page.origins, finding.rows.len(), finding.blame)
 }
 
 // The report of each finding.
@@ -325,10 +317,10 @@ fn put_findings(
     cobegin_at: u32,
     findings: &[Finding],
 ) -> Result<(), AllocError>
-    requires places { page.places.now ≡ page.source.now }
+    requires places { page.origins.now.places.now ≡ page.origins.now.source.now }
     requires few { length page.names.now ≤ 256 }
     ensures { OnOk result (text.new.items ≡ text.old.items ++ findings_text page.entry.names.now
-        page.entry.source.now page.entry.main cobegin_at findings.now) }
+        page.entry.origins.now.source.now page.entry.origins.now.rows page.entry.main cobegin_at findings.now) }
 {
     for index in 0..findings.len() {
         put_finding(text, page, cobegin_at, &findings[index])?;
@@ -337,31 +329,36 @@ fn put_findings(
 }
 
 /// The report of an exploration of an outline, as a text: each finding with the run that leads
-/// there, in order, and the totals. Places are lines and columns of the source, which has at most
-/// 1,048,576 bytes.
+/// there, in order, and the totals. Places are lines and columns of the text that was given, which
+/// has at most 1,048,576 bytes; of a template with the values of the instance.
 ///
 /// # Errors
 ///
 /// An allocation was refused.
 pub fn report(
     alloc: Global,
-    outline: &Outline,
-    source: &[u8],
+    subject: &Subject,
     totals: &Totals,
     findings: &[Finding],
 ) -> Result<Vec<u8>, AllocError>
-    requires short { length source.now ≤ 2 ^ 20 }
+    requires short { length subject.now.given.now ≤ 2 ^ 20 }
     requires given { length totals.now.given.items ≤ 256 }
-    ensures { IfOk result (λ text. text.items ≡ report_text outline.now.names source.now
-        (length outline.now.processes) outline.now.cobegin_at totals.now findings.now) }
+    ensures { IfOk result (λ text. text.items ≡ report_text subject.now.outline.now.names
+        subject.now.given.now subject.now.rows (length subject.now.outline.now.processes)
+        subject.now.outline.now.cobegin_at totals.now findings.now) }
 {
+    let outline = subject.outline;
     outline.follows_rule();
-    let places = Places::new(alloc, source)?;
+    let places = Places::new(alloc, subject.given)?;
+    let origins = Origins {
+        source: subject.given,
+        places: &places,
+        rows: subject.rows,
+    };
     let mut text = Vec::new(alloc);
     let page = Page {
         names: outline.names(),
-        source,
-        places: &places,
+        origins: &origins,
         main: outline.processes().len() as u32,
     };
     put_findings(&mut text, page, outline.cobegin_at(), findings)?;

@@ -5,11 +5,11 @@ use Rattle.std.specs.Prelude.{slice_get}
 use Rattle.std.proofs.lemmas.List.{drop_all, map-append}
 use Rattle.og_typed.specs.Syntax.{Program}
 use Rattle.og_report_explore.specs.declared.finding.Row.{Row}
-use Rattle.og_report_prove.specs.declared.telling.Told.{Told}
+use Rattle.og_report_prove.specs.declared.diagnosis.Diagnosis.{Diagnosis}
 use Rattle.og_report_prove.proofs.Lists.{dropped}
 use Rattle.og_report_runs.specs.declared.lines.Explored.{Explored}
 use Rattle.og_report_runs.specs.declared.witness.Run.{Run}
-use Rattle.og_report_html.specs.Lanes.{numbered, IsToldRun, AreToldRuns}
+use Rattle.og_report_html.specs.Lanes.{numbered, IsRunPart, AreRunParts}
 
 none_after : {X : Type 0} (xs : List X) → xs ++ [] ≡ xs
 none_after [] = refl
@@ -31,30 +31,30 @@ rows_end of i rows text whole past so_far =
 -- ---- the texts of all conditions
 
 -- with those of the conditions from the n-th on, they are all there
-abbrev pub MakesAll : Program → List ℕ → Explored → List Told → List Run → ℕ → List Told → List Run → List (List ℕ) → Type 0
-MakesAll o source e ts rs n told runs texts = (more : List (List ℕ)) → AreToldRuns o source e n told runs more → AreToldRuns o source e 1 ts rs (texts ++ more)
+abbrev pub MakesAll : Program → List ℕ → Explored → List Diagnosis → List Run → ℕ → List Diagnosis → List Run → List (List ℕ) → Type 0
+MakesAll o source e ts rs n diagnosis runs texts = (more : List (List ℕ)) → AreRunParts o source e n diagnosis runs more → AreRunParts o source e 1 ts rs (texts ++ more)
 
-pub all_begin : (o : Program) (source : List ℕ) (e : Explored) (ts : List Told) (rs : List Run) (texts : List (List ℕ)) → texts ≡ [] → MakesAll o source e ts rs 1 ts rs texts
-all_begin o source e ts rs texts none = λ more h. subst (λ (l : List (List ℕ)). AreToldRuns o source e 1 ts rs (l ++ more)) (sym none) h
+pub all_begin : (o : Program) (source : List ℕ) (e : Explored) (ts : List Diagnosis) (rs : List Run) (texts : List (List ℕ)) → texts ≡ [] → MakesAll o source e ts rs 1 ts rs texts
+all_begin o source e ts rs texts none = λ more h. subst (λ (l : List (List ℕ)). AreRunParts o source e 1 ts rs (l ++ more)) (sym none) h
 
 abbrev items_of : Vec ℕ Global → List ℕ
 items_of v = v.items
 
-pub all_go_on : (o : Program) (source : List ℕ) (e : Explored) (ts : List Told) (rs : List Run) (i : ℕ) (t : Told) (r : Run) (old new : List (Vec ℕ Global)) (text : Vec ℕ Global)
-    → slice_get ts i ≡ Some t → slice_get rs i ≡ Some r → IsToldRun o source e (i + 1) t r text.items → new ≡ old ++ text ∷ []
+pub all_go_on : (o : Program) (source : List ℕ) (e : Explored) (ts : List Diagnosis) (rs : List Run) (i : ℕ) (t : Diagnosis) (r : Run) (old new : List (Vec ℕ Global)) (text : Vec ℕ Global)
+    → slice_get ts i ≡ Some t → slice_get rs i ≡ Some r → IsRunPart o source e (i + 1) t r text.items → new ≡ old ++ text ∷ []
     → MakesAll o source e ts rs (i + 1) (drop i ts) (drop i rs) (map (λ v. v.items) old)
     → MakesAll o source e ts rs (i + 1 + 1) (drop (i + 1) ts) (drop (i + 1) rs) (map (λ v. v.items) new)
 all_go_on o source e ts rs i t r old new text t_is r_is is pushed h = λ more later.
     let made : map items_of new ≡ map items_of old ++ text.items ∷ [] = ap (map items_of) pushed ∙ map-append items_of old (text ∷ []) in
-    let both : AreToldRuns o source e (i + 1) (t ∷ drop (i + 1) ts) (r ∷ drop (i + 1) rs) (text.items ∷ more) = (is, later) in
-    let first = subst (λ l. AreToldRuns o source e (i + 1) l (r ∷ drop (i + 1) rs) (text.items ∷ more)) (sym (dropped ts i t t_is)) both in
-    let second = subst (λ l. AreToldRuns o source e (i + 1) (drop i ts) l (text.items ∷ more)) (sym (dropped rs i r r_is)) first in
-    subst (λ (l : List (List ℕ)). AreToldRuns o source e 1 ts rs (l ++ more)) (sym made)
-    (subst (AreToldRuns o source e 1 ts rs) (sym (append_assoc (map items_of old) (text.items ∷ []) more)) (h (text.items ∷ more) second))
+    let both : AreRunParts o source e (i + 1) (t ∷ drop (i + 1) ts) (r ∷ drop (i + 1) rs) (text.items ∷ more) = (is, later) in
+    let first = subst (λ l. AreRunParts o source e (i + 1) l (r ∷ drop (i + 1) rs) (text.items ∷ more)) (sym (dropped ts i t t_is)) both in
+    let second = subst (λ l. AreRunParts o source e (i + 1) (drop i ts) l (text.items ∷ more)) (sym (dropped rs i r r_is)) first in
+    subst (λ (l : List (List ℕ)). AreRunParts o source e 1 ts rs (l ++ more)) (sym made)
+    (subst (AreRunParts o source e 1 ts rs) (sym (append_assoc (map items_of old) (text.items ∷ []) more)) (h (text.items ∷ more) second))
 
-pub all_end : (o : Program) (source : List ℕ) (e : Explored) (ts : List Told) (rs : List Run) (i : ℕ) (texts : List (List ℕ)) → length ts ≤ i → length rs ≤ i
-    → MakesAll o source e ts rs (i + 1) (drop i ts) (drop i rs) texts → AreToldRuns o source e 1 ts rs texts
+pub all_end : (o : Program) (source : List ℕ) (e : Explored) (ts : List Diagnosis) (rs : List Run) (i : ℕ) (texts : List (List ℕ)) → length ts ≤ i → length rs ≤ i
+    → MakesAll o source e ts rs (i + 1) (drop i ts) (drop i rs) texts → AreRunParts o source e 1 ts rs texts
 all_end o source e ts rs i texts t_past r_past h =
-    let first = subst (λ l. AreToldRuns o source e (i + 1) l [] []) (sym (drop_all i ts t_past)) tt in
-    let second = subst (λ l. AreToldRuns o source e (i + 1) (drop i ts) l []) (sym (drop_all i rs r_past)) first in
-    subst (AreToldRuns o source e 1 ts rs) (none_after texts) (h [] second)
+    let first = subst (λ l. AreRunParts o source e (i + 1) l [] []) (sym (drop_all i ts t_past)) tt in
+    let second = subst (λ l. AreRunParts o source e (i + 1) (drop i ts) l []) (sym (drop_all i rs r_past)) first in
+    subst (AreRunParts o source e 1 ts rs) (none_after texts) (h [] second)

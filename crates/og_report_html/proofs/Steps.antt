@@ -10,19 +10,19 @@ use Rattle.std.specs.Result.{is_ok}
 use Rattle.og_cert_read.specs.Firsts.{found}
 use Rattle.og_cond.specs.Condition.{Condition}
 use Rattle.og_report_text.specs.Origins.{Rows}
-use Rattle.og_report_prove.specs.Effects.{first_with, after_told}
-use Rattle.og_report_prove.specs.declared.telling.Told.{Told}
+use Rattle.og_report_prove.specs.Effects.{first_with, after_diagnosis}
+use Rattle.og_report_prove.specs.declared.diagnosis.Diagnosis.{Diagnosis}
 use Rattle.og_report_prove.proofs.Effects.{told_same, first_end}
 use Rattle.og_report_prove.proofs.Lists.{dropped}
 use Rattle.og_report_html.specs.Articles.{article, beneath_at, links_text, article_of, article_text, articles_text}
 use Rattle.og_report_html.specs.Findings.{finding_of, is_found}
 use Rattle.og_report_html.specs.Numbers.{number_where, number_links}
 use Rattle.og_report_html.specs.Source.{next, next_spot, byte_text, source_from}
-use Rattle.og_report_html.specs.Table.{clash_of, clashes_from, each_text}
+use Rattle.og_report_html.specs.Table.{disturbance_of, disturbances_from, each_text}
 use Rattle.og_report_html.specs.declared.finding.Finding.{Finding}
 use Rattle.og_report_html.specs.declared.marks.Mark.{Mark}
 use Rattle.og_report_html.specs.declared.mode.Spot.{Spot}
-use Rattle.og_report_html.specs.declared.table.Clash.{Clash}
+use Rattle.og_report_html.specs.declared.table.Disturbance.{Disturbance}
 use Rattle.og_report_html.specs.declared.target.Target.{Target}
 
 -- ---- the source
@@ -51,18 +51,18 @@ source_same utf8 f g same at spot (b ∷ bs) =
 -- ---- the blocks, with the effects that are known
 
 module _ (utf8 : Bool) (beneath : List (List ℕ)) (names : List (List ℕ)) (source : List ℕ) (rows : Rows) where
-  article_same : (f g : List ℕ → Option ℕ) (n : ℕ) (c : Condition) (t : Told) (k : Target) (o : Option Finding) → ((x : List ℕ) → f x ≡ g x)
+  article_same : (f g : List ℕ → Option ℕ) (n : ℕ) (c : Condition) (t : Diagnosis) (k : Target) (o : Option Finding) → ((x : List ℕ) → f x ≡ g x)
       → article_of utf8 beneath names source rows f n c t k o ≡ article_of utf8 beneath names source rows g n c t k o
   article_same f g n c t k None h = refl
   article_same f g n c t k (Some finding) h = ap (λ (p : List ℕ). article utf8 n finding p (beneath_at beneath (n - 1)) (links_text source c t k)) (told_same names source rows f g n c (Some 0) t h)
 
-  pub record IsSoFar (before text : List ℕ) (firsts : BTreeMap (Vec ℕ Global) ℕ) (i : ℕ) (cs : List Condition) (ts : List Told) (gs : List Target) : Type 0 where
-    pub done : List Told
+  pub record IsSoFar (before text : List ℕ) (firsts : BTreeMap (Vec ℕ Global) ℕ) (i : ℕ) (cs : List Condition) (ts : List Diagnosis) (gs : List Target) : Type 0 where
+    pub done : List Diagnosis
     pub size : length done ≡ i
     pub known : (x : List ℕ) → found x firsts ≡ first_with names source rows x 1 done
     pub whole : text ++ articles_text utf8 beneath names source rows done (drop i cs) (drop i ts) (drop i gs) ≡ before ++ articles_text utf8 beneath names source rows [] cs ts gs
 
-  pub so_far_begins : (before text : List ℕ) (firsts : BTreeMap (Vec ℕ Global) ℕ) (cs : List Condition) (ts : List Told) (gs : List Target) → text ≡ before → firsts.entries ≡ []
+  pub so_far_begins : (before text : List ℕ) (firsts : BTreeMap (Vec ℕ Global) ℕ) (cs : List Condition) (ts : List Diagnosis) (gs : List Target) → text ≡ before → firsts.entries ≡ []
       → IsSoFar before text firsts 0 cs ts gs
   so_far_begins before text firsts cs ts gs same none =
       record {
@@ -72,10 +72,10 @@ module _ (utf8 : Bool) (beneath : List (List ℕ)) (names : List (List ℕ)) (so
         whole = ap (λ (x : List ℕ). x ++ articles_text utf8 beneath names source rows [] cs ts gs) same;
       }
 
-  pub so_far_goes : (before t0 t1 : List ℕ) (old new : BTreeMap (Vec ℕ Global) ℕ) (i : ℕ) (cs : List Condition) (ts : List Told) (gs : List Target) (c : Condition) (t : Told) (g : Target)
+  pub so_far_goes : (before t0 t1 : List ℕ) (old new : BTreeMap (Vec ℕ Global) ℕ) (i : ℕ) (cs : List Condition) (ts : List Diagnosis) (gs : List Target) (c : Condition) (t : Diagnosis) (g : Target)
       → slice_get cs i ≡ Some c → slice_get ts i ≡ Some t → slice_get gs i ≡ Some g
       → t1 ≡ t0 ++ article_text utf8 beneath names source rows (λ x. found x old) (i + 1) c t g
-      → ((x : List ℕ) → found x new ≡ after_told names source rows t x (i + 1) (found x old))
+      → ((x : List ℕ) → found x new ≡ after_diagnosis names source rows t x (i + 1) (found x old))
       → IsSoFar before t0 old i cs ts gs → IsSoFar before t1 new (i + 1) cs ts gs
   so_far_goes before t0 t1 old new i cs ts gs c t g c_is t_is g_is put noted s =
       let size = s.size in
@@ -89,7 +89,7 @@ module _ (utf8 : Bool) (beneath : List (List ℕ)) (names : List (List ℕ)) (so
         done = s.done ++ t ∷ [];
         size = omega (arith, one_more, size);
         known =
-            λ x. noted x ∙ ap (after_told names source rows t x (i + 1)) (s.known x)
+            λ x. noted x ∙ ap (after_diagnosis names source rows t x (i + 1)) (s.known x)
             ∙ sym (first_end names source rows x (i + 1) 1 s.done t (omega (arith, size)));
         whole =
             ap (λ (a : List ℕ). a ++ rest) put
@@ -104,33 +104,33 @@ module _ (utf8 : Bool) (beneath : List (List ℕ)) (names : List (List ℕ)) (so
   append_none [] = refl
   append_none (x ∷ xs) = ap (λ ys. x ∷ ys) (append_none xs)
 
-  pub so_far_ends : (before text : List ℕ) (firsts : BTreeMap (Vec ℕ Global) ℕ) (i : ℕ) (cs : List Condition) (ts : List Told) (gs : List Target) → drop i cs ≡ []
+  pub so_far_ends : (before text : List ℕ) (firsts : BTreeMap (Vec ℕ Global) ℕ) (i : ℕ) (cs : List Condition) (ts : List Diagnosis) (gs : List Target) → drop i cs ≡ []
       → IsSoFar before text firsts i cs ts gs → text ≡ before ++ articles_text utf8 beneath names source rows [] cs ts gs
   so_far_ends before text firsts i cs ts gs none s =
       sym (append_none text) ∙ ap (λ k. text ++ articles_text utf8 beneath names source rows s.done k (drop i ts) (drop i gs)) (sym none) ∙ s.whole
 
 -- ---- the numbers
 
-pub number_goes : (f : Finding) (i : ℕ) (ts : List Told) (t : Told) (t0 t1 whole : List ℕ) → slice_get ts i ≡ Some t
+pub number_goes : (f : Finding) (i : ℕ) (ts : List Diagnosis) (t : Diagnosis) (t0 t1 whole : List ℕ) → slice_get ts i ≡ Some t
     → t1 ≡ t0 ++ number_where f (i + 1) t → t0 ++ number_links f (i + 1) (drop i ts) ≡ whole → t1 ++ number_links f (i + 1 + 1) (drop (i + 1) ts) ≡ whole
 number_goes f i ts t t0 t1 whole is put so_far =
     let rest = number_links f (i + 1 + 1) (drop (i + 1) ts) in
     ap (λ (l : List ℕ). l ++ rest) put
     ∙ append_assoc t0 (number_where f (i + 1) t) rest
-    ∙ ap (λ (l : List Told). t0 ++ number_links f (i + 1) l) (sym (dropped ts i t is))
+    ∙ ap (λ (l : List Diagnosis). t0 ++ number_links f (i + 1) l) (sym (dropped ts i t is))
     ∙ so_far
 
 -- ---- the table
 
-pub clash_goes : (f : Finding) (i : ℕ) (ts : List Told) (gs : List Target) (t : Told) (g : Target) (l0 l1 whole : List Clash) → slice_get ts i ≡ Some t → slice_get gs i ≡ Some g
-    → l1 ≡ l0 ++ clash_of (is_found f t) (i + 1) g.interference
-    → l0 ++ clashes_from f (i + 1) (drop i ts) (drop i gs) ≡ whole
-    → l1 ++ clashes_from f (i + 1 + 1) (drop (i + 1) ts) (drop (i + 1) gs) ≡ whole
+pub clash_goes : (f : Finding) (i : ℕ) (ts : List Diagnosis) (gs : List Target) (t : Diagnosis) (g : Target) (l0 l1 whole : List Disturbance) → slice_get ts i ≡ Some t → slice_get gs i ≡ Some g
+    → l1 ≡ l0 ++ disturbance_of (is_found f t) (i + 1) g.interference
+    → l0 ++ disturbances_from f (i + 1) (drop i ts) (drop i gs) ≡ whole
+    → l1 ++ disturbances_from f (i + 1 + 1) (drop (i + 1) ts) (drop (i + 1) gs) ≡ whole
 clash_goes f i ts gs t g l0 l1 whole t_is g_is put so_far =
-    let rest = clashes_from f (i + 1 + 1) (drop (i + 1) ts) (drop (i + 1) gs) in
-    ap (λ (l : List Clash). l ++ rest) put
-    ∙ append_assoc l0 (clash_of (is_found f t) (i + 1) g.interference) rest
-    ∙ ap₂ (λ (k : List Told) (l : List Target). l0 ++ clashes_from f (i + 1) k l) (sym (dropped ts i t t_is)) (sym (dropped gs i g g_is))
+    let rest = disturbances_from f (i + 1 + 1) (drop (i + 1) ts) (drop (i + 1) gs) in
+    ap (λ (l : List Disturbance). l ++ rest) put
+    ∙ append_assoc l0 (disturbance_of (is_found f t) (i + 1) g.interference) rest
+    ∙ ap₂ (λ (k : List Diagnosis) (l : List Target). l0 ++ disturbances_from f (i + 1) k l) (sym (dropped ts i t t_is)) (sym (dropped gs i g g_is))
     ∙ so_far
 
 -- one process more

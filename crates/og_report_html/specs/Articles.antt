@@ -6,11 +6,11 @@ use Rattle.og_cond.specs.Condition.{Condition}
 use Rattle.og_report_text.specs.Places.{◌&◌}
 use Rattle.og_report_text.specs.Origins.{Rows}
 use Rattle.og_report_prove.specs.Effects.{first_with}
-use Rattle.og_report_prove.specs.Report.{told_text}
-use Rattle.og_report_prove.specs.declared.telling.Told.{Told}
+use Rattle.og_report_prove.specs.Report.{diagnosis_text}
+use Rattle.og_report_prove.specs.declared.diagnosis.Diagnosis.{Diagnosis}
 use Rattle.og_report_html.specs.Escapes.{escaped_text}
 use Rattle.og_report_html.specs.Findings.{finding_of, word}
-use Rattle.og_report_html.specs.Marks.{told_place}
+use Rattle.og_report_html.specs.Marks.{marked_place}
 use Rattle.og_report_html.specs.declared.finding.Finding.{Finding}
 use Rattle.og_report_html.specs.declared.target.Target.{Target}
 
@@ -24,11 +24,11 @@ abbrev pub step_place : Condition → ℕ
 step_place c = unwrap_or c.action_at c.at
 
 abbrev pub step_link : ℕ → ℕ → List ℕ
-step_link told step = if told == step then [] else codes ", step at " & line_link step
+step_link line step = if line == step then [] else codes ", step at " & line_link step
 
 -- the place of a condition, and that of its step
-abbrev pub links_text : List ℕ → Condition → Told → Target → List ℕ
-links_text source c t g = line_link (line_at source (told_place c t g)) & step_link (line_at source (told_place c t g)) (line_at source (step_place c))
+abbrev pub links_text : List ℕ → Condition → Diagnosis → Target → List ℕ
+links_text source c t g = line_link (line_at source (marked_place c t g)) & step_link (line_at source (marked_place c t g)) (line_at source (step_place c))
 
 -- ---- a block
 
@@ -50,20 +50,20 @@ beneath_at beneath i = unwrap_or (slice_get beneath i) []
 
 module _ (names : List (List ℕ)) (source : List ℕ) (rows : Rows) where
   -- the text that `prove` prints of a condition, where it is known which conditions had an effect before
-  abbrev pub printed : (List ℕ → Option ℕ) → ℕ → Condition → Told → List ℕ
-  printed known n c t = told_text names source rows known n c (Some 0) t
+  abbrev pub printed : (List ℕ → Option ℕ) → ℕ → Condition → Diagnosis → List ℕ
+  printed known n c t = diagnosis_text names source rows known n c (Some 0) t
 
 module _ (utf8 : Bool) (beneath : List (List ℕ)) (names : List (List ℕ)) (source : List ℕ) (rows : Rows) where
   -- nothing of one that is proved
-  abbrev pub article_of : (List ℕ → Option ℕ) → ℕ → Condition → Told → Target → Option Finding → List ℕ
+  abbrev pub article_of : (List ℕ → Option ℕ) → ℕ → Condition → Diagnosis → Target → Option Finding → List ℕ
   article_of known n c t g None = []
   article_of known n c t g (Some f) = article utf8 n f (printed names source rows known n c t) (beneath_at beneath (n - 1)) (links_text source c t g)
 
-  abbrev pub article_text : (List ℕ → Option ℕ) → ℕ → Condition → Told → Target → List ℕ
+  abbrev pub article_text : (List ℕ → Option ℕ) → ℕ → Condition → Diagnosis → Target → List ℕ
   article_text known n c t g = article_of known n c t g (finding_of t)
 
   -- of these, after those
-  abbrev pub articles_text : List Told → List Condition → List Told → List Target → List ℕ
+  abbrev pub articles_text : List Diagnosis → List Condition → List Diagnosis → List Target → List ℕ
   articles_text done [] ts gs = []
   articles_text done (c ∷ cs) [] gs = []
   articles_text done (c ∷ cs) (t ∷ ts) [] = []

@@ -10,8 +10,8 @@ use Rattle.og_report_explore.specs.Findings.{AreRowsOf}
 use Rattle.og_report_explore.specs.declared.finding.Row.{Row}
 use Rattle.og_report_html.specs.Escapes.{escaped_text}
 use Rattle.og_report_html.specs.Table.{each_text}
-use Rattle.og_report_prove.specs.declared.telling.Told.{Told}
-use Rattle.og_report_prove.specs.declared.telling.Told.TheVariants as told
+use Rattle.og_report_prove.specs.declared.diagnosis.Diagnosis.{Diagnosis}
+use Rattle.og_report_prove.specs.declared.diagnosis.Diagnosis.TheVariants as diagnosis
 use Rattle.og_report_runs.specs.Lines.{start_text, run_line}
 use Rattle.og_report_runs.specs.declared.lines.Explored.{Explored}
 use Rattle.og_report_runs.specs.declared.witness.Witness.{Witness}
@@ -68,7 +68,7 @@ module _ (utf8 : Bool) (names : List (List ℕ)) (source : List ℕ) (lanes : �
   lane_cells row = gap row.process & step_cell row & gap (lanes - (row.process + 1))
 
   abbrev pub sets_cell : Row → List ℕ
-  sets_cell row = codes "<td>" & escaped_text utf8 (did_text names row.did) & codes "</tr>\n"
+  sets_cell row = codes "<td>" & escaped_text utf8 (did_text names row.effect) & codes "</tr>\n"
 
   abbrev pub step_row : ℕ → Row → List ℕ
   step_row n row = codes "<tr><td>" & decimal n & lane_cells row & sets_cell row
@@ -111,16 +111,16 @@ abbrev pub IsRunText : Program → List ℕ → Explored → ℕ → Run → Lis
 IsRunText o source e condition r text = (chart : List ℕ) × IsChartOf o source condition r chart × (text ≡ line_text o source e r ++ chart)
 
 -- of a false condition alone
-abbrev pub IsToldRun : Program → List ℕ → Explored → ℕ → Told → Run → List ℕ → Type 0
-IsToldRun o source e condition told.Proved r text = text ≡ []
-IsToldRun o source e condition (told.False block) r text = IsRunText o source e condition r text
-IsToldRun o source e condition told.Open r text = text ≡ []
+abbrev pub IsRunPart : Program → List ℕ → Explored → ℕ → Diagnosis → Run → List ℕ → Type 0
+IsRunPart o source e condition diagnosis.Proved r text = text ≡ []
+IsRunPart o source e condition (diagnosis.False block) r text = IsRunText o source e condition r text
+IsRunPart o source e condition diagnosis.Open r text = text ≡ []
 
 -- the same of all of them, numbered on
-abbrev pub AreToldRuns : Program → List ℕ → Explored → ℕ → List Told → List Run → List (List ℕ) → Type 0
-AreToldRuns o source e n [] [] [] = ⊤
-AreToldRuns o source e n (t ∷ ts) (r ∷ rs) (text ∷ texts) = IsToldRun o source e n t r text × AreToldRuns o source e (n + 1) ts rs texts
-AreToldRuns o source e n _ _ _ = ⊥
+abbrev pub AreRunParts : Program → List ℕ → Explored → ℕ → List Diagnosis → List Run → List (List ℕ) → Type 0
+AreRunParts o source e n [] [] [] = ⊤
+AreRunParts o source e n (t ∷ ts) (r ∷ rs) (text ∷ texts) = IsRunPart o source e n t r text × AreRunParts o source e (n + 1) ts rs texts
+AreRunParts o source e n _ _ _ = ⊥
 
 -- ---- how far the runs were followed
 

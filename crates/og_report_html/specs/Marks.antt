@@ -6,8 +6,8 @@ use Rattle.og_typed.specs.Plain.{noted}
 use Rattle.og_cond.specs.Condition.{Condition}
 use Rattle.og_report_explain.specs.declared.explanation.Fault.{Fault}
 use Rattle.og_report_explain.specs.declared.explanation.Fault.TheVariants as fault
-use Rattle.og_report_prove.specs.declared.telling.Told.{Told}
-use Rattle.og_report_prove.specs.declared.telling.Told.TheVariants as told
+use Rattle.og_report_prove.specs.declared.diagnosis.Diagnosis.{Diagnosis}
+use Rattle.og_report_prove.specs.declared.diagnosis.Diagnosis.TheVariants as diagnosis
 use Rattle.og_report_html.specs.declared.marks.Mark.{Mark}
 use Rattle.og_report_html.specs.declared.marks.Mark.TheVariants as mark
 use Rattle.og_report_html.specs.declared.target.Target.{Target}
@@ -21,10 +21,10 @@ fault_place c (fault.TooLarge x v) = c.at
 fault_place c (fault.Blocked stands) = c.at
 
 -- of one that is open at the assertion to which it leads
-abbrev pub told_place : Condition → Told → Target → ℕ
-told_place c told.Proved g = g.goal
-told_place c (told.False block) g = fault_place c block.details.value.explanation.fault
-told_place c told.Open g = g.goal
+abbrev pub marked_place : Condition → Diagnosis → Target → ℕ
+marked_place c diagnosis.Proved g = g.goal
+marked_place c (diagnosis.False block) g = fault_place c block.details.value.explanation.fault
+marked_place c diagnosis.Open g = g.goal
 
 -- and at the action of which it speaks
 abbrev pub is_action : ℕ → Option ℕ → Bool
@@ -34,10 +34,10 @@ is_action at (Some action) = at == action
 -- ---- the mark of a place
 
 -- the finding on a condition with a number: one that is proved makes no mark
-abbrev pub mark_of : ℕ → Told → Option Mark
-mark_of n told.Proved = None
-mark_of n (told.False block) = Some (mark.False n)
-mark_of n told.Open = Some (mark.Open n)
+abbrev pub mark_of : ℕ → Diagnosis → Option Mark
+mark_of n diagnosis.Proved = None
+mark_of n (diagnosis.False block) = Some (mark.False n)
+mark_of n diagnosis.Open = Some (mark.Open n)
 
 abbrev pub after_open : ℕ → Mark → Mark
 after_open k (mark.False n) = mark.False n
@@ -59,18 +59,18 @@ marked false m old = old
 marked true m old = with_mark m old
 
 -- with a condition more
-abbrev pub with_told : ℕ → ℕ → Condition → Told → Target → Option Mark → Option Mark
-with_told at n c t g old = marked (is_action at c.action_at) (mark_of n t) (marked (at == told_place c t g) (mark_of n t) old)
+abbrev pub with_diagnosis : ℕ → ℕ → Condition → Diagnosis → Target → Option Mark → Option Mark
+with_diagnosis at n c t g old = marked (is_action at c.action_at) (mark_of n t) (marked (at == marked_place c t g) (mark_of n t) old)
 
 -- with these, numbered on
-abbrev pub with_all : ℕ → Option Mark → ℕ → List Condition → List Told → List Target → Option Mark
+abbrev pub with_all : ℕ → Option Mark → ℕ → List Condition → List Diagnosis → List Target → Option Mark
 with_all at old n [] ts gs = old
 with_all at old n (c ∷ cs) [] gs = old
 with_all at old n (c ∷ cs) (t ∷ ts) [] = old
-with_all at old n (c ∷ cs) (t ∷ ts) (g ∷ gs) = with_all at (with_told at n c t g old) (n + 1) cs ts gs
+with_all at old n (c ∷ cs) (t ∷ ts) (g ∷ gs) = with_all at (with_diagnosis at n c t g old) (n + 1) cs ts gs
 
 -- of the conditions that have their place at a byte offset, the first one that is false, else the first one that is open
-abbrev pub mark_at : List Condition → List Told → List Target → ℕ → Option Mark
+abbrev pub mark_at : List Condition → List Diagnosis → List Target → ℕ → Option Mark
 mark_at cs ts gs at = with_all at None 1 cs ts gs
 
 -- ---- the words of the contracts of private functions

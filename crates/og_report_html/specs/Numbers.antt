@@ -3,7 +3,7 @@ use Rattle.std.specs.Prelude.{ℕ, ◌+◌, List, [], ◌∷◌, if◌then◌els
 use Rattle.std.specs.List.{list_any}
 use Rattle.std.specs.Fmt.{decimal}
 use Rattle.og_report_text.specs.Places.{◌&◌}
-use Rattle.og_report_prove.specs.declared.telling.Told.{Told}
+use Rattle.og_report_prove.specs.declared.diagnosis.Diagnosis.{Diagnosis}
 use Rattle.og_report_html.specs.Findings.{is_found, word, sign}
 use Rattle.og_report_html.specs.declared.finding.Finding.{Finding}
 use Rattle.og_report_html.specs.declared.finding.Finding.TheVariants as finding
@@ -13,21 +13,21 @@ abbrev pub number_link : ℕ → List ℕ
 number_link n = codes " <a href=#c" & decimal n & codes ">" & decimal n & codes "</a>"
 
 -- where this is the finding on it
-abbrev pub number_where : Finding → ℕ → Told → List ℕ
+abbrev pub number_where : Finding → ℕ → Diagnosis → List ℕ
 number_where f n t = if is_found f t then number_link n else []
 
 -- numbered on
-abbrev pub number_links : Finding → ℕ → List Told → List ℕ
+abbrev pub number_links : Finding → ℕ → List Diagnosis → List ℕ
 number_links f n [] = []
 number_links f n (t ∷ ts) = number_where f n t & number_links f (n + 1) ts
 
 -- the sign and the word before them
-abbrev pub numbers_line : Finding → List Told → List ℕ
+abbrev pub numbers_line : Finding → List Diagnosis → List ℕ
 numbers_line f ts = codes "<p>" & sign f & codes " " & word f & codes ":" & number_links f 1 ts & codes "</p>\n"
 
 -- nothing where this is the finding on none
-abbrev pub numbers_of : Finding → List Told → List ℕ
+abbrev pub numbers_of : Finding → List Diagnosis → List ℕ
 numbers_of f ts = if list_any (is_found f) ts then numbers_line f ts else []
 
-abbrev pub numbers_text : List Told → List ℕ
+abbrev pub numbers_text : List Diagnosis → List ℕ
 numbers_text ts = numbers_of finding.False ts & numbers_of finding.Open ts

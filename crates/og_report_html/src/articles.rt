@@ -4,15 +4,15 @@ ghost use Rattle.std.specs.Prelude.{◌≡◌, ◌+◌, ◌++◌, ℕ, List, [],
 ghost use Rattle.og_text.specs.Place.{line_at};
 ghost use Rattle.og_cond.specs.Seen.{seen};
 ghost use Rattle.og_cert_read.specs.Firsts.{found as number_of};
-ghost use Rattle.og_report_prove.specs.Effects.{after_told};
+ghost use Rattle.og_report_prove.specs.Effects.{after_diagnosis};
 ghost use Rattle.og_report_html.specs.Articles.{beneath_at, line_link, step_place, step_link, links_text, article_start, article_end, article, printed, article_of, article_text, articles_text};
 
 use crate::escapes::put_escaped;
 use crate::finding::Finding;
-use crate::marks::told_place;
+use crate::marks::marked_place;
 use crate::target::Target;
 use og_cond::Condition;
-use og_report_prove::{Firsts, Page, Told, put_told};
+use og_report_prove::{Diagnosis, Firsts, Page, put_diagnosis};
 use og_report_text::{Places, put_number};
 use std::alloc::{AllocError, Global};
 
@@ -51,10 +51,10 @@ fn put_line_link(text: &mut Vec<u8>, line: u32) -> Result<(), AllocError>
 }
 
 // A link to the line of the step, where it is another one.
-fn put_step_link(text: &mut Vec<u8>, told: u32, step: u32) -> Result<(), AllocError>
-    ensures { OnOk result (text.new.items ≡ text.old.items ++ step_link told step) }
+fn put_step_link(text: &mut Vec<u8>, line: u32, step: u32) -> Result<(), AllocError>
+    ensures { OnOk result (text.new.items ≡ text.old.items ++ step_link line step) }
 {
-    if told == step {
+    if line == step {
         return Ok(());
     }
     text.extend_from_slice(b", step at ")?;
@@ -66,18 +66,20 @@ fn put_links(
     text: &mut Vec<u8>,
     places: &Places,
     condition: &Condition,
-    told: &Told,
+    diagnosis: &Diagnosis,
     target: &Target,
 ) -> Result<(), AllocError>
     ensures { OnOk result (text.new.items ≡ text.old.items
-        ++ links_text places.now (seen condition.now) told.now target.now) }
+        ++ links_text places.now (seen condition.now) diagnosis.now target.now) }
 {
-    let told = places.position(told_place(condition, told, target)).line;
+    let line = places
+        .position(marked_place(condition, diagnosis, target))
+        .line;
     let step = places
         .position(condition.action_at.unwrap_or(condition.at))
         .line;
-    put_line_link(text, told)?;
-    put_step_link(text, told, step)
+    put_line_link(text, line)?;
+    put_step_link(text, line, step)
 }
 
 fn put_article_start(text: &mut Vec<u8>, number: u128, finding: Finding) -> Result<(), AllocError>
@@ -99,16 +101,16 @@ fn put_article_end(
     beneath: &[u8],
     places: &Places,
     condition: &Condition,
-    told: &Told,
+    diagnosis: &Diagnosis,
     target: &Target,
 ) -> Result<(), AllocError>
     ensures { OnOk result (text.new.items ≡ text.old.items ++ article_end beneath.now
-        (links_text places.now (seen condition.now) told.now target.now)) }
+        (links_text places.now (seen condition.now) diagnosis.now target.now)) }
 {
     text.extend_from_slice(b"</pre>\n")?;
     text.extend_from_slice(beneath)?;
     text.extend_from_slice(b"<p>")?;
-    put_links(text, places, condition, told, target)?;
+    put_links(text, places, condition, diagnosis, target)?;
     text.extend_from_slice(b"</p></article>\n")
 }
 
@@ -119,17 +121,25 @@ fn printed(
     firsts: &mut Firsts,
     number: u128,
     condition: &Condition,
-    told: &Told,
+    diagnosis: &Diagnosis,
 ) -> Result<Vec<u8>, AllocError>
     requires { page.origins.now.places.now ≡ page.origins.now.source.now }
     ensures text { IfOk result (λ t. t.items ≡ printed page.entry.names.now
         page.entry.origins.now.source.now page.entry.origins.now.rows (λ t. number_of t firsts.old)
-        number (seen condition.now) told.now) }
+        number (seen condition.now) diagnosis.now) }
     ensures firsts { IfOk result (λ r. (t : List ℕ) → number_of t firsts.new
-        ≡ after_told page.entry.names.now page.entry.origins.now.source.now page.entry.origins.now.rows told.now t number (number_of t firsts.old)) }
+        ≡ after_diagnosis page.entry.names.now page.entry.origins.now.source.now page.entry.origins.now.rows diagnosis.now t number (number_of t firsts.old)) }
 {
     let mut text = Vec::new(alloc);
-    put_told(&mut text, firsts, page, number, condition, Some(0), told)?;
+    put_diagnosis(
+        &mut text,
+        firsts,
+        page,
+        number,
+        condition,
+        Some(0),
+        diagnosis,
+    )?;
     Ok(text)
 }
 
@@ -140,7 +150,7 @@ fn put_block(
     frame: Frame,
     index: usize,
     condition: &Condition,
-    told: &Told,
+    diagnosis: &Diagnosis,
     target: &Target,
     finding: Finding,
 ) -> Result<(), AllocError>
@@ -148,13 +158,13 @@ fn put_block(
     ensures text { OnOk result (text.new.items ≡ text.old.items ++ article_of frame.entry.utf8
         (map (λ t. t.items) frame.entry.beneath.now) frame.entry.page.names.now
         frame.entry.page.origins.now.source.now frame.entry.page.origins.now.rows (λ t. number_of t
-        firsts.old) (index + 1) (seen condition.now) told.now target.now (Some finding)) }
+        firsts.old) (index + 1) (seen condition.now) diagnosis.now target.now (Some finding)) }
     ensures firsts { OnOk result ((t : List ℕ) → number_of t firsts.new
-        ≡ after_told frame.entry.page.names.now frame.entry.page.origins.now.source.now frame.entry.page.origins.now.rows told.now t (index + 1) (number_of t firsts.old)) }
+        ≡ after_diagnosis frame.entry.page.names.now frame.entry.page.origins.now.source.now frame.entry.page.origins.now.rows diagnosis.now t (index + 1) (number_of t firsts.old)) }
 {
     let alloc = *text.allocator();
     let number = index as u128 + 1;
-    let printed = printed(alloc, frame.page, firsts, number, condition, told)?;
+    let printed = printed(alloc, frame.page, firsts, number, condition, diagnosis)?;
     put_article_start(text, number, finding)?;
     put_escaped(text, frame.utf8, &printed)?;
     let beneath = frame.beneath(index);
@@ -163,7 +173,7 @@ fn put_block(
         beneath,
         frame.page.origins.places,
         condition,
-        told,
+        diagnosis,
         target,
     )
 }
@@ -175,20 +185,22 @@ fn put_article(
     frame: Frame,
     index: usize,
     condition: &Condition,
-    told: &Told,
+    diagnosis: &Diagnosis,
     target: &Target,
 ) -> Result<(), AllocError>
     requires { frame.page.origins.now.places.now ≡ frame.page.origins.now.source.now }
     ensures text { OnOk result (text.new.items ≡ text.old.items ++ article_text frame.entry.utf8
         (map (λ t. t.items) frame.entry.beneath.now) frame.entry.page.names.now
         frame.entry.page.origins.now.source.now frame.entry.page.origins.now.rows
-        (λ t. number_of t firsts.old) (index + 1) (seen condition.now) told.now target.now) }
+        (λ t. number_of t firsts.old) (index + 1) (seen condition.now) diagnosis.now target.now) }
     ensures firsts { OnOk result ((t : List ℕ) → number_of t firsts.new
-        ≡ after_told frame.entry.page.names.now frame.entry.page.origins.now.source.now frame.entry.page.origins.now.rows told.now t (index + 1) (number_of t firsts.old)) }
+        ≡ after_diagnosis frame.entry.page.names.now frame.entry.page.origins.now.source.now frame.entry.page.origins.now.rows diagnosis.now t (index + 1) (number_of t firsts.old)) }
 {
-    match Finding::of(told) {
+    match Finding::of(diagnosis) {
         None => Ok(()),
-        Some(finding) => put_block(text, firsts, frame, index, condition, told, target, finding),
+        Some(finding) => put_block(
+            text, firsts, frame, index, condition, diagnosis, target, finding,
+        ),
     }
 }
 
@@ -197,16 +209,16 @@ pub(crate) fn put_articles(
     text: &mut Vec<u8>,
     frame: Frame,
     conditions: &[Condition],
-    told: &[Told],
+    diagnoses: &[Diagnosis],
     targets: &[Target],
 ) -> Result<(), AllocError>
     requires places { frame.page.origins.now.places.now ≡ frame.page.origins.now.source.now }
-    requires each { length told.now ≡ length conditions.now }
+    requires each { length diagnoses.now ≡ length conditions.now }
     requires targets { length targets.now ≡ length conditions.now }
     ensures { OnOk result (text.new.items ≡ text.old.items ++ articles_text frame.entry.utf8
         (map (λ t. t.items) frame.entry.beneath.now) frame.entry.page.names.now
         frame.entry.page.origins.now.source.now frame.entry.page.origins.now.rows []
-        (map seen conditions.now) told.now targets.now) }
+        (map seen conditions.now) diagnoses.now targets.now) }
 {
     let mut firsts = Firsts::new(*text.allocator());
     for index in 0..conditions.len() {
@@ -217,7 +229,7 @@ pub(crate) fn put_articles(
             frame,
             index,
             condition,
-            &told[index],
+            &diagnoses[index],
             target,
         )?;
     }

@@ -42,9 +42,9 @@ fn put_start_row(
     let alloc = *text.allocator();
     let mut begins = Vec::new(alloc);
     put_start(&mut begins, outline, values)?;
-    let mut told = Vec::from_slice(alloc, b"starts from ")?;
-    put_escaped(&mut told, frame.utf8, &begins)?;
-    put_wide(text, b"faint", frame.lanes, &told)
+    let mut line = Vec::from_slice(alloc, b"starts from ")?;
+    put_escaped(&mut line, frame.utf8, &begins)?;
+    put_wide(text, b"faint", frame.lanes, &line)
 }
 
 // The steps.

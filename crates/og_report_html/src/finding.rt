@@ -3,7 +3,7 @@
 ghost use Rattle.std.specs.Prelude.{◌≡◌, ◌++◌, OnOk};
 ghost use Rattle.og_report_html.specs.Findings.{finding_of, is_found, word, sign};
 
-use og_report_prove::Told;
+use og_report_prove::Diagnosis;
 use std::alloc::AllocError;
 
 /// The finding on a condition that is not proved.
@@ -17,23 +17,23 @@ pub(crate) enum Finding {
 
 impl Finding {
     /// The finding on a condition, where it is not that it is proved.
-    pub(crate) fn of(told: &Told) -> Option<Finding>
-        ensures { result ≡ finding_of told.now }
+    pub(crate) fn of(diagnosis: &Diagnosis) -> Option<Finding>
+        ensures { result ≡ finding_of diagnosis.now }
     {
-        match told {
-            Told::Proved => None,
-            Told::False(_) => Some(Finding::False),
-            Told::Open => Some(Finding::Open),
+        match diagnosis {
+            Diagnosis::Proved => None,
+            Diagnosis::False(_) => Some(Finding::False),
+            Diagnosis::Open => Some(Finding::Open),
         }
     }
 
     /// Whether this is the finding on a condition.
-    pub(crate) fn is_of(self, told: &Told) -> bool
-        ensures { result ≡ is_found self told.now }
+    pub(crate) fn is_of(self, diagnosis: &Diagnosis) -> bool
+        ensures { result ≡ is_found self diagnosis.now }
     {
         match self {
-            Finding::False => told.is_false(),
-            Finding::Open => told.is_open(),
+            Finding::False => diagnosis.is_false(),
+            Finding::Open => diagnosis.is_open(),
         }
     }
 

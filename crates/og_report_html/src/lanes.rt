@@ -79,16 +79,16 @@ pub(crate) fn put_wide(
     text: &mut Vec<u8>,
     class: &[u8],
     lanes: usize,
-    told: &[u8],
+    line: &[u8],
 ) -> Result<(), AllocError>
-    ensures { OnOk result (text.new.items ≡ text.old.items ++ wide_row class.now lanes told.now) }
+    ensures { OnOk result (text.new.items ≡ text.old.items ++ wide_row class.now lanes line.now) }
 {
     text.extend_from_slice(b"<tr class=")?;
     text.extend_from_slice(class)?;
     text.extend_from_slice(b"><td><td colspan=")?;
     put_number(text, lanes as u128 + 1)?;
     text.extend_from_slice(b">")?;
-    text.extend_from_slice(told)?;
+    text.extend_from_slice(line)?;
     text.extend_from_slice(b"</tr>\n")
 }
 
@@ -99,10 +99,10 @@ pub(crate) fn put_skipped(text: &mut Vec<u8>, lanes: usize, count: usize) -> Res
     if count == 0 {
         return Ok(());
     }
-    let mut told = Vec::new(*text.allocator());
-    put_number(&mut told, count as u128)?;
-    told.extend_from_slice(b" steps")?;
-    put_wide(text, b"faint", lanes, &told)
+    let mut line = Vec::new(*text.allocator());
+    put_number(&mut line, count as u128)?;
+    line.extend_from_slice(b" steps")?;
+    put_wide(text, b"faint", lanes, &line)
 }
 
 // What the step's statement says.
@@ -132,10 +132,10 @@ fn put_sets_cell(text: &mut Vec<u8>, frame: Frame, row: &Row) -> Result<(), Allo
     ensures { OnOk result (text.new.items ≡ text.old.items ++ sets_cell frame.entry.utf8
         frame.entry.names.now frame.entry.source.now frame.entry.lanes row.now) }
 {
-    let mut did = Vec::new(*text.allocator());
-    put_did(&mut did, frame.names, &row.did)?;
+    let mut effect = Vec::new(*text.allocator());
+    put_did(&mut effect, frame.names, &row.effect)?;
     text.extend_from_slice(b"<td>")?;
-    put_escaped(text, frame.utf8, &did)?;
+    put_escaped(text, frame.utf8, &effect)?;
     text.extend_from_slice(b"</tr>\n")
 }
 
@@ -177,9 +177,9 @@ pub(crate) fn put_step_rows(
 pub(crate) fn put_end(text: &mut Vec<u8>, lanes: usize, condition: u128) -> Result<(), AllocError>
     ensures { OnOk result (text.new.items ≡ text.old.items ++ end_row lanes condition) }
 {
-    let mut told = Vec::new(*text.allocator());
-    told.extend_from_slice(b"&#10007; condition ")?;
-    put_number(&mut told, condition)?;
-    told.extend_from_slice(b" is false here")?;
-    put_wide(text, b"here", lanes, &told)
+    let mut line = Vec::new(*text.allocator());
+    line.extend_from_slice(b"&#10007; condition ")?;
+    put_number(&mut line, condition)?;
+    line.extend_from_slice(b" is false here")?;
+    put_wide(text, b"here", lanes, &line)
 }

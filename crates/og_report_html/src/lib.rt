@@ -12,15 +12,15 @@ mod lanes;
 mod marks;
 mod mode;
 mod numbers;
+mod run_texts;
 mod source;
 mod table;
 mod target;
-mod telling;
 mod totals;
 mod whole;
 
 pub use charting::chart;
 pub use escapes::{is_utf8, put_escaped};
+pub use run_texts::{about, run_parts};
 pub use target::{Interference, Target, targets};
-pub use telling::{about, told_runs};
 pub use whole::{Additions, page};

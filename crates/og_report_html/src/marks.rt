@@ -2,12 +2,12 @@
 
 ghost use Rattle.std.specs.Prelude.{◌≡◌, ◌++◌, ◌==◌, ◌<◌, ◌^◌, ℕ, length, map, Some, IfOk, OnOk};
 ghost use Rattle.og_cond.specs.Seen.{seen};
-ghost use Rattle.og_report_html.specs.Marks.{fault_place, told_place, is_action, mark_of, after_open, joined, with_mark, marked, with_told, mark_at, found};
+ghost use Rattle.og_report_html.specs.Marks.{fault_place, marked_place, is_action, mark_of, after_open, joined, with_mark, marked, with_diagnosis, mark_at, found};
 
 use crate::target::Target;
 use og_cond::Condition;
 use og_report_explain::Fault;
-use og_report_prove::Told;
+use og_report_prove::Diagnosis;
 use std::alloc::{AllocError, Global};
 use std::collections::BTreeMap;
 
@@ -22,13 +22,13 @@ pub(crate) enum Mark {
 
 impl Mark {
     // The finding on a condition with this number.
-    fn of(number: u128, told: &Told) -> Option<Mark>
-        ensures { result ≡ mark_of number told.now }
+    fn of(number: u128, diagnosis: &Diagnosis) -> Option<Mark>
+        ensures { result ≡ mark_of number diagnosis.now }
     {
-        match told {
-            Told::Proved => None,
-            Told::False(_) => Some(Mark::False(number)),
-            Told::Open => Some(Mark::Open(number)),
+        match diagnosis {
+            Diagnosis::Proved => None,
+            Diagnosis::False(_) => Some(Mark::False(number)),
+            Diagnosis::Open => Some(Mark::Open(number)),
         }
     }
 
@@ -58,10 +58,10 @@ impl Mark {
 pub(crate) type Marks = BTreeMap<u32, Mark>;
 
 // The place of the condition.
-pub(crate) fn told_place(condition: &Condition, told: &Told, target: &Target) -> u32
-    ensures { result ≡ told_place (seen condition.now) told.now target.now }
+pub(crate) fn marked_place(condition: &Condition, diagnosis: &Diagnosis, target: &Target) -> u32
+    ensures { result ≡ marked_place (seen condition.now) diagnosis.now target.now }
 {
-    let Told::False(block) = told else {
+    let Diagnosis::False(block) = diagnosis else {
         return target.goal;
     };
     match &block.details.explanation.fault {
@@ -92,20 +92,20 @@ fn add_action_mark(marks: &mut Marks, at: Option<u32>, mark: Mark) -> Result<(),
 }
 
 // The marks of a condition.
-fn add_told(
+fn add_diagnosis(
     marks: &mut Marks,
     number: u128,
     condition: &Condition,
-    told: &Told,
+    diagnosis: &Diagnosis,
     target: &Target,
 ) -> Result<(), AllocError>
     ensures { OnOk result ((p : ℕ) → found p marks.new
-        ≡ with_told p number (seen condition.now) told.now target.now (found p marks.old)) }
+        ≡ with_diagnosis p number (seen condition.now) diagnosis.now target.now (found p marks.old)) }
 {
-    let Some(mark) = Mark::of(number, told) else {
+    let Some(mark) = Mark::of(number, diagnosis) else {
         return Ok(());
     };
-    add_mark(marks, told_place(condition, told, target), mark)?;
+    add_mark(marks, marked_place(condition, diagnosis, target), mark)?;
     add_action_mark(marks, condition.action_at, mark)
 }
 
@@ -113,19 +113,19 @@ fn add_told(
 pub(crate) fn marks_of(
     alloc: Global,
     conditions: &[Condition],
-    told: &[Told],
+    diagnoses: &[Diagnosis],
     targets: &[Target],
 ) -> Result<Marks, AllocError>
-    requires told { length told.now ≡ length conditions.now }
+    requires diagnoses { length diagnoses.now ≡ length conditions.now }
     requires targets { length targets.now ≡ length conditions.now }
     ensures { IfOk result (λ marks.
-        (p : ℕ) → found p marks ≡ mark_at (map seen conditions.now) told.now targets.now p) }
+        (p : ℕ) → found p marks ≡ mark_at (map seen conditions.now) diagnoses.now targets.now p) }
 {
     let mut marks = Marks::new(alloc);
     for index in 0..conditions.len() {
         let number = index as u128 + 1;
         let (condition, target) = (&conditions[index], &targets[index]);
-        add_told(&mut marks, number, condition, &told[index], target)?;
+        add_diagnosis(&mut marks, number, condition, &diagnoses[index], target)?;
     }
     Ok(marks)
 }

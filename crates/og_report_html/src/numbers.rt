@@ -6,7 +6,7 @@ ghost use Rattle.og_report_html.specs.Findings.{is_found};
 ghost use Rattle.og_report_html.specs.Numbers.{number_link, number_where, number_links, numbers_line, numbers_of, numbers_text};
 
 use crate::finding::Finding;
-use og_report_prove::Told;
+use og_report_prove::Diagnosis;
 use og_report_text::put_number;
 use std::alloc::AllocError;
 
@@ -26,11 +26,11 @@ fn put_number_where(
     text: &mut Vec<u8>,
     finding: Finding,
     number: u128,
-    told: &Told,
+    diagnosis: &Diagnosis,
 ) -> Result<(), AllocError>
-    ensures { OnOk result (text.new.items ≡ text.old.items ++ number_where finding number told.now) }
+    ensures { OnOk result (text.new.items ≡ text.old.items ++ number_where finding number diagnosis.now) }
 {
-    if finding.is_of(told) {
+    if finding.is_of(diagnosis) {
         put_number_link(text, number)
     } else {
         Ok(())
@@ -38,50 +38,62 @@ fn put_number_where(
 }
 
 // Links to the blocks of all conditions with this finding.
-fn put_number_links(text: &mut Vec<u8>, finding: Finding, told: &[Told]) -> Result<(), AllocError>
-    ensures { OnOk result (text.new.items ≡ text.old.items ++ number_links finding 1 told.now) }
+fn put_number_links(
+    text: &mut Vec<u8>,
+    finding: Finding,
+    diagnoses: &[Diagnosis],
+) -> Result<(), AllocError>
+    ensures { OnOk result (text.new.items ≡ text.old.items ++ number_links finding 1 diagnoses.now) }
 {
-    for index in 0..told.len() {
-        put_number_where(text, finding, index as u128 + 1, &told[index])?;
+    for index in 0..diagnoses.len() {
+        put_number_where(text, finding, index as u128 + 1, &diagnoses[index])?;
     }
     Ok(())
 }
 
 // These, behind the sign and the word.
-fn put_numbers_line(text: &mut Vec<u8>, finding: Finding, told: &[Told]) -> Result<(), AllocError>
-    ensures { OnOk result (text.new.items ≡ text.old.items ++ numbers_line finding told.now) }
+fn put_numbers_line(
+    text: &mut Vec<u8>,
+    finding: Finding,
+    diagnoses: &[Diagnosis],
+) -> Result<(), AllocError>
+    ensures { OnOk result (text.new.items ≡ text.old.items ++ numbers_line finding diagnoses.now) }
 {
     text.extend_from_slice(b"<p>")?;
     finding.put_sign(text)?;
     text.extend_from_slice(b" ")?;
     finding.put_word(text)?;
     text.extend_from_slice(b":")?;
-    put_number_links(text, finding, told)?;
+    put_number_links(text, finding, diagnoses)?;
     text.extend_from_slice(b"</p>\n")
 }
 
 // Whether this is the finding on some condition.
-fn is_of_some(finding: Finding, told: &[Told]) -> bool
-    ensures { result ≡ list_any (is_found finding) told.now }
+fn is_of_some(finding: Finding, diagnoses: &[Diagnosis]) -> bool
+    ensures { result ≡ list_any (is_found finding) diagnoses.now }
 {
-    told.iter().any(|each| finding.is_of(each))
+    diagnoses.iter().any(|each| finding.is_of(each))
 }
 
 // The line, where there is something in it.
-fn put_numbers_of(text: &mut Vec<u8>, finding: Finding, told: &[Told]) -> Result<(), AllocError>
-    ensures { OnOk result (text.new.items ≡ text.old.items ++ numbers_of finding told.now) }
+fn put_numbers_of(
+    text: &mut Vec<u8>,
+    finding: Finding,
+    diagnoses: &[Diagnosis],
+) -> Result<(), AllocError>
+    ensures { OnOk result (text.new.items ≡ text.old.items ++ numbers_of finding diagnoses.now) }
 {
-    if is_of_some(finding, told) {
-        put_numbers_line(text, finding, told)
+    if is_of_some(finding, diagnoses) {
+        put_numbers_line(text, finding, diagnoses)
     } else {
         Ok(())
     }
 }
 
 /// Adds the numbers of the conditions that are false, and of those that are open.
-pub(crate) fn put_numbers(text: &mut Vec<u8>, told: &[Told]) -> Result<(), AllocError>
-    ensures { OnOk result (text.new.items ≡ text.old.items ++ numbers_text told.now) }
+pub(crate) fn put_numbers(text: &mut Vec<u8>, diagnoses: &[Diagnosis]) -> Result<(), AllocError>
+    ensures { OnOk result (text.new.items ≡ text.old.items ++ numbers_text diagnoses.now) }
 {
-    put_numbers_of(text, Finding::False, told)?;
-    put_numbers_of(text, Finding::Open, told)
+    put_numbers_of(text, Finding::False, diagnoses)?;
+    put_numbers_of(text, Finding::Open, diagnoses)
 }

@@ -3,25 +3,25 @@
 ghost use Rattle.std.specs.Prelude.{◌≡◌, ◌++◌, ◌<◌, ◌^◌, length, IfOk, OnOk};
 ghost use Rattle.std.specs.List.{filter};
 ghost use Rattle.og_report_html.specs.Findings.{is_found};
-ghost use Rattle.og_report_html.specs.Table.{clash_of, clashes_from, is_by, is_on, count_text, share_text, cell_text, cells_text, row_text, rows_text, column_head, column_heads, head_rows, whole_table, is_none, is_shown, table_of, table_text};
+ghost use Rattle.og_report_html.specs.Table.{disturbance_of, disturbances_from, is_by, is_on, count_text, share_text, cell_text, cells_text, row_text, rows_text, column_head, column_heads, head_rows, whole_table, is_none, is_shown, table_of, table_text};
 
 use crate::constants::{AFTER_TABLE, BEFORE_TABLE, MOST_PROCESSES};
 use crate::finding::Finding;
 use crate::target::{Interference, Target};
-use og_report_prove::Told;
+use og_report_prove::Diagnosis;
 use og_report_text::put_number;
 use std::alloc::{AllocError, Global};
 
 /// A condition of interference that is not proved.
 #[derive(Clone, Copy, Debug, PartialEq, Eq, Drop)]
-pub(crate) struct Clash {
+pub(crate) struct Disturbance {
     /// The condition's number, from 1.
     pub(crate) number: u128,
     /// Between which processes it is.
     pub(crate) interference: Interference,
 }
 
-impl Clash {
+impl Disturbance {
     // Whether the step is one of this process.
     fn is_by(&self, process: usize) -> bool
         ensures { result ≡ is_by process self.now }
@@ -38,21 +38,21 @@ impl Clash {
 }
 
 // Adds a condition, where it is one of interference with this finding.
-fn add_clash(
-    found: &mut Vec<Clash>,
+fn add_disturbance(
+    found: &mut Vec<Disturbance>,
     finding: Finding,
     number: u128,
-    told: &Told,
+    diagnosis: &Diagnosis,
     target: &Target,
 ) -> Result<(), AllocError>
     ensures { OnOk result (found.new.items ≡ found.old.items
-        ++ clash_of (is_found finding told.now) number target.now.interference) }
+        ++ disturbance_of (is_found finding diagnosis.now) number target.now.interference) }
 {
-    if !finding.is_of(told) {
+    if !finding.is_of(diagnosis) {
         return Ok(());
     }
     if let Some(interference) = target.interference {
-        found.push(Clash {
+        found.push(Disturbance {
             number,
             interference,
         })?;
@@ -61,28 +61,38 @@ fn add_clash(
 }
 
 // The conditions of interference with this finding.
-fn clashes_told(
+fn disturbances_of(
     alloc: Global,
     finding: Finding,
-    told: &[Told],
+    diagnoses: &[Diagnosis],
     targets: &[Target],
-) -> Result<Vec<Clash>, AllocError>
-    requires { length targets.now ≡ length told.now }
-    ensures { IfOk result (λ v. v.items ≡ clashes_from finding 1 told.now targets.now) }
+) -> Result<Vec<Disturbance>, AllocError>
+    requires { length targets.now ≡ length diagnoses.now }
+    ensures { IfOk result (λ v. v.items ≡ disturbances_from finding 1 diagnoses.now targets.now) }
 {
     let mut found = Vec::new(alloc);
-    for index in 0..told.len() {
+    for index in 0..diagnoses.len() {
         let number = index as u128 + 1;
-        add_clash(&mut found, finding, number, &told[index], &targets[index])?;
+        add_disturbance(
+            &mut found,
+            finding,
+            number,
+            &diagnoses[index],
+            &targets[index],
+        )?;
     }
     Ok(found)
 }
 
 // Those with a step of this process.
-fn those_by(alloc: Global, clashes: &[Clash], process: usize) -> Result<Vec<Clash>, AllocError>
-    ensures { IfOk result (λ v. v.items ≡ filter (is_by process) clashes.now) }
+fn those_by(
+    alloc: Global,
+    disturbances: &[Disturbance],
+    process: usize,
+) -> Result<Vec<Disturbance>, AllocError>
+    ensures { IfOk result (λ v. v.items ≡ filter (is_by process) disturbances.now) }
 {
-    clashes
+    disturbances
         .iter()
         .filter(|each| each.is_by(process))
         .copied()
@@ -90,10 +100,14 @@ fn those_by(alloc: Global, clashes: &[Clash], process: usize) -> Result<Vec<Clas
 }
 
 // Those with an assertion of this process.
-fn those_on(alloc: Global, clashes: &[Clash], process: usize) -> Result<Vec<Clash>, AllocError>
-    ensures { IfOk result (λ v. v.items ≡ filter (is_on process) clashes.now) }
+fn those_on(
+    alloc: Global,
+    disturbances: &[Disturbance],
+    process: usize,
+) -> Result<Vec<Disturbance>, AllocError>
+    ensures { IfOk result (λ v. v.items ≡ filter (is_on process) disturbances.now) }
 {
-    clashes
+    disturbances
         .iter()
         .filter(|each| each.is_on(process))
         .copied()
@@ -121,41 +135,49 @@ fn put_count(
 }
 
 // How many these are, with a link to the block of the first.
-fn put_share(text: &mut Vec<u8>, finding: Finding, clashes: &[Clash]) -> Result<(), AllocError>
-    ensures { OnOk result (text.new.items ≡ text.old.items ++ share_text finding clashes.now) }
+fn put_share(
+    text: &mut Vec<u8>,
+    finding: Finding,
+    disturbances: &[Disturbance],
+) -> Result<(), AllocError>
+    ensures { OnOk result (text.new.items ≡ text.old.items ++ share_text finding disturbances.now) }
 {
-    match clashes {
+    match disturbances {
         [] => Ok(()),
-        [first, ..] => put_count(text, finding, first.number, clashes.len()),
+        [first, ..] => put_count(text, finding, first.number, disturbances.len()),
     }
 }
 
 // Conditions of interference that are false, and those of which nothing is known.
 #[derive(Clone, Copy)]
-struct Clashes<'a> {
-    wrong: &'a [Clash],
-    unknown: &'a [Clash],
+struct Disturbances<'a> {
+    wrong: &'a [Disturbance],
+    unknown: &'a [Disturbance],
 }
 
 // Of steps of one process, those on assertions of another.
-fn put_cell(text: &mut Vec<u8>, clashes: Clashes, process: usize) -> Result<(), AllocError>
+fn put_cell(
+    text: &mut Vec<u8>,
+    disturbances: Disturbances,
+    process: usize,
+) -> Result<(), AllocError>
     ensures { OnOk result (text.new.items ≡ text.old.items
-        ++ cell_text clashes.entry.wrong.now clashes.entry.unknown.now process) }
+        ++ cell_text disturbances.entry.wrong.now disturbances.entry.unknown.now process) }
 {
-    let wrong = those_on(*text.allocator(), clashes.wrong, process)?;
-    let unknown = those_on(*text.allocator(), clashes.unknown, process)?;
+    let wrong = those_on(*text.allocator(), disturbances.wrong, process)?;
+    let unknown = those_on(*text.allocator(), disturbances.unknown, process)?;
     text.extend_from_slice(b"<td>")?;
     put_share(text, Finding::False, &wrong)?;
     put_share(text, Finding::Open, &unknown)
 }
 
 // The cells of all processes.
-fn put_cells(text: &mut Vec<u8>, clashes: Clashes, count: usize) -> Result<(), AllocError>
+fn put_cells(text: &mut Vec<u8>, disturbances: Disturbances, count: usize) -> Result<(), AllocError>
     ensures { OnOk result (text.new.items ≡ text.old.items
-        ++ cells_text clashes.entry.wrong.now clashes.entry.unknown.now count) }
+        ++ cells_text disturbances.entry.wrong.now disturbances.entry.unknown.now count) }
 {
     for process in 0..count {
-        put_cell(text, clashes, process)?;
+        put_cell(text, disturbances, process)?;
     }
     Ok(())
 }
@@ -163,33 +185,33 @@ fn put_cells(text: &mut Vec<u8>, clashes: Clashes, count: usize) -> Result<(), A
 // The row of a process.
 fn put_row(
     text: &mut Vec<u8>,
-    clashes: Clashes,
+    disturbances: Disturbances,
     count: usize,
     process: usize,
 ) -> Result<(), AllocError>
     ensures { OnOk result (text.new.items ≡ text.old.items
-        ++ row_text count clashes.entry.wrong.now clashes.entry.unknown.now process) }
+        ++ row_text count disturbances.entry.wrong.now disturbances.entry.unknown.now process) }
 {
-    let wrong = those_by(*text.allocator(), clashes.wrong, process)?;
-    let unknown = those_by(*text.allocator(), clashes.unknown, process)?;
-    let clashes = Clashes {
+    let wrong = those_by(*text.allocator(), disturbances.wrong, process)?;
+    let unknown = those_by(*text.allocator(), disturbances.unknown, process)?;
+    let disturbances = Disturbances {
         wrong: &wrong,
         unknown: &unknown,
     };
     text.extend_from_slice(b"<tr><th scope=row>")?;
     put_number(text, process as u128 + 1)?;
     text.extend_from_slice(b"</th>")?;
-    put_cells(text, clashes, count)?;
+    put_cells(text, disturbances, count)?;
     text.extend_from_slice(b"</tr>\n")
 }
 
 // The rows of all processes.
-fn put_rows(text: &mut Vec<u8>, clashes: Clashes, count: usize) -> Result<(), AllocError>
+fn put_rows(text: &mut Vec<u8>, disturbances: Disturbances, count: usize) -> Result<(), AllocError>
     ensures { OnOk result (text.new.items ≡ text.old.items
-        ++ rows_text count clashes.entry.wrong.now clashes.entry.unknown.now) }
+        ++ rows_text count disturbances.entry.wrong.now disturbances.entry.unknown.now) }
 {
     for process in 0..count {
-        put_row(text, clashes, count, process)?;
+        put_row(text, disturbances, count, process)?;
     }
     Ok(())
 }
@@ -223,38 +245,42 @@ fn put_head(text: &mut Vec<u8>, count: usize) -> Result<(), AllocError>
     text.extend_from_slice(b"</tr>\n")
 }
 
-fn put_whole(text: &mut Vec<u8>, clashes: Clashes, count: usize) -> Result<(), AllocError>
+fn put_whole(text: &mut Vec<u8>, disturbances: Disturbances, count: usize) -> Result<(), AllocError>
     ensures { OnOk result (text.new.items ≡ text.old.items
-        ++ whole_table count clashes.entry.wrong.now clashes.entry.unknown.now) }
+        ++ whole_table count disturbances.entry.wrong.now disturbances.entry.unknown.now) }
 {
     text.extend_from_slice(BEFORE_TABLE)?;
     put_head(text, count)?;
-    put_rows(text, clashes, count)?;
+    put_rows(text, disturbances, count)?;
     text.extend_from_slice(AFTER_TABLE)
 }
 
-fn is_none(clashes: &[Clash]) -> bool
-    ensures { result ≡ is_none clashes.now }
+fn is_none(disturbances: &[Disturbance]) -> bool
+    ensures { result ≡ is_none disturbances.now }
 {
-    match clashes {
+    match disturbances {
         [] => true,
         _ => false,
     }
 }
 
 // Whether there is a table of these.
-fn is_shown(clashes: Clashes, count: usize) -> bool
-    ensures { result ≡ is_shown count clashes.entry.wrong.now clashes.entry.unknown.now }
+fn is_shown(disturbances: Disturbances, count: usize) -> bool
+    ensures { result ≡ is_shown count disturbances.entry.wrong.now disturbances.entry.unknown.now }
 {
-    count <= MOST_PROCESSES && !(is_none(clashes.wrong) && is_none(clashes.unknown))
+    count <= MOST_PROCESSES && !(is_none(disturbances.wrong) && is_none(disturbances.unknown))
 }
 
-fn put_clashes(text: &mut Vec<u8>, clashes: Clashes, count: usize) -> Result<(), AllocError>
+fn put_disturbances(
+    text: &mut Vec<u8>,
+    disturbances: Disturbances,
+    count: usize,
+) -> Result<(), AllocError>
     ensures { OnOk result (text.new.items ≡ text.old.items
-        ++ table_of count clashes.entry.wrong.now clashes.entry.unknown.now) }
+        ++ table_of count disturbances.entry.wrong.now disturbances.entry.unknown.now) }
 {
-    if is_shown(clashes, count) {
-        put_whole(text, clashes, count)
+    if is_shown(disturbances, count) {
+        put_whole(text, disturbances, count)
     } else {
         Ok(())
     }
@@ -265,17 +291,17 @@ fn put_clashes(text: &mut Vec<u8>, clashes: Clashes, count: usize) -> Result<(),
 pub(crate) fn put_table(
     text: &mut Vec<u8>,
     count: usize,
-    told: &[Told],
+    diagnoses: &[Diagnosis],
     targets: &[Target],
 ) -> Result<(), AllocError>
-    requires { length targets.now ≡ length told.now }
-    ensures { OnOk result (text.new.items ≡ text.old.items ++ table_text count told.now targets.now) }
+    requires { length targets.now ≡ length diagnoses.now }
+    ensures { OnOk result (text.new.items ≡ text.old.items ++ table_text count diagnoses.now targets.now) }
 {
-    let wrong = clashes_told(*text.allocator(), Finding::False, told, targets)?;
-    let unknown = clashes_told(*text.allocator(), Finding::Open, told, targets)?;
-    let clashes = Clashes {
+    let wrong = disturbances_of(*text.allocator(), Finding::False, diagnoses, targets)?;
+    let unknown = disturbances_of(*text.allocator(), Finding::Open, diagnoses, targets)?;
+    let disturbances = Disturbances {
         wrong: &wrong,
         unknown: &unknown,
     };
-    put_clashes(text, clashes, count)
+    put_disturbances(text, disturbances, count)
 }

@@ -3,7 +3,7 @@
 ghost use Rattle.std.specs.Prelude.{◌≡◌, ◌++◌, OnOk};
 ghost use Rattle.og_report_html.specs.Totals.{number_item, yes_item, answer_item, totals_items};
 
-use og_report_prove::{Told, Totals, is_safe, is_unblocked};
+use og_report_prove::{Diagnosis, Totals, is_safe, is_unblocked};
 use og_report_text::put_number;
 use std::alloc::AllocError;
 
@@ -36,14 +36,14 @@ fn put_answer_item(text: &mut Vec<u8>, word: &[u8], yes: bool) -> Result<(), All
 }
 
 /// Adds the totals.
-pub(crate) fn put_totals(text: &mut Vec<u8>, told: &[Told]) -> Result<(), AllocError>
-    ensures { OnOk result (text.new.items ≡ text.old.items ++ totals_items told.now) }
+pub(crate) fn put_totals(text: &mut Vec<u8>, diagnoses: &[Diagnosis]) -> Result<(), AllocError>
+    ensures { OnOk result (text.new.items ≡ text.old.items ++ totals_items diagnoses.now) }
 {
-    let totals = Totals::of(told);
-    put_number_item(text, b"conditions", told.len())?;
+    let totals = Totals::of(diagnoses);
+    put_number_item(text, b"conditions", diagnoses.len())?;
     put_number_item(text, b"proved", totals.proved)?;
     put_number_item(text, b"false", totals.refuted)?;
     put_number_item(text, b"open", totals.still_open)?;
-    put_answer_item(text, b"safe", is_safe(told))?;
-    put_answer_item(text, b"unblocked", is_unblocked(told))
+    put_answer_item(text, b"safe", is_safe(diagnoses))?;
+    put_answer_item(text, b"unblocked", is_unblocked(diagnoses))
 }

@@ -17,7 +17,7 @@ use crate::table::put_table;
 use crate::target::Target;
 use crate::totals::put_totals;
 use og_cond::Condition;
-use og_report_prove::{Page, Told};
+use og_report_prove::{Diagnosis, Page};
 use og_report_text::{Origins, Places};
 use og_typed::Outline;
 use std::alloc::{AllocError, Global};
@@ -27,16 +27,16 @@ fn put_marked(
     text: &mut Vec<u8>,
     source: &[u8],
     conditions: &[Condition],
-    told: &[Told],
+    diagnoses: &[Diagnosis],
     targets: &[Target],
 ) -> Result<(), AllocError>
     requires short { length source.now ≤ 2 ^ 20 }
-    requires each { length told.now ≡ length conditions.now }
+    requires each { length diagnoses.now ≡ length conditions.now }
     requires targets { length targets.now ≡ length conditions.now }
     ensures { OnOk result (text.new.items ≡ text.old.items ++ source_text (is_utf8 source.now)
-        (mark_at (map seen conditions.now) told.now targets.now) source.now) }
+        (mark_at (map seen conditions.now) diagnoses.now targets.now) source.now) }
 {
-    let marks = marks_of(*text.allocator(), conditions, told, targets)?;
+    let marks = marks_of(*text.allocator(), conditions, diagnoses, targets)?;
     put_source(text, is_utf8(source), &marks, source)
 }
 
@@ -69,15 +69,15 @@ fn put_blocks(
     source: &[u8],
     additions: Additions,
     conditions: &[Condition],
-    told: &[Told],
+    diagnoses: &[Diagnosis],
     targets: &[Target],
 ) -> Result<(), AllocError>
     requires short { length source.now ≤ 2 ^ 20 }
-    requires each { length told.now ≡ length conditions.now }
+    requires each { length diagnoses.now ≡ length conditions.now }
     requires targets { length targets.now ≡ length conditions.now }
     ensures { OnOk result (text.new.items ≡ text.old.items ++ blocks_text outline.now source.now
         additions.entry.before.now (map (λ t. t.items) additions.entry.beneath.now)
-        (map seen conditions.now) told.now targets.now) }
+        (map seen conditions.now) diagnoses.now targets.now) }
 {
     let utf8 = is_utf8(source);
     let places = Places::new(*text.allocator(), source)?;
@@ -87,13 +87,13 @@ fn put_blocks(
         origins: &origins,
     };
     text.extend_from_slice(additions.before)?;
-    put_numbers(text, told)?;
+    put_numbers(text, diagnoses)?;
     let frame = Frame {
         utf8,
         page,
         beneath: additions.beneath,
     };
-    put_articles(text, frame, conditions, told, targets)
+    put_articles(text, frame, conditions, diagnoses, targets)
 }
 
 /// The report of all conditions of an outline, as one text of HTML: the totals, the source with its
@@ -109,27 +109,27 @@ pub fn page(
     outline: &Outline,
     source: &[u8],
     conditions: &[Condition],
-    told: &[Told],
+    diagnoses: &[Diagnosis],
     targets: &[Target],
     additions: Additions,
 ) -> Result<Vec<u8>, AllocError>
     requires short { length source.now ≤ 2 ^ 20 }
-    requires each { length told.now ≡ length conditions.now }
+    requires each { length diagnoses.now ≡ length conditions.now }
     requires targets { length targets.now ≡ length conditions.now }
     ensures { IfOk result (λ text. text.items ≡ page_text outline.now source.now
         additions.entry.before.now (map (λ t. t.items) additions.entry.beneath.now)
-        (map seen conditions.now) told.now targets.now) }
+        (map seen conditions.now) diagnoses.now targets.now) }
 {
     let mut text = Vec::new(alloc);
     text.extend_from_slice(START)?;
-    put_totals(&mut text, told)?;
+    put_totals(&mut text, diagnoses)?;
     text.extend_from_slice(BEFORE_SOURCE)?;
-    put_marked(&mut text, source, conditions, told, targets)?;
+    put_marked(&mut text, source, conditions, diagnoses, targets)?;
     text.extend_from_slice(AFTER_SOURCE)?;
-    put_table(&mut text, outline.processes().len(), told, targets)?;
+    put_table(&mut text, outline.processes().len(), diagnoses, targets)?;
     text.extend_from_slice(BEFORE_BLOCKS)?;
     put_blocks(
-        &mut text, outline, source, additions, conditions, told, targets,
+        &mut text, outline, source, additions, conditions, diagnoses, targets,
     )?;
     text.extend_from_slice(END)?;
     Ok(text)

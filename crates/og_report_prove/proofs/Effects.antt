@@ -11,14 +11,14 @@ use Rattle.og_typed.specs.Syntax.{Formula}
 use Rattle.og_cert_read.specs.Firsts.{found}
 use Rattle.og_cond.specs.Condition.{Condition}
 use Rattle.og_report_prove.specs.Blocks.{block_text}
-use Rattle.og_report_prove.specs.Effects.{alike_line, effect_of, effect_text, has_text, has_effect, first_with, after_effect, after_told}
-use Rattle.og_report_prove.specs.Report.{effect_or_block, alike_or_block, body_text, head_text, one_text, told_text, told_lines}
+use Rattle.og_report_prove.specs.Effects.{alike_line, effect_of, effect_text, has_text, has_effect, first_with, after_effect, after_diagnosis}
+use Rattle.og_report_prove.specs.Report.{effect_or_block, alike_or_block, body_text, head_text, one_text, diagnosis_text, diagnosis_lines}
 use Rattle.og_report_prove.specs.Together.{shown}
 use Rattle.og_report_prove.proofs.Lists.{dropped}
 use Rattle.og_report_text.specs.Origins.{Rows}
 use Rattle.og_report_prove.specs.declared.block.Block.{Block}
-use Rattle.og_report_prove.specs.declared.telling.Told.{Told}
-use Rattle.og_report_prove.specs.declared.telling.Told.TheVariants as told
+use Rattle.og_report_prove.specs.declared.diagnosis.Diagnosis.{Diagnosis}
+use Rattle.og_report_prove.specs.declared.diagnosis.Diagnosis.TheVariants as diagnosis
 
 module _ (names : List (List ℕ)) (source : List ℕ) (rows : Rows) where
   -- ---- only the known part of an effect counts
@@ -28,15 +28,15 @@ module _ (names : List (List ℕ)) (source : List ℕ) (rows : Rows) where
   body_same f g None block h = refl
   body_same f g (Some effect) block h = ap (λ k. alike_or_block names source rows k effect.1 block) (h (effect_text names source rows effect))
 
-  one_same : (f g : List ℕ → Option ℕ) (n : ℕ) (c : Condition) (more : ℕ) (t : Told) → ((text : List ℕ) → f text ≡ g text)
+  one_same : (f g : List ℕ → Option ℕ) (n : ℕ) (c : Condition) (more : ℕ) (t : Diagnosis) → ((text : List ℕ) → f text ≡ g text)
       → one_text names source rows f n c more t ≡ one_text names source rows g n c more t
-  one_same f g n c more told.Proved h = refl
-  one_same f g n c more (told.False block) h =
+  one_same f g n c more diagnosis.Proved h = refl
+  one_same f g n c more (diagnosis.False block) h =
       ap (λ (body : List ℕ). head_text source rows n c (codes "false") more ++ body) (body_same f g (effect_of block.details.value.explanation.action block.details.value.explanation.fault) block h)
-  one_same f g n c more told.Open h = refl
+  one_same f g n c more diagnosis.Open h = refl
 
-  pub told_same : (f g : List ℕ → Option ℕ) (n : ℕ) (c : Condition) (m : Option ℕ) (t : Told) → ((text : List ℕ) → f text ≡ g text)
-      → told_text names source rows f n c m t ≡ told_text names source rows g n c m t
+  pub told_same : (f g : List ℕ → Option ℕ) (n : ℕ) (c : Condition) (m : Option ℕ) (t : Diagnosis) → ((text : List ℕ) → f text ≡ g text)
+      → diagnosis_text names source rows f n c m t ≡ diagnosis_text names source rows g n c m t
   told_same f g n c None t h = refl
   told_same f g n c (Some more) t h = one_same f g n c more t h
 
@@ -64,73 +64,73 @@ module _ (names : List (List ℕ)) (source : List ℕ) (rows : Rows) where
   alone_effect text n k None is = refl
   alone_effect text n k (Some effect) is = ap (λ (m : ℕ). cond (bytes_eq text (effect_text names source rows effect)) (Some m) None) (sym is)
 
-  alone : (text : List ℕ) (n k : ℕ) (t : Told) → n ≡ k → first_with names source rows text k (t ∷ []) ≡ after_told names source rows t text n None
-  alone text n k told.Proved is = refl
-  alone text n k (told.False block) is = alone_effect text n k (effect_of block.details.value.explanation.action block.details.value.explanation.fault) is
-  alone text n k told.Open is = refl
+  alone : (text : List ℕ) (n k : ℕ) (t : Diagnosis) → n ≡ k → first_with names source rows text k (t ∷ []) ≡ after_diagnosis names source rows t text n None
+  alone text n k diagnosis.Proved is = refl
+  alone text n k (diagnosis.False block) is = alone_effect text n k (effect_of block.details.value.explanation.action block.details.value.explanation.fault) is
+  alone text n k diagnosis.Open is = refl
 
   kept_effect : (text : List ℕ) (n k : ℕ) (e : Option (ℕ × List Formula)) → Some k ≡ after_effect names source rows e text n (Some k)
   kept_effect text n k None = refl
   kept_effect text n k (Some effect) = refl
 
-  kept : (text : List ℕ) (n k : ℕ) (t : Told) → Some k ≡ after_told names source rows t text n (Some k)
-  kept text n k told.Proved = refl
-  kept text n k (told.False block) = kept_effect text n k (effect_of block.details.value.explanation.action block.details.value.explanation.fault)
-  kept text n k told.Open = refl
+  kept : (text : List ℕ) (n k : ℕ) (t : Diagnosis) → Some k ≡ after_diagnosis names source rows t text n (Some k)
+  kept text n k diagnosis.Proved = refl
+  kept text n k (diagnosis.False block) = kept_effect text n k (effect_of block.details.value.explanation.action block.details.value.explanation.fault)
+  kept text n k diagnosis.Open = refl
 
-  pub first_end : (text : List ℕ) (n k : ℕ) (done : List Told) (t : Told) → n ≡ k + length done
-      → first_with names source rows text k (done ++ t ∷ []) ≡ after_told names source rows t text n (first_with names source rows text k done)
+  pub first_end : (text : List ℕ) (n k : ℕ) (done : List Diagnosis) (t : Diagnosis) → n ≡ k + length done
+      → first_with names source rows text k (done ++ t ∷ []) ≡ after_diagnosis names source rows t text n (first_with names source rows text k done)
   first_end text n k [] t is = alone text n k t (omega (arith, is))
   first_end text n k (x ∷ done) t is = from (has_effect names source rows text x) (first_end text n (k + 1) done t (omega (arith, is)))
     where
-      from : (b : Bool) → first_with names source rows text (k + 1) (done ++ t ∷ []) ≡ after_told names source rows t text n (first_with names source rows text (k + 1) done)
-          → cond b (Some k) (first_with names source rows text (k + 1) (done ++ t ∷ [])) ≡ after_told names source rows t text n (cond b (Some k) (first_with names source rows text (k + 1) done))
+      from : (b : Bool) → first_with names source rows text (k + 1) (done ++ t ∷ []) ≡ after_diagnosis names source rows t text n (first_with names source rows text (k + 1) done)
+          → cond b (Some k) (first_with names source rows text (k + 1) (done ++ t ∷ [])) ≡ after_diagnosis names source rows t text n (cond b (Some k) (first_with names source rows text (k + 1) done))
       from true h = kept text n k t
       from false h = h
 
   -- ---- all of them, as far as they are reported
 
-  pub record IsSoFar (before text : List ℕ) (firsts : BTreeMap (Vec ℕ Global) ℕ) (i : ℕ) (cs : List Condition) (ms : List (Option ℕ)) (ts : List Told) : Type 0 where
-    pub done : List Told
+  pub record IsSoFar (before text : List ℕ) (firsts : BTreeMap (Vec ℕ Global) ℕ) (i : ℕ) (cs : List Condition) (ms : List (Option ℕ)) (ts : List Diagnosis) : Type 0 where
+    pub done : List Diagnosis
     pub size : length done ≡ i
     pub known : (t : List ℕ) → found t firsts ≡ first_with names source rows t 1 done
-    pub whole : text ++ told_lines names source rows done (drop i cs) (drop i ms) (drop i ts) ≡ before ++ told_lines names source rows [] cs ms ts
+    pub whole : text ++ diagnosis_lines names source rows done (drop i cs) (drop i ms) (drop i ts) ≡ before ++ diagnosis_lines names source rows [] cs ms ts
 
-  pub so_far_begins : (before text : List ℕ) (firsts : BTreeMap (Vec ℕ Global) ℕ) (cs : List Condition) (ms : List (Option ℕ)) (ts : List Told) → text ≡ before → firsts.entries ≡ []
+  pub so_far_begins : (before text : List ℕ) (firsts : BTreeMap (Vec ℕ Global) ℕ) (cs : List Condition) (ms : List (Option ℕ)) (ts : List Diagnosis) → text ≡ before → firsts.entries ≡ []
       → IsSoFar before text firsts 0 cs ms ts
   so_far_begins before text firsts cs ms ts same none =
       record {
         done = [];
         size = refl;
         known = λ t. ap (lookup (is_at (λ k. slice_cmp nat_cmp t k.items))) none;
-        whole = ap (λ (x : List ℕ). x ++ told_lines names source rows [] cs ms ts) same;
+        whole = ap (λ (x : List ℕ). x ++ diagnosis_lines names source rows [] cs ms ts) same;
       }
 
-  pub so_far_goes : (before t0 t1 : List ℕ) (old new : BTreeMap (Vec ℕ Global) ℕ) (i : ℕ) (cs : List Condition) (ms : List (Option ℕ)) (ts : List Told) (c : Condition) (m : Option ℕ) (t : Told)
+  pub so_far_goes : (before t0 t1 : List ℕ) (old new : BTreeMap (Vec ℕ Global) ℕ) (i : ℕ) (cs : List Condition) (ms : List (Option ℕ)) (ts : List Diagnosis) (c : Condition) (m : Option ℕ) (t : Diagnosis)
       → slice_get cs i ≡ Some c → slice_get ms i ≡ Some m → slice_get ts i ≡ Some t
-      → t1 ≡ t0 ++ told_text names source rows (λ x. found x old) (i + 1) c m t
-      → ((x : List ℕ) → found x new ≡ after_told names source rows (shown m t) x (i + 1) (found x old))
+      → t1 ≡ t0 ++ diagnosis_text names source rows (λ x. found x old) (i + 1) c m t
+      → ((x : List ℕ) → found x new ≡ after_diagnosis names source rows (shown m t) x (i + 1) (found x old))
       → IsSoFar before t0 old i cs ms ts → IsSoFar before t1 new (i + 1) cs ms ts
   so_far_goes before t0 t1 old new i cs ms ts c m t c_is m_is t_is put noted s =
       let size = s.size in
       let one_more = length-append s.done (shown m t ∷ []) in
-      let rest = told_lines names source rows (s.done ++ shown m t ∷ []) (drop (i + 1) cs) (drop (i + 1) ms) (drop (i + 1) ts) in
-      let one = told_text names source rows (λ x. found x old) (i + 1) c m t in
-      let same : one ≡ told_text names source rows (λ x. first_with names source rows x 1 s.done) (length s.done + 1) c m t =
+      let rest = diagnosis_lines names source rows (s.done ++ shown m t ∷ []) (drop (i + 1) cs) (drop (i + 1) ms) (drop (i + 1) ts) in
+      let one = diagnosis_text names source rows (λ x. found x old) (i + 1) c m t in
+      let same : one ≡ diagnosis_text names source rows (λ x. first_with names source rows x 1 s.done) (length s.done + 1) c m t =
       told_same (λ x. found x old) (λ x. first_with names source rows x 1 s.done) (i + 1) c m t s.known
-      ∙ ap (λ (k : ℕ). told_text names source rows (λ x. first_with names source rows x 1 s.done) (k + 1) c m t) (sym size) in
+      ∙ ap (λ (k : ℕ). diagnosis_text names source rows (λ x. first_with names source rows x 1 s.done) (k + 1) c m t) (sym size) in
       record {
         done = s.done ++ shown m t ∷ [];
         size = omega (arith, one_more, size);
         known =
-            λ x. noted x ∙ ap (after_told names source rows (shown m t) x (i + 1)) (s.known x)
+            λ x. noted x ∙ ap (after_diagnosis names source rows (shown m t) x (i + 1)) (s.known x)
             ∙ sym (first_end x (i + 1) 1 s.done (shown m t) (omega (arith, size)));
         whole =
             ap (λ (a : List ℕ). a ++ rest) put
             ∙ append_assoc t0 one rest
             ∙ ap (λ (a : List ℕ). t0 ++ (a ++ rest)) same
-            ∙ ap (λ l. t0 ++ told_lines names source rows s.done l (m ∷ drop (i + 1) ms) (t ∷ drop (i + 1) ts)) (sym (dropped cs i c c_is))
-            ∙ ap₂ (λ k l. t0 ++ told_lines names source rows s.done (drop i cs) k l) (sym (dropped ms i m m_is)) (sym (dropped ts i t t_is))
+            ∙ ap (λ l. t0 ++ diagnosis_lines names source rows s.done l (m ∷ drop (i + 1) ms) (t ∷ drop (i + 1) ts)) (sym (dropped cs i c c_is))
+            ∙ ap₂ (λ k l. t0 ++ diagnosis_lines names source rows s.done (drop i cs) k l) (sym (dropped ms i m m_is)) (sym (dropped ts i t t_is))
             ∙ s.whole;
       }
 
@@ -138,7 +138,7 @@ module _ (names : List (List ℕ)) (source : List ℕ) (rows : Rows) where
   append_none [] = refl
   append_none (x ∷ xs) = ap (λ ys. x ∷ ys) (append_none xs)
 
-  pub so_far_ends : (before text : List ℕ) (firsts : BTreeMap (Vec ℕ Global) ℕ) (i : ℕ) (cs : List Condition) (ms : List (Option ℕ)) (ts : List Told) → drop i cs ≡ []
-      → IsSoFar before text firsts i cs ms ts → text ≡ before ++ told_lines names source rows [] cs ms ts
+  pub so_far_ends : (before text : List ℕ) (firsts : BTreeMap (Vec ℕ Global) ℕ) (i : ℕ) (cs : List Condition) (ms : List (Option ℕ)) (ts : List Diagnosis) → drop i cs ≡ []
+      → IsSoFar before text firsts i cs ms ts → text ≡ before ++ diagnosis_lines names source rows [] cs ms ts
   so_far_ends before text firsts i cs ms ts none s =
-      sym (append_none text) ∙ ap (λ k. text ++ told_lines names source rows s.done k (drop i ms) (drop i ts)) (sym none) ∙ s.whole
+      sym (append_none text) ∙ ap (λ k. text ++ diagnosis_lines names source rows s.done k (drop i ms) (drop i ts)) (sym none) ∙ s.whole

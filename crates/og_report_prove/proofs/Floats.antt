@@ -14,10 +14,10 @@ use Rattle.og_typed.specs.declared.sites.StatementSite.{StatementSite}
 use Rattle.og_report_explain.specs.declared.explanation.Fault.{Fault}
 use Rattle.og_report_explain.specs.declared.explanation.Fault.TheVariants as fault
 use Rattle.og_report_prove.specs.Report.{is_proved}
-use Rattle.og_report_prove.specs.declared.telling.Told.{Told}
-use Rattle.og_report_prove.specs.declared.telling.Told.TheVariants as told
+use Rattle.og_report_prove.specs.declared.diagnosis.Diagnosis.{Diagnosis}
+use Rattle.og_report_prove.specs.declared.diagnosis.Diagnosis.TheVariants as diagnosis
 use Rattle.og_report_prove.specs.Members.{digits_data, value_data, if_some, name_of, with_values}
-use Rattle.og_report_prove.specs.Json.{after_of, conjunct_data, false_of, too_large_of, state_member, after_member, false_member, too_large_member, last_members, middle_members, told_data, unproved_data, report_data}
+use Rattle.og_report_prove.specs.Json.{after_of, conjunct_data, false_of, too_large_of, state_member, after_member, false_member, too_large_member, last_members, middle_members, diagnosis_data, unproved_data, report_data}
 use Rattle.og_report_prove.proofs.Puts.{neither, no_float_put}
 
 -- ---- values
@@ -65,45 +65,45 @@ no_float_too_large_of names (fault.False note found) = refl
 no_float_too_large_of names (fault.TooLarge x v) = refl
 no_float_too_large_of names (fault.Blocked stands) = refl
 
-no_float_state : (names : List (List ℕ)) (t : Told) → optional_has_float (state_member names t) ≡ false
-no_float_state names told.Proved = refl
-no_float_state names (told.False block) =
+no_float_state : (names : List (List ℕ)) (t : Diagnosis) → optional_has_float (state_member names t) ≡ false
+no_float_state names diagnosis.Proved = refl
+no_float_state names (diagnosis.False block) =
     let first = with_values names true block.values block.details.value.state.items no_members in
     no_float_values names true block.values block.details.value.besides.items first (no_float_values names true block.values block.details.value.state.items no_members refl)
-no_float_state names told.Open = refl
+no_float_state names diagnosis.Open = refl
 
-no_float_after : (names : List (List ℕ)) (t : Told) → optional_has_float (after_member names t) ≡ false
-no_float_after names told.Proved = refl
-no_float_after names (told.False block) =
+no_float_after : (names : List (List ℕ)) (t : Diagnosis) → optional_has_float (after_member names t) ≡ false
+no_float_after names diagnosis.Proved = refl
+no_float_after names (diagnosis.False block) =
     no_float_after_of block.details.value.explanation.fault block.details.value.explanation.action _ (no_float_values names false block.details.value.explanation.after block.details.value.assigned.items no_members refl)
-no_float_after names told.Open = refl
+no_float_after names diagnosis.Open = refl
 
-no_float_false : (names : List (List ℕ)) (source : List ℕ) (t : Told) → optional_has_float (false_member names source t) ≡ false
-no_float_false names source told.Proved = refl
-no_float_false names source (told.False block) = no_float_false_of names source block.details.value.explanation.fault
-no_float_false names source told.Open = refl
+no_float_false : (names : List (List ℕ)) (source : List ℕ) (t : Diagnosis) → optional_has_float (false_member names source t) ≡ false
+no_float_false names source diagnosis.Proved = refl
+no_float_false names source (diagnosis.False block) = no_float_false_of names source block.details.value.explanation.fault
+no_float_false names source diagnosis.Open = refl
 
-no_float_too_large : (names : List (List ℕ)) (t : Told) → optional_has_float (too_large_member names t) ≡ false
-no_float_too_large names told.Proved = refl
-no_float_too_large names (told.False block) = no_float_too_large_of names block.details.value.explanation.fault
-no_float_too_large names told.Open = refl
+no_float_too_large : (names : List (List ℕ)) (t : Diagnosis) → optional_has_float (too_large_member names t) ≡ false
+no_float_too_large names diagnosis.Proved = refl
+no_float_too_large names (diagnosis.False block) = no_float_too_large_of names block.details.value.explanation.fault
+no_float_too_large names diagnosis.Open = refl
 
 -- ---- conditions
 
-no_float_last : (names : List (List ℕ)) (t : Told) → members_have_float (last_members names t) ≡ false
+no_float_last : (names : List (List ℕ)) (t : Diagnosis) → members_have_float (last_members names t) ≡ false
 no_float_last names t =
     no_float_if (codes "state") (state_member names t) _ (no_float_state names t)
     (no_float_if (codes "too_large") (too_large_member names t) no_members (no_float_too_large names t) refl)
 
-no_float_middle : (names : List (List ℕ)) (source : List ℕ) (n : ℕ) (c : Condition) (t : Told) → members_have_float (middle_members names source n c t) ≡ false
+no_float_middle : (names : List (List ℕ)) (source : List ℕ) (n : ℕ) (c : Condition) (t : Diagnosis) → members_have_float (middle_members names source n c t) ≡ false
 no_float_middle names source n c t = no_float_if (codes "false") (false_member names source t) _ (no_float_false names source t) (no_float_last names t)
 
 no_float_place : (f : ℕ → ℕ) (at : Option ℕ) → optional_has_float (option_map (λ a. natural (f a)) at) ≡ false
 no_float_place f None = refl
 no_float_place f (Some at) = refl
 
-pub no_float_told : (names : List (List ℕ)) (source : List ℕ) (n : ℕ) (c : Condition) (t : Told) → has_float (told_data names source n c t) ≡ false
-no_float_told names source n c t =
+pub no_float_diagnosis : (names : List (List ℕ)) (source : List ℕ) (n : ℕ) (c : Condition) (t : Diagnosis) → has_float (diagnosis_data names source n c t) ≡ false
+no_float_diagnosis names source n c t =
     let middle = middle_members names source n c t in
     let column = option_map (λ at. natural (column_at source at)) c.action_at in
     let line = option_map (λ at. natural (line_at source at)) c.action_at in
@@ -116,14 +116,14 @@ pub no_float_step : (d : Data) (rest : List Data) (b : Bool) → has_float d ≡
 no_float_step d rest true p q = q
 no_float_step d rest false p q = neither (has_float d) (items_have_float (items_of rest)) p q
 
-no_float_list : (names : List (List ℕ)) (source : List ℕ) (n : ℕ) (cs : List Condition) (ts : List Told) → items_have_float (items_of (unproved_data names source n cs ts)) ≡ false
+no_float_list : (names : List (List ℕ)) (source : List ℕ) (n : ℕ) (cs : List Condition) (ts : List Diagnosis) → items_have_float (items_of (unproved_data names source n cs ts)) ≡ false
 no_float_list names source n [] ts = refl
 no_float_list names source n (c ∷ cs) [] = refl
 no_float_list names source n (c ∷ cs) (t ∷ ts) =
-    no_float_step (told_data names source n c t) (unproved_data names source (n + 1) cs ts) (is_proved t) (no_float_told names source n c t) (no_float_list names source (n + 1) cs ts)
+    no_float_step (diagnosis_data names source n c t) (unproved_data names source (n + 1) cs ts) (is_proved t) (no_float_diagnosis names source n c t) (no_float_list names source (n + 1) cs ts)
 
-no_float : (names : List (List ℕ)) (source : List ℕ) (cs : List Condition) (ts : List Told) → has_float (report_data names source cs ts) ≡ false
+no_float : (names : List (List ℕ)) (source : List ℕ) (cs : List Condition) (ts : List Diagnosis) → has_float (report_data names source cs ts) ≡ false
 no_float names source cs ts = rw (no_float_list names source 1 cs ts) refl
 
-pub no_float_value_of : (v : Data) (names : List (List ℕ)) (source : List ℕ) (cs : List Condition) (ts : List Told) → v ≡ report_data names source cs ts → has_float v ≡ false
+pub no_float_value_of : (v : Data) (names : List (List ℕ)) (source : List ℕ) (cs : List Condition) (ts : List Diagnosis) → v ≡ report_data names source cs ts → has_float v ≡ false
 no_float_value_of v names source cs ts is = ap has_float is ∙ no_float names source cs ts

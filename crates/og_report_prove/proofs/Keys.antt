@@ -15,8 +15,8 @@ use Rattle.std.proofs.lemmas.List.Sums.{sum_by-append, sum_by-cons}
 use Rattle.og_cert_read.specs.Firsts.{found}
 use Rattle.og_cond.specs.Condition.{Condition}
 use Rattle.og_report_text.specs.Origins.{Rows}
-use Rattle.og_report_prove.specs.Together.{keys_of, has_key, total, counted, left_of, more_left, without, more_of, mores_from, mores}
-use Rattle.og_report_prove.specs.declared.telling.Told.{Told}
+use Rattle.og_report_prove.specs.Together.{keys_of, has_key, total, counted, left_of, more_left, without, more_of, repeats_from, repeats}
+use Rattle.og_report_prove.specs.declared.diagnosis.Diagnosis.{Diagnosis}
 use Rattle.og_report_prove.proofs.Lists.{dropped, taken}
 
 -- ---- a map in which one text has another number
@@ -129,10 +129,10 @@ more_is all before key some = from (list_any (has_key key) before) (count_by (ha
 -- all keys, as far as they are taken out
 pub record IsLeft (all : List (Option (List ℕ))) (i : ℕ) (counts : BTreeMap (Vec ℕ Global) ℕ) (ms : List (Option ℕ)) : Type 0 where
   pub left : (t : List ℕ) → found t counts ≡ left_of all (take i all) t
-  pub whole : ms ++ mores_from all (take i all) (drop i all) ≡ mores all
+  pub whole : ms ++ repeats_from all (take i all) (drop i all) ≡ repeats all
 
 pub is_left_begins : (all : List (Option (List ℕ))) (counts : BTreeMap (Vec ℕ Global) ℕ) (ms : List (Option ℕ)) → ms ≡ [] → ((t : List ℕ) → found t counts ≡ total (count_by (has_key t) all)) → IsLeft all 0 counts ms
-is_left_begins all counts ms none h = record { left = h; whole = ap (λ (x : List (Option ℕ)). x ++ mores all) none }
+is_left_begins all counts ms none h = record { left = h; whole = ap (λ (x : List (Option ℕ)). x ++ repeats all) none }
 
 more_at : (all : List (Option (List ℕ))) (i : ℕ) (k : Option (List ℕ)) (left : List ℕ → Option ℕ) → slice_get all i ≡ Some k → ((t : List ℕ) → left t ≡ left_of all (take i all) t) → more_left left k ≡ more_of all (take i all) k
 more_at all i None left is h = refl
@@ -143,54 +143,54 @@ pub is_left_goes : (all : List (Option (List ℕ))) (i : ℕ) (k : Option (List 
     → m ≡ more_left (λ t. found t old) k → ((t : List ℕ) → found t new ≡ without (has_key t k) (found t old)) → ns ≡ ms ++ m ∷ [] → IsLeft all i old ms → IsLeft all (i + 1) new ns
 is_left_goes all i k old new ms ns m is more took put s =
     let next = taken all i k is in
-    let rest = mores_from all (take i all ++ k ∷ []) (drop (i + 1) all) in
+    let rest = repeats_from all (take i all ++ k ∷ []) (drop (i + 1) all) in
     record {
       left = λ t. left_goes all (take i all) k t (found t old) (found t new) (s.left t) (took t) ∙ ap (λ b. left_of all b t) (sym next);
       whole =
-          ap₂ (λ (x : List (Option ℕ)) b. x ++ mores_from all b (drop (i + 1) all)) put next ∙ append_assoc ms (m ∷ []) rest
+          ap₂ (λ (x : List (Option ℕ)) b. x ++ repeats_from all b (drop (i + 1) all)) put next ∙ append_assoc ms (m ∷ []) rest
           ∙ ap (λ (x : Option ℕ). ms ++ (x ∷ rest)) (more ∙ more_at all i k (λ t. found t old) is s.left)
-          ∙ ap (λ l. ms ++ mores_from all (take i all) l) (sym (dropped all i k is)) ∙ s.whole;
+          ∙ ap (λ l. ms ++ repeats_from all (take i all) l) (sym (dropped all i k is)) ∙ s.whole;
     }
 
 none_more : (ms : List (Option ℕ)) → ms ++ [] ≡ ms
 none_more [] = refl
 none_more (m ∷ ms) = ap (λ xs. m ∷ xs) (none_more ms)
 
-pub is_left_ends : (all : List (Option (List ℕ))) (i : ℕ) (counts : BTreeMap (Vec ℕ Global) ℕ) (ms : List (Option ℕ)) → drop i all ≡ [] → IsLeft all i counts ms → ms ≡ mores all
-is_left_ends all i counts ms none s = sym (none_more ms) ∙ ap (λ l. ms ++ mores_from all (take i all) l) (sym none) ∙ s.whole
+pub is_left_ends : (all : List (Option (List ℕ))) (i : ℕ) (counts : BTreeMap (Vec ℕ Global) ℕ) (ms : List (Option ℕ)) → drop i all ≡ [] → IsLeft all i counts ms → ms ≡ repeats all
+is_left_ends all i counts ms none s = sym (none_more ms) ∙ ap (λ l. ms ++ repeats_from all (take i all) l) (sym none) ∙ s.whole
 
 -- ---- how many there are
 
-mores_from_length : (all before ks : List (Option (List ℕ))) → length (mores_from all before ks) ≡ length ks
-mores_from_length all before [] = refl
-mores_from_length all before (k ∷ ks) = let rest = mores_from_length all (before ++ k ∷ []) ks in omega (arith, rest)
+repeats_from_length : (all before ks : List (Option (List ℕ))) → length (repeats_from all before ks) ≡ length ks
+repeats_from_length all before [] = refl
+repeats_from_length all before (k ∷ ks) = let rest = repeats_from_length all (before ++ k ∷ []) ks in omega (arith, rest)
 
-pub keys_length : (rows : Rows) (cs : List Condition) (ts : List Told) → length ts ≡ length cs → length (keys_of rows cs ts) ≡ length ts
+pub keys_length : (rows : Rows) (cs : List Condition) (ts : List Diagnosis) → length ts ≡ length cs → length (keys_of rows cs ts) ≡ length ts
 keys_length rows [] [] h = refl
 keys_length rows [] (t ∷ ts) h = absurd (omega (arith, h))
 keys_length rows (c ∷ cs) [] h = refl
 keys_length rows (c ∷ cs) (t ∷ ts) h = let rest = keys_length rows cs ts (omega (arith, h)) in omega (arith, rest)
 
-pub mores_length : (rows : Rows) (cs : List Condition) (ts : List Told) → length ts ≡ length cs → length (mores (keys_of rows cs ts)) ≡ length ts
-mores_length rows cs ts h = mores_from_length (keys_of rows cs ts) [] (keys_of rows cs ts) ∙ keys_length rows cs ts h
+pub repeats_length : (rows : Rows) (cs : List Condition) (ts : List Diagnosis) → length ts ≡ length cs → length (repeats (keys_of rows cs ts)) ≡ length ts
+repeats_length rows cs ts h = repeats_from_length (keys_of rows cs ts) [] (keys_of rows cs ts) ∙ keys_length rows cs ts h
 
 -- ---- without rows
 
 -- of an outline in its own text no more are reported with any condition
-none_more_from : (all before : List (Option (List ℕ))) (cs : List Condition) (ts : List Told) → length ts ≡ length cs → mores_from all before (keys_of None cs ts) ≡ replicate (length cs) (Some 0)
+none_more_from : (all before : List (Option (List ℕ))) (cs : List Condition) (ts : List Diagnosis) → length ts ≡ length cs → repeats_from all before (keys_of None cs ts) ≡ replicate (length cs) (Some 0)
 none_more_from all before [] ts h = refl
 none_more_from all before (c ∷ cs) [] h = absurd (omega arith)
 none_more_from all before (c ∷ cs) (t ∷ ts) h = ap (λ ms. Some 0 ∷ ms) (none_more_from all (before ++ None ∷ []) cs ts (omega (arith, h)))
 
-pub none_told_together : (cs : List Condition) (ts : List Told) → length ts ≡ length cs → mores (keys_of None cs ts) ≡ replicate (length cs) (Some 0)
-none_told_together cs ts h = none_more_from (keys_of None cs ts) [] cs ts h
+pub none_repeated : (cs : List Condition) (ts : List Diagnosis) → length ts ≡ length cs → repeats (keys_of None cs ts) ≡ replicate (length cs) (Some 0)
+none_repeated cs ts h = none_more_from (keys_of None cs ts) [] cs ts h
 
 no_rows : (rows : Rows) → is_none rows ≡ true → rows ≡ None
 no_rows None e = refl
 no_rows (Some r) e = absurd (true≢false (sym e))
 
-pub none_together : {E : Type 0} (rows : Rows) (cs : List Condition) (ts : List Told) (r : Result (Vec (Option ℕ) Global) E) (count : ℕ) → length ts ≡ length cs → is_none rows ≡ true → count ≡ length cs
-    → IfOk r (λ v. v.items ≡ replicate count (Some 0)) → IfOk r (λ v. v.items ≡ mores (keys_of rows cs ts))
+pub none_together : {E : Type 0} (rows : Rows) (cs : List Condition) (ts : List Diagnosis) (r : Result (Vec (Option ℕ) Global) E) (count : ℕ) → length ts ≡ length cs → is_none rows ≡ true → count ≡ length cs
+    → IfOk r (λ v. v.items ≡ replicate count (Some 0)) → IfOk r (λ v. v.items ≡ repeats (keys_of rows cs ts))
 none_together rows cs ts (Err e) count each none same h = tt
 none_together rows cs ts (Ok v) count each none same h =
-    h ∙ ap (λ n. replicate n (Some 0)) same ∙ sym (none_told_together cs ts each) ∙ ap (λ (r : Rows). mores (keys_of r cs ts)) (sym (no_rows rows none))
+    h ∙ ap (λ n. replicate n (Some 0)) same ∙ sym (none_repeated cs ts each) ∙ ap (λ (r : Rows). repeats (keys_of r cs ts)) (sym (no_rows rows none))

@@ -5,7 +5,7 @@ use Rattle.og_typed.specs.Plain.{noted, formula}
 use Rattle.og_typed.specs.declared.assertion.Assert.{Assert}
 use Rattle.og_typed.specs.declared.statement.Note.{Note}
 use Rattle.og_report_text.specs.Places.{◌&◌}
-use Rattle.og_report_text.specs.Origins.{Rows, told_at, quoted_at}
+use Rattle.og_report_text.specs.Origins.{Rows, place_text_at, quoted_at}
 use Rattle.og_typed.specs.Seen.{note_of, statement_of}
 use Rattle.og_typed.specs.Sites as plain
 use Rattle.og_typed.specs.declared.sites.StatementSite.{StatementSite}
@@ -27,7 +27,7 @@ word_text word = codes "  " & word & codes ": "
 
 -- a word and a place
 abbrev pub place_text : List ℕ → Rows → List ℕ → ℕ → List ℕ
-place_text source rows word at = codes "  " & word & codes " at " & told_at source rows at & codes ": "
+place_text source rows word at = codes "  " & word & codes " at " & place_text_at source rows at & codes ": "
 
 -- with the source there
 abbrev pub quoted_line : List ℕ → Rows → List ℕ → ℕ → List ℕ
@@ -45,12 +45,12 @@ test_line source rows (Some test) = quoted_line source rows (test_word test.hold
 -- where a process waits, and where it has ended
 abbrev pub waits_line : List ℕ → Rows → plain.StatementSite → List ℕ
 waits_line source rows site =
-    codes "  " & part_text false site.part & codes " waits at " & told_at source rows site.piece.at
+    codes "  " & part_text false site.part & codes " waits at " & place_text_at source rows site.piece.at
     & codes ": " & quoted_at 72 source rows site.piece.at & codes "\n"
 
 abbrev pub ended_line : List ℕ → Rows → plain.NoteSite → List ℕ
 ended_line source rows site =
-    codes "  " & part_text false site.part & codes " has ended at " & told_at source rows site.note.at & codes "\n"
+    codes "  " & part_text false site.part & codes " has ended at " & place_text_at source rows site.note.at & codes "\n"
 
 abbrev pub stand_line : List ℕ → Rows → Stand → List ℕ
 stand_line source rows (stand.Waits site) = waits_line source rows (statement_of site)

@@ -4,7 +4,7 @@ use Rattle.std.specs.Fmt.{decimal}
 use Rattle.std.specs.Str.{bytes_eq}
 use Rattle.og_typed.specs.Syntax.{Formula}
 use Rattle.og_report_text.specs.Places.{◌&◌}
-use Rattle.og_report_text.specs.Origins.{Rows, told_at}
+use Rattle.og_report_text.specs.Origins.{Rows, place_text_at}
 use Rattle.og_typed.specs.Seen.{statement_of}
 use Rattle.og_typed.specs.declared.sites.StatementSite.{StatementSite}
 use Rattle.og_report_text.specs.Assertions.{assertion_text}
@@ -13,8 +13,8 @@ use Rattle.og_report_text.specs.Seen.{formulas_of}
 use Rattle.og_cert_read.specs.Firsts.{or_this}
 use Rattle.og_report_explain.specs.declared.explanation.Fault.{Fault}
 use Rattle.og_report_explain.specs.declared.explanation.Fault.TheVariants as fault
-use Rattle.og_report_prove.specs.declared.telling.Told.{Told}
-use Rattle.og_report_prove.specs.declared.telling.Told.TheVariants as told
+use Rattle.og_report_prove.specs.declared.diagnosis.Diagnosis.{Diagnosis}
+use Rattle.og_report_prove.specs.declared.diagnosis.Diagnosis.TheVariants as diagnosis
 
 -- the place of an action, and the conjuncts that are false after it; nothing where there is no action or no such conjunct
 abbrev pub effect_of : Option StatementSite → Fault → Option (ℕ × List Formula)
@@ -37,19 +37,19 @@ module _ (names : List (List ℕ)) where
   module _ (source : List ℕ) (rows : Rows) where
     -- effects are the same where these texts are
     abbrev pub effect_text : ℕ × List Formula → List ℕ
-    effect_text effect = told_at source rows effect.0 & codes " " & together effect.1
+    effect_text effect = place_text_at source rows effect.0 & codes " " & together effect.1
 
     abbrev pub has_text : List ℕ → Option (ℕ × List Formula) → Bool
     has_text text None = false
     has_text text (Some effect) = bytes_eq text (effect_text effect)
 
-    abbrev pub has_effect : List ℕ → Told → Bool
-    has_effect text told.Proved = false
-    has_effect text (told.False block) = has_text text (effect_of block.details.value.explanation.action block.details.value.explanation.fault)
-    has_effect text told.Open = false
+    abbrev pub has_effect : List ℕ → Diagnosis → Bool
+    has_effect text diagnosis.Proved = false
+    has_effect text (diagnosis.False block) = has_text text (effect_of block.details.value.explanation.action block.details.value.explanation.fault)
+    has_effect text diagnosis.Open = false
 
     -- the number of the first of these that has the effect, numbered on from n
-    abbrev pub first_with : List ℕ → ℕ → List Told → Option ℕ
+    abbrev pub first_with : List ℕ → ℕ → List Diagnosis → Option ℕ
     first_with text n [] = None
     first_with text n (t ∷ ts) = if has_effect text t then Some n else first_with text (n + 1) ts
 
@@ -60,7 +60,7 @@ module _ (names : List (List ℕ)) where
     after_effect None text n number = number
     after_effect (Some effect) text n number = or_this number text (effect_text effect) n
 
-    abbrev pub after_told : Told → List ℕ → ℕ → Option ℕ → Option ℕ
-    after_told told.Proved text n number = number
-    after_told (told.False block) text n number = after_effect (effect_of block.details.value.explanation.action block.details.value.explanation.fault) text n number
-    after_told told.Open text n number = number
+    abbrev pub after_diagnosis : Diagnosis → List ℕ → ℕ → Option ℕ → Option ℕ
+    after_diagnosis diagnosis.Proved text n number = number
+    after_diagnosis (diagnosis.False block) text n number = after_effect (effect_of block.details.value.explanation.action block.details.value.explanation.fault) text n number
+    after_diagnosis diagnosis.Open text n number = number

@@ -15,22 +15,22 @@ use Rattle.og_report_text.specs.Assertions.{assertion_text}
 use Rattle.og_report_explain.specs.declared.explanation.Fault.{Fault}
 use Rattle.og_report_explain.specs.declared.explanation.Fault.TheVariants as fault
 use Rattle.og_report_prove.specs.declared.block.Block.{Block}
-use Rattle.og_report_prove.specs.declared.telling.Told.{Told}
-use Rattle.og_report_prove.specs.declared.telling.Told.TheVariants as told
+use Rattle.og_report_prove.specs.declared.diagnosis.Diagnosis.{Diagnosis}
+use Rattle.og_report_prove.specs.declared.diagnosis.Diagnosis.TheVariants as diagnosis
 use Rattle.og_report_prove.specs.Report.{is_proved, is_false, is_open, is_safe, is_unblocked}
 use Rattle.og_report_prove.specs.Members.{utf8_text, digits_data, if_some, name_of, with_values}
 use denote.Ref.{Bor}
 
-abbrev pub status_word : Told → List ℕ
-status_word told.Proved = codes "proved"
-status_word (told.False block) = codes "false"
-status_word told.Open = codes "open"
+abbrev pub status_word : Diagnosis → List ℕ
+status_word diagnosis.Proved = codes "proved"
+status_word (diagnosis.False block) = codes "false"
+status_word diagnosis.Open = codes "open"
 
 -- the report of a false condition alone
-abbrev pub of_block : (Block → Option Data) → Told → Option Data
-of_block told_of told.Proved = None
-of_block told_of (told.False block) = told_of block
-of_block told_of told.Open = None
+abbrev pub of_block : (Block → Option Data) → Diagnosis → Option Data
+of_block told_of diagnosis.Proved = None
+of_block told_of (diagnosis.False block) = told_of block
+of_block told_of diagnosis.Open = None
 
 -- where an assertion is false after an action
 abbrev pub after_of : Fault → Option StatementSite → Data → Option Data
@@ -40,7 +40,7 @@ after_of (fault.TooLarge x v) action after = None
 after_of (fault.Blocked stands) action after = None
 
 -- the totals, with the conditions that are not proved
-abbrev pub totals_data : List Told → Data → Data
+abbrev pub totals_data : List Diagnosis → Data → Data
 totals_data ts unproved = object
     (member (codes "conditions") (natural (length ts))
     (member (codes "false") (natural (count_by is_false ts))
@@ -70,17 +70,17 @@ module _ (names : List (List ℕ)) where
   too_large_of (fault.TooLarge x v) = Some (object (member (name_of names x) (digits_data v) no_members))
   too_large_of (fault.Blocked stands) = None
 
-  abbrev pub state_member : Told → Option Data
+  abbrev pub state_member : Diagnosis → Option Data
   state_member = of_block (λ block. Some (state_data block))
 
-  abbrev pub after_member : Told → Option Data
+  abbrev pub after_member : Diagnosis → Option Data
   after_member = of_block (λ block. after_of block.details.value.explanation.fault block.details.value.explanation.action (after_data block))
 
-  abbrev pub too_large_member : Told → Option Data
+  abbrev pub too_large_member : Diagnosis → Option Data
   too_large_member = of_block (λ block. too_large_of block.details.value.explanation.fault)
 
   -- the state and the status
-  abbrev pub last_members : Told → Members
+  abbrev pub last_members : Diagnosis → Members
   last_members t = if_some (codes "state") (state_member t)
       (member (codes "status") (string (status_word t))
       (if_some (codes "too_large") (too_large_member t) no_members))
@@ -98,13 +98,13 @@ module _ (names : List (List ℕ)) (source : List ℕ) where
   false_of (fault.TooLarge x v) = None
   false_of (fault.Blocked stands) = None
 
-  abbrev pub false_member : Told → Option Data
+  abbrev pub false_member : Diagnosis → Option Data
   false_member = of_block (λ block. false_of block.details.value.explanation.fault)
 
   -- ---- a condition that is not proved
 
   -- the place, the number, the kind and the false conjuncts
-  abbrev pub middle_members : ℕ → Condition → Told → Members
+  abbrev pub middle_members : ℕ → Condition → Diagnosis → Members
   middle_members n c t = member (codes "column") (natural (column_at source c.at))
       (member (codes "condition") (natural n)
       (if_some (codes "false") (false_member t)
@@ -112,8 +112,8 @@ module _ (names : List (List ℕ)) (source : List ℕ) where
       (member (codes "line") (natural (line_at source c.at)) (last_members names t)))))
 
   -- the n-th condition
-  abbrev pub told_data : ℕ → Condition → Told → Data
-  told_data n c t = object
+  abbrev pub diagnosis_data : ℕ → Condition → Diagnosis → Data
+  diagnosis_data n c t = object
       (if_some (codes "action_column") (option_map (λ at. natural (column_at source at)) c.action_at)
       (if_some (codes "action_line") (option_map (λ at. natural (line_at source at)) c.action_at)
       (if_some (codes "after") (after_member names t) (middle_members n c t))))
@@ -121,13 +121,13 @@ module _ (names : List (List ℕ)) (source : List ℕ) where
   -- ---- all of it
 
   -- the conditions that are not proved, numbered on
-  abbrev pub unproved_data : ℕ → List Condition → List Told → List Data
+  abbrev pub unproved_data : ℕ → List Condition → List Diagnosis → List Data
   unproved_data n [] ts = []
   unproved_data n (c ∷ cs) [] = []
-  unproved_data n (c ∷ cs) (t ∷ ts) = (if is_proved t then [] else told_data n c t ∷ []) ++ unproved_data (n + 1) cs ts
+  unproved_data n (c ∷ cs) (t ∷ ts) = (if is_proved t then [] else diagnosis_data n c t ∷ []) ++ unproved_data (n + 1) cs ts
 
-  abbrev pub report_data : List Condition → List Told → Data
+  abbrev pub report_data : List Condition → List Diagnosis → Data
   report_data cs ts = totals_data ts (array (items_of (unproved_data 1 cs ts)))
 
-  abbrev pub json_text : List Condition → List Told → List ℕ
+  abbrev pub json_text : List Condition → List Diagnosis → List ℕ
   json_text cs ts = compact_text (report_data cs ts)

@@ -6,4 +6,4 @@ pub mod Numbers
 pub mod Report
 pub mod Sentences
 pub mod Together
-pub mod Told
+pub mod Diagnosis

@@ -6,47 +6,47 @@ use Rattle.og_typed.specs.Syntax.{Formula}
 use Rattle.og_cond.specs.Condition.{Condition}
 use Rattle.og_cond.specs.Names.{name_of_kind}
 use Rattle.og_report_text.specs.Places.{◌&◌}
-use Rattle.og_report_text.specs.Origins.{Rows, told_at, with_told}
+use Rattle.og_report_text.specs.Origins.{Rows, place_text_at, with_place_text}
 use Rattle.og_report_prove.specs.Blocks.{block_text}
 use Rattle.og_report_prove.specs.Effects.{effect_of, effect_text, first_with, alike_line}
-use Rattle.og_report_prove.specs.Together.{keys_of, mores, shown, more_text}
+use Rattle.og_report_prove.specs.Together.{keys_of, repeats, shown, more_text}
 use Rattle.og_report_prove.specs.declared.block.Block.{Block}
-use Rattle.og_report_prove.specs.declared.telling.Told.{Told}
-use Rattle.og_report_prove.specs.declared.telling.Told.TheVariants as told
+use Rattle.og_report_prove.specs.declared.diagnosis.Diagnosis.{Diagnosis}
+use Rattle.og_report_prove.specs.declared.diagnosis.Diagnosis.TheVariants as diagnosis
 
 -- and how many more are reported with it
 abbrev pub head_text : List ℕ → Rows → ℕ → Condition → List ℕ → ℕ → List ℕ
 head_text source rows n c word more =
-    told_at source rows c.at & codes ": condition " & decimal n & codes " " & name_of_kind c.kind
-    & with_told source rows c.action_at & codes ": " & word & more_text more & codes "\n"
+    place_text_at source rows c.at & codes ": condition " & decimal n & codes " " & name_of_kind c.kind
+    & with_place_text source rows c.action_at & codes ": " & word & more_text more & codes "\n"
 
 -- ---- totals
 
-abbrev pub is_proved : Told → Bool
-is_proved told.Proved = true
-is_proved (told.False block) = false
-is_proved told.Open = false
+abbrev pub is_proved : Diagnosis → Bool
+is_proved diagnosis.Proved = true
+is_proved (diagnosis.False block) = false
+is_proved diagnosis.Open = false
 
-abbrev pub is_false : Told → Bool
-is_false told.Proved = false
-is_false (told.False block) = true
-is_false told.Open = false
+abbrev pub is_false : Diagnosis → Bool
+is_false diagnosis.Proved = false
+is_false (diagnosis.False block) = true
+is_false diagnosis.Open = false
 
-abbrev pub is_open : Told → Bool
-is_open told.Proved = false
-is_open (told.False block) = false
-is_open told.Open = true
+abbrev pub is_open : Diagnosis → Bool
+is_open diagnosis.Proved = false
+is_open (diagnosis.False block) = false
+is_open diagnosis.Open = true
 
 -- every condition but the last is proved
-abbrev pub is_safe : List Told → Bool
+abbrev pub is_safe : List Diagnosis → Bool
 is_safe ts = list_all is_proved (take (length ts - 1) ts)
 
-abbrev pub is_there_and_proved : Option Told → Bool
+abbrev pub is_there_and_proved : Option Diagnosis → Bool
 is_there_and_proved None = false
 is_there_and_proved (Some t) = is_proved t
 
 -- the last one is
-abbrev pub is_unblocked : List Told → Bool
+abbrev pub is_unblocked : List Diagnosis → Bool
 is_unblocked ts = is_there_and_proved (slice_get ts (length ts - 1))
 
 abbrev pub yes_or_no : Bool → List ℕ
@@ -60,7 +60,7 @@ yes_line word is = word & codes ": " & yes_or_no is
 abbrev pub number_line : List ℕ → ℕ → List ℕ
 number_line word n = word & codes ": " & decimal n & codes "\n"
 
-abbrev pub totals_text : List Told → List ℕ
+abbrev pub totals_text : List Diagnosis → List ℕ
 totals_text ts =
     number_line (codes "conditions") (length ts) & number_line (codes "proved") (count_by is_proved ts)
     & number_line (codes "false") (count_by is_false ts) & number_line (codes "open") (count_by is_open ts)
@@ -83,23 +83,23 @@ module _ (names : List (List ℕ)) (source : List ℕ) (rows : Rows) where
   body_text known block = effect_or_block known (effect_of block.details.value.explanation.action block.details.value.explanation.fault) block
 
   -- nothing of a condition that is proved
-  abbrev pub one_text : (List ℕ → Option ℕ) → ℕ → Condition → ℕ → Told → List ℕ
-  one_text known n c more told.Proved = []
-  one_text known n c more (told.False block) = head_text source rows n c (codes "false") more & body_text known block
-  one_text known n c more told.Open = head_text source rows n c (codes "open") more
+  abbrev pub one_text : (List ℕ → Option ℕ) → ℕ → Condition → ℕ → Diagnosis → List ℕ
+  one_text known n c more diagnosis.Proved = []
+  one_text known n c more (diagnosis.False block) = head_text source rows n c (codes "false") more & body_text known block
+  one_text known n c more diagnosis.Open = head_text source rows n c (codes "open") more
 
   -- and of one that is reported with an earlier one
-  abbrev pub told_text : (List ℕ → Option ℕ) → ℕ → Condition → Option ℕ → Told → List ℕ
-  told_text known n c None t = []
-  told_text known n c (Some more) t = one_text known n c more t
+  abbrev pub diagnosis_text : (List ℕ → Option ℕ) → ℕ → Condition → Option ℕ → Diagnosis → List ℕ
+  diagnosis_text known n c None t = []
+  diagnosis_text known n c (Some more) t = one_text known n c more t
 
   -- after these
-  abbrev pub told_lines : List Told → List Condition → List (Option ℕ) → List Told → List ℕ
-  told_lines done [] ms ts = []
-  told_lines done (c ∷ cs) [] ts = []
-  told_lines done (c ∷ cs) (m ∷ ms) [] = []
-  told_lines done (c ∷ cs) (m ∷ ms) (t ∷ ts) =
-      told_text (λ text. first_with names source rows text 1 done) (length done + 1) c m t & told_lines (done ++ shown m t ∷ []) cs ms ts
+  abbrev pub diagnosis_lines : List Diagnosis → List Condition → List (Option ℕ) → List Diagnosis → List ℕ
+  diagnosis_lines done [] ms ts = []
+  diagnosis_lines done (c ∷ cs) [] ts = []
+  diagnosis_lines done (c ∷ cs) (m ∷ ms) [] = []
+  diagnosis_lines done (c ∷ cs) (m ∷ ms) (t ∷ ts) =
+      diagnosis_text (λ text. first_with names source rows text 1 done) (length done + 1) c m t & diagnosis_lines (done ++ shown m t ∷ []) cs ms ts
 
-  abbrev pub report_text : List Condition → List Told → List ℕ
-  report_text cs ts = told_lines [] cs (mores (keys_of rows cs ts)) ts & totals_text ts
+  abbrev pub report_text : List Condition → List Diagnosis → List ℕ
+  report_text cs ts = diagnosis_lines [] cs (repeats (keys_of rows cs ts)) ts & totals_text ts

@@ -13,8 +13,8 @@ use Rattle.og_report_text.specs.declared.row.Row.{Row}
 use Rattle.og_report_explain.specs.declared.explanation.Fault.{Fault}
 use Rattle.og_report_explain.specs.declared.explanation.Fault.TheVariants as fault
 use Rattle.og_report_prove.specs.declared.block.Block.{Block}
-use Rattle.og_report_prove.specs.declared.telling.Told.{Told}
-use Rattle.og_report_prove.specs.declared.telling.Told.TheVariants as told
+use Rattle.og_report_prove.specs.declared.diagnosis.Diagnosis.{Diagnosis}
+use Rattle.og_report_prove.specs.declared.diagnosis.Diagnosis.TheVariants as diagnosis
 
 -- ---- where conjuncts come from
 
@@ -60,13 +60,13 @@ key_text rows c block =
     & places_key (false_places rows block.details.value.explanation.fault block.details.value.conjuncts.items)
 
 -- of the finding on a condition: of an outline in its own text, and of proved and open ones, nothing is reported together
-abbrev pub key_of : Rows → Condition → Told → Option (List ℕ)
+abbrev pub key_of : Rows → Condition → Diagnosis → Option (List ℕ)
 key_of None c t = None
-key_of (Some rows) c told.Proved = None
-key_of (Some rows) c (told.False block) = Some (key_text (Some rows) c block)
-key_of (Some rows) c told.Open = None
+key_of (Some rows) c diagnosis.Proved = None
+key_of (Some rows) c (diagnosis.False block) = Some (key_text (Some rows) c block)
+key_of (Some rows) c diagnosis.Open = None
 
-abbrev pub keys_of : Rows → List Condition → List Told → List (Option (List ℕ))
+abbrev pub keys_of : Rows → List Condition → List Diagnosis → List (Option (List ℕ))
 keys_of rows [] ts = []
 keys_of rows (c ∷ cs) [] = []
 keys_of rows (c ∷ cs) (t ∷ ts) = key_of rows c t ∷ keys_of rows cs ts
@@ -80,18 +80,18 @@ abbrev pub more_of : List (Option (List ℕ)) → List (Option (List ℕ)) → O
 more_of all before None = Some 0
 more_of all before (Some key) = if list_any (has_key key) before then None else Some (count_by (has_key key) all - 1)
 
-abbrev pub mores_from : List (Option (List ℕ)) → List (Option (List ℕ)) → List (Option (List ℕ)) → List (Option ℕ)
-mores_from all before [] = []
-mores_from all before (k ∷ ks) = more_of all before k ∷ mores_from all (before ++ k ∷ []) ks
+abbrev pub repeats_from : List (Option (List ℕ)) → List (Option (List ℕ)) → List (Option (List ℕ)) → List (Option ℕ)
+repeats_from all before [] = []
+repeats_from all before (k ∷ ks) = more_of all before k ∷ repeats_from all (before ++ k ∷ []) ks
 
-abbrev pub mores : List (Option (List ℕ)) → List (Option ℕ)
-mores keys = mores_from keys [] keys
+abbrev pub repeats : List (Option (List ℕ)) → List (Option ℕ)
+repeats keys = repeats_from keys [] keys
 
 -- ---- the conditions shown
 
 -- nothing of one that is reported with an earlier one, as of one that is proved
-abbrev pub shown : Option ℕ → Told → Told
-shown None t = told.Proved
+abbrev pub shown : Option ℕ → Diagnosis → Diagnosis
+shown None t = diagnosis.Proved
 shown (Some more) t = t
 
 abbrev pub more_text : ℕ → List ℕ

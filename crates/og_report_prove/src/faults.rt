@@ -8,7 +8,7 @@ ghost use Rattle.og_report_prove.specs.Members.{digits_data, name_of};
 ghost use Rattle.og_report_prove.specs.Json.{state_data, after_data, conjunct_data, conjuncts_data, state_member, after_member, false_member, too_large_member};
 
 use crate::block::Block;
-use crate::telling::Told;
+use crate::diagnosis::Diagnosis;
 use crate::values::{digits_value, name_of, put_values, text_of};
 use og_report_explain::Fault;
 use og_report_text::{Places, list_value, put_assertion, set_number};
@@ -103,13 +103,13 @@ fn large_value(alloc: Global, names: &[Name], var: u32, value: i128) -> Result<V
 pub(crate) fn state_member(
     alloc: Global,
     names: &[Name],
-    told: &Told,
+    diagnosis: &Diagnosis,
 ) -> Result<Option<Value>, AllocError>
-    ensures { IfOk result (λ found. option_map view found ≡ state_member names.now told.now) }
+    ensures { IfOk result (λ found. option_map view found ≡ state_member names.now diagnosis.now) }
 {
-    match told {
-        Told::False(block) => Ok(Some(state_value(alloc, names, block)?)),
-        Told::Proved | Told::Open => Ok(None),
+    match diagnosis {
+        Diagnosis::False(block) => Ok(Some(state_value(alloc, names, block)?)),
+        Diagnosis::Proved | Diagnosis::Open => Ok(None),
     }
 }
 
@@ -117,11 +117,11 @@ pub(crate) fn state_member(
 pub(crate) fn after_member(
     alloc: Global,
     names: &[Name],
-    told: &Told,
+    diagnosis: &Diagnosis,
 ) -> Result<Option<Value>, AllocError>
-    ensures { IfOk result (λ found. option_map view found ≡ after_member names.now told.now) }
+    ensures { IfOk result (λ found. option_map view found ≡ after_member names.now diagnosis.now) }
 {
-    let Told::False(block) = told else {
+    let Diagnosis::False(block) = diagnosis else {
         return Ok(None);
     };
     let explanation = &block.details.explanation;
@@ -136,11 +136,11 @@ pub(crate) fn false_member(
     alloc: Global,
     names: &[Name],
     places: &Places,
-    told: &Told,
+    diagnosis: &Diagnosis,
 ) -> Result<Option<Value>, AllocError>
-    ensures { IfOk result (λ v. option_map view v ≡ false_member names.now places.now told.now) }
+    ensures { IfOk result (λ v. option_map view v ≡ false_member names.now places.now diagnosis.now) }
 {
-    let Told::False(block) = told else {
+    let Diagnosis::False(block) = diagnosis else {
         return Ok(None);
     };
     match &block.details.explanation.fault {
@@ -155,11 +155,11 @@ pub(crate) fn false_member(
 pub(crate) fn too_large_member(
     alloc: Global,
     names: &[Name],
-    told: &Told,
+    diagnosis: &Diagnosis,
 ) -> Result<Option<Value>, AllocError>
-    ensures { IfOk result (λ found. option_map view found ≡ too_large_member names.now told.now) }
+    ensures { IfOk result (λ found. option_map view found ≡ too_large_member names.now diagnosis.now) }
 {
-    let Told::False(block) = told else {
+    let Diagnosis::False(block) = diagnosis else {
         return Ok(None);
     };
     match &block.details.explanation.fault {

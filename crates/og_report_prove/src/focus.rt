@@ -211,7 +211,7 @@ impl Vars {
     }
 
     /// Those of these that are printed first, and the others.
-    pub(crate) fn told(
+    pub(crate) fn shown_first(
         &self,
         alloc: Global,
         first: &Vars,

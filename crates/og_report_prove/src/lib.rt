@@ -5,6 +5,7 @@
 #![tactic(auto)]
 
 mod block;
+mod diagnosis;
 mod earlier;
 mod faults;
 mod focus;
@@ -12,22 +13,21 @@ mod lines;
 mod objects;
 mod reporting;
 mod sentences;
-mod telling;
 mod together;
 mod unproved;
 mod values;
 
 pub use block::{Block, Details, put_block};
+pub use diagnosis::{Diagnosis, block_of, diagnose};
 pub use earlier::Firsts;
 pub use faults::conjunct_values;
 pub use lines::{put_false, put_quoted, put_too_large};
 pub use objects::{json, totals_value};
 pub use reporting::{
-    Page, Totals, is_safe, is_unblocked, put_number_line, put_told, put_totals, put_yes_line,
+    Page, Totals, is_safe, is_unblocked, put_diagnosis, put_number_line, put_totals, put_yes_line,
     report,
 };
 pub use sentences::put_part;
-pub use telling::{Told, block_of, tell};
-pub use together::mores;
-pub use unproved::told_value;
+pub use together::repeats;
+pub use unproved::diagnosis_value;
 pub use values::{put_optional, put_values};

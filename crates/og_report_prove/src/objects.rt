@@ -7,8 +7,8 @@ ghost use Rattle.og_report_prove.specs.Report.{is_proved, is_false, is_open, is_
 ghost use Rattle.og_report_text.specs.Yes.{SaysUnblocked};
 ghost use Rattle.og_report_prove.specs.Json.{totals_data, report_data, json_text};
 
+use crate::diagnosis::Diagnosis;
 use crate::reporting::{Totals, is_safe, is_unblocked};
-use crate::telling::Told;
 use crate::unproved::unproved_values;
 use og_cond::Condition;
 use og_report_text::{Places, bytes_of, list_value};
@@ -22,16 +22,20 @@ use std::alloc::{AllocError, Global};
 /// # Errors
 ///
 /// An allocation was refused.
-pub fn totals_value(alloc: Global, told: &[Told], unproved: Value) -> Result<Value, AllocError>
-    ensures { IfOk result (λ v. view v ≡ totals_data told.now (view unproved)) }
+pub fn totals_value(
+    alloc: Global,
+    diagnoses: &[Diagnosis],
+    unproved: Value,
+) -> Result<Value, AllocError>
+    ensures { IfOk result (λ v. view v ≡ totals_data diagnoses.now (view unproved)) }
 {
-    let conditions = told.len() as u64;
-    let totals = Totals::of(told);
+    let conditions = diagnoses.len() as u64;
+    let totals = Totals::of(diagnoses);
     let refuted = totals.refuted as u64;
     let unknown = totals.still_open as u64;
     let proved = totals.proved as u64;
-    let safe = is_safe(told);
-    let unblocked = is_unblocked(told);
+    let safe = is_safe(diagnoses);
+    let unblocked = is_unblocked(diagnoses);
     json!(in alloc; {
         "conditions": conditions, "false": refuted, "open": unknown, "proved": proved,
         "safe": safe, "unblocked": unblocked, "unproved": unproved
@@ -44,14 +48,14 @@ fn report_value(
     names: &[Name],
     places: &Places,
     conditions: &[Condition],
-    told: &[Told],
+    diagnoses: &[Diagnosis],
 ) -> Result<Value, AllocError>
-    requires { length told.now ≡ length conditions.now }
+    requires { length diagnoses.now ≡ length conditions.now }
     ensures { IfOk result (λ v.
-        view v ≡ report_data names.now places.now (map seen conditions.now) told.now) }
+        view v ≡ report_data names.now places.now (map seen conditions.now) diagnoses.now) }
 {
-    let unproved = unproved_values(alloc, names, places, conditions, told)?;
-    totals_value(alloc, told, list_value(unproved))
+    let unproved = unproved_values(alloc, names, places, conditions, diagnoses)?;
+    totals_value(alloc, diagnoses, list_value(unproved))
 }
 
 /// The report of all conditions of an outline, as JSON, in one line without an LF: how many
@@ -70,16 +74,16 @@ pub fn json(
     outline: &Outline,
     source: &[u8],
     conditions: &[Condition],
-    told: &[Told],
+    diagnoses: &[Diagnosis],
 ) -> Result<Vec<u8>, AllocError>
     requires short { length source.now ≤ 2 ^ 20 }
-    requires each { length told.now ≡ length conditions.now }
+    requires each { length diagnoses.now ≡ length conditions.now }
     ensures report { IfOk result (λ text.
-        text.items ≡ json_text outline.now.names source.now (map seen conditions.now) told.now) }
+        text.items ≡ json_text outline.now.names source.now (map seen conditions.now) diagnoses.now) }
     ensures unblocked { IfOk result (λ text.
-        SaysUnblocked true (text.items ++ 10 ∷ []) → is_unblocked told.now ≡ true) }
+        SaysUnblocked true (text.items ++ 10 ∷ []) → is_unblocked diagnoses.now ≡ true) }
 {
     let places = Places::new(alloc, source)?;
-    let value = report_value(alloc, outline.names(), &places, conditions, told)?;
+    let value = report_value(alloc, outline.names(), &places, conditions, diagnoses)?;
     bytes_of(alloc, &value)
 }

@@ -3,14 +3,14 @@
 ghost use Rattle.std.specs.Prelude.{◌≡◌, ◌++◌, ◌<◌, ◌≤◌, ◌^◌, count_by, ℕ, List, [], length, map, codes, IfOk, OnOk};
 ghost use Rattle.og_cond.specs.Seen.{seen};
 ghost use Rattle.og_cert_read.specs.Firsts.{found as number_of};
-ghost use Rattle.og_report_prove.specs.Effects.{effect_of, after_effect, after_told};
+ghost use Rattle.og_report_prove.specs.Effects.{effect_of, after_effect, after_diagnosis};
 ghost use Rattle.og_report_prove.specs.Together.{shown, more_text};
-ghost use Rattle.og_report_prove.specs.Report.{body_text, one_text, head_text, is_proved, is_false, is_open, is_safe, is_unblocked, yes_line, number_line, totals_text, told_text, told_lines, report_text};
+ghost use Rattle.og_report_prove.specs.Report.{body_text, one_text, head_text, is_proved, is_false, is_open, is_safe, is_unblocked, yes_line, number_line, totals_text, diagnosis_text, diagnosis_lines, report_text};
 
 use crate::block::{Block, put_block};
+use crate::diagnosis::Diagnosis;
 use crate::earlier::{Firsts, effect_of, effect_text, number_or_add, put_alike};
-use crate::telling::Told;
-use crate::together::mores;
+use crate::together::repeats;
 use og_cond::Condition;
 use og_report_text::{Origins, Places, Rows, put_number};
 use og_text::Name;
@@ -104,22 +104,22 @@ fn put_one(
     number: u128,
     condition: &Condition,
     more: usize,
-    told: &Told,
+    diagnosis: &Diagnosis,
 ) -> Result<(), AllocError>
     requires { page.origins.now.places.now ≡ page.origins.now.source.now }
     ensures text { OnOk result (text.new.items ≡ text.old.items ++ one_text page.entry.names.now
         page.entry.origins.now.source.now page.entry.origins.now.rows (λ t. number_of t firsts.old)
-        number (seen condition.now) more told.now) }
+        number (seen condition.now) more diagnosis.now) }
     ensures firsts { OnOk result ((t : List ℕ) → number_of t firsts.new
-        ≡ after_told page.entry.names.now page.entry.origins.now.source.now page.entry.origins.now.rows told.now t number (number_of t firsts.old)) }
+        ≡ after_diagnosis page.entry.names.now page.entry.origins.now.source.now page.entry.origins.now.rows diagnosis.now t number (number_of t firsts.old)) }
 {
-    match told {
-        Told::Proved => Ok(()),
-        Told::False(block) => {
+    match diagnosis {
+        Diagnosis::Proved => Ok(()),
+        Diagnosis::False(block) => {
             put_head(text, page.origins, number, condition, b"false", more)?;
             put_body(text, firsts, page, number, block)
         }
-        Told::Open => put_head(text, page.origins, number, condition, b"open", more),
+        Diagnosis::Open => put_head(text, page.origins, number, condition, b"open", more),
     }
 }
 
@@ -130,25 +130,25 @@ fn put_one(
 /// # Errors
 ///
 /// An allocation was refused; the text has what it had, and perhaps a part of this.
-pub fn put_told(
+pub fn put_diagnosis(
     text: &mut Vec<u8>,
     firsts: &mut Firsts,
     page: Page,
     number: u128,
     condition: &Condition,
     more: Option<usize>,
-    told: &Told,
+    diagnosis: &Diagnosis,
 ) -> Result<(), AllocError>
     requires { page.origins.now.places.now ≡ page.origins.now.source.now }
-    ensures text { OnOk result (text.new.items ≡ text.old.items ++ told_text page.entry.names.now
+    ensures text { OnOk result (text.new.items ≡ text.old.items ++ diagnosis_text page.entry.names.now
         page.entry.origins.now.source.now page.entry.origins.now.rows (λ t. number_of t firsts.old)
-        number (seen condition.now) more told.now) }
+        number (seen condition.now) more diagnosis.now) }
     ensures firsts { OnOk result ((t : List ℕ) → number_of t firsts.new
-        ≡ after_told page.entry.names.now page.entry.origins.now.source.now page.entry.origins.now.rows (shown more told.now) t number (number_of t firsts.old)) }
+        ≡ after_diagnosis page.entry.names.now page.entry.origins.now.source.now page.entry.origins.now.rows (shown more diagnosis.now) t number (number_of t firsts.old)) }
 {
     match more {
         None => Ok(()),
-        Some(more) => put_one(text, firsts, page, number, condition, more, told),
+        Some(more) => put_one(text, firsts, page, number, condition, more, diagnosis),
     }
 }
 
@@ -157,41 +157,41 @@ fn put_all(
     text: &mut Vec<u8>,
     page: Page,
     conditions: &[Condition],
-    mores: &[Option<usize>],
-    told: &[Told],
+    repeats: &[Option<usize>],
+    diagnoses: &[Diagnosis],
 ) -> Result<(), AllocError>
     requires places { page.origins.now.places.now ≡ page.origins.now.source.now }
-    requires mores { length mores.now ≡ length conditions.now }
-    requires each { length told.now ≡ length conditions.now }
-    ensures { OnOk result (text.new.items ≡ text.old.items ++ told_lines page.entry.names.now
+    requires repeats { length repeats.now ≡ length conditions.now }
+    requires each { length diagnoses.now ≡ length conditions.now }
+    ensures { OnOk result (text.new.items ≡ text.old.items ++ diagnosis_lines page.entry.names.now
         page.entry.origins.now.source.now page.entry.origins.now.rows [] (map seen conditions.now)
-        mores.now told.now) }
+        repeats.now diagnoses.now) }
 {
     let mut firsts = Firsts::new(*text.allocator());
     for index in 0..conditions.len() {
         let number = index as u128 + 1;
-        put_told(
+        put_diagnosis(
             text,
             &mut firsts,
             page,
             number,
             &conditions[index],
-            mores[index],
-            &told[index],
+            repeats[index],
+            &diagnoses[index],
         )?;
     }
     Ok(())
 }
 
-impl<'a> Told<'a> {
+impl<'a> Diagnosis<'a> {
     /// Whether the condition is proved. Takes no memory.
     pub fn is_proved(&self) -> bool
         ensures { result ≡ is_proved self.now }
     {
         match self {
-            Told::Proved => true,
-            Told::False(_) => false,
-            Told::Open => false,
+            Diagnosis::Proved => true,
+            Diagnosis::False(_) => false,
+            Diagnosis::Open => false,
         }
     }
 
@@ -199,14 +199,14 @@ impl<'a> Told<'a> {
     pub fn is_false(&self) -> bool
         ensures { result ≡ is_false self.now }
     {
-        matches!(self, Told::False(_))
+        matches!(self, Diagnosis::False(_))
     }
 
     /// Whether it was neither proved nor found false. Takes no memory.
     pub fn is_open(&self) -> bool
         ensures { result ≡ is_open self.now }
     {
-        matches!(self, Told::Open)
+        matches!(self, Diagnosis::Open)
     }
 }
 
@@ -223,34 +223,34 @@ pub struct Totals {
 
 impl Totals {
     /// Of all conditions. Takes no memory.
-    pub fn of(told: &[Told]) -> Totals
-        ensures proved { result.proved ≡ count_by is_proved told.now }
-        ensures refuted { result.refuted ≡ count_by is_false told.now }
-        ensures still_open { result.still_open ≡ count_by is_open told.now }
+    pub fn of(diagnoses: &[Diagnosis]) -> Totals
+        ensures proved { result.proved ≡ count_by is_proved diagnoses.now }
+        ensures refuted { result.refuted ≡ count_by is_false diagnoses.now }
+        ensures still_open { result.still_open ≡ count_by is_open diagnoses.now }
     {
         Totals {
-            proved: told.iter().filter(|each| each.is_proved()).count(),
-            refuted: told.iter().filter(|each| each.is_false()).count(),
-            still_open: told.iter().filter(|each| each.is_open()).count(),
+            proved: diagnoses.iter().filter(|each| each.is_proved()).count(),
+            refuted: diagnoses.iter().filter(|each| each.is_false()).count(),
+            still_open: diagnoses.iter().filter(|each| each.is_open()).count(),
         }
     }
 }
 
 /// Whether every condition but the last is proved. Takes no memory.
-pub fn is_safe(told: &[Told]) -> bool
-    ensures { result ≡ is_safe told.now }
+pub fn is_safe(diagnoses: &[Diagnosis]) -> bool
+    ensures { result ≡ is_safe diagnoses.now }
 {
-    match told {
+    match diagnoses {
         [] => true,
         [most @ .., _] => most.iter().all(|each| each.is_proved()),
     }
 }
 
 /// Whether the last condition is proved. Takes no memory.
-pub fn is_unblocked(told: &[Told]) -> bool
-    ensures { result ≡ is_unblocked told.now }
+pub fn is_unblocked(diagnoses: &[Diagnosis]) -> bool
+    ensures { result ≡ is_unblocked diagnoses.now }
 {
-    match told {
+    match diagnoses {
         [] => false,
         [.., last] => last.is_proved(),
     }
@@ -292,16 +292,16 @@ pub fn put_yes_line(text: &mut Vec<u8>, word: &[u8], yes: bool) -> Result<(), Al
 /// # Errors
 ///
 /// An allocation was refused; the text has what it had, and perhaps a part of this.
-pub fn put_totals(text: &mut Vec<u8>, told: &[Told]) -> Result<(), AllocError>
-    ensures { OnOk result (text.new.items ≡ text.old.items ++ totals_text told.now) }
+pub fn put_totals(text: &mut Vec<u8>, diagnoses: &[Diagnosis]) -> Result<(), AllocError>
+    ensures { OnOk result (text.new.items ≡ text.old.items ++ totals_text diagnoses.now) }
 {
-    let totals = Totals::of(told);
-    put_number_line(text, b"conditions", told.len())?;
+    let totals = Totals::of(diagnoses);
+    put_number_line(text, b"conditions", diagnoses.len())?;
     put_number_line(text, b"proved", totals.proved)?;
     put_number_line(text, b"false", totals.refuted)?;
     put_number_line(text, b"open", totals.still_open)?;
-    put_yes_line(text, b"safe", is_safe(told))?;
-    put_yes_line(text, b"unblocked", is_unblocked(told))
+    put_yes_line(text, b"safe", is_safe(diagnoses))?;
+    put_yes_line(text, b"unblocked", is_unblocked(diagnoses))
 }
 
 /// The report of all conditions of an outline, as a text: those that are not proved, in order, and
@@ -319,13 +319,13 @@ pub fn report(
     source: &[u8],
     rows: Option<&Rows>,
     conditions: &[Condition],
-    told: &[Told],
+    diagnoses: &[Diagnosis],
 ) -> Result<Vec<u8>, AllocError>
     requires short { length source.now ≤ 2 ^ 20 }
-    requires each { length told.now ≡ length conditions.now }
-    requires few { length told.now < 2 ^ 32 }
+    requires each { length diagnoses.now ≡ length conditions.now }
+    requires few { length diagnoses.now < 2 ^ 32 }
     ensures { IfOk result (λ text. text.items
-        ≡ report_text outline.now.names source.now rows.entry (map seen conditions.now) told.now) }
+        ≡ report_text outline.now.names source.now rows.entry (map seen conditions.now) diagnoses.now) }
 {
     let places = Places::new(alloc, source)?;
     let origins = Origins {
@@ -333,13 +333,13 @@ pub fn report(
         places: &places,
         rows,
     };
-    let mores = mores(alloc, rows, conditions, told)?;
+    let repeats = repeats(alloc, rows, conditions, diagnoses)?;
     let mut text = Vec::new(alloc);
     let page = Page {
         names: outline.names(),
         origins: &origins,
     };
-    put_all(&mut text, page, conditions, &mores, told)?;
-    put_totals(&mut text, told)?;
+    put_all(&mut text, page, conditions, &repeats, diagnoses)?;
+    put_totals(&mut text, diagnoses)?;
     Ok(text)
 }

@@ -6,10 +6,10 @@ ghost use Rattle.std.specs.Str.{bytes_eq};
 ghost use Rattle.og_cond.specs.Seen.{seen};
 ghost use Rattle.og_cert_read.specs.Firsts.{found};
 ghost use Rattle.og_report_text.specs.Origins.{row_at, from_of};
-ghost use Rattle.og_report_prove.specs.Together.{conjunct_at, with_place, with_places, false_places, places_key, action_key, key_text, key_of, key_seen, keys_of, has_key, total, counted, more_left, without, mores};
+ghost use Rattle.og_report_prove.specs.Together.{conjunct_at, with_place, with_places, false_places, places_key, action_key, key_text, key_of, key_seen, keys_of, has_key, total, counted, more_left, without, repeats};
 
 use crate::block::Block;
-use crate::telling::Told;
+use crate::diagnosis::Diagnosis;
 use og_cond::Condition;
 use og_report_explain::Fault;
 use og_report_text::{Row, Rows, put_number};
@@ -115,16 +115,16 @@ fn key_of(
     alloc: Global,
     rows: Option<&Rows>,
     condition: &Condition,
-    told: &Told,
+    diagnosis: &Diagnosis,
 ) -> Result<Option<Vec<u8>>, AllocError>
-    ensures { IfOk result (λ key. key_seen key ≡ key_of rows.entry (seen condition.now) told.now) }
+    ensures { IfOk result (λ key. key_seen key ≡ key_of rows.entry (seen condition.now) diagnosis.now) }
 {
     let Some(rows) = rows else {
         return Ok(None);
     };
-    match told {
-        Told::False(block) => Ok(Some(key_text(alloc, rows, condition, block)?)),
-        Told::Proved | Told::Open => Ok(None),
+    match diagnosis {
+        Diagnosis::False(block) => Ok(Some(key_text(alloc, rows, condition, block)?)),
+        Diagnosis::Proved | Diagnosis::Open => Ok(None),
     }
 }
 
@@ -133,15 +133,15 @@ fn keys_of(
     alloc: Global,
     rows: Option<&Rows>,
     conditions: &[Condition],
-    told: &[Told],
+    diagnoses: &[Diagnosis],
 ) -> Result<Vec<Option<Vec<u8>>>, AllocError>
-    requires { length told.now ≡ length conditions.now }
+    requires { length diagnoses.now ≡ length conditions.now }
     ensures { IfOk result (λ keys.
-        map key_seen keys.items ≡ keys_of rows.entry (map seen conditions.now) told.now) }
+        map key_seen keys.items ≡ keys_of rows.entry (map seen conditions.now) diagnoses.now) }
 {
     let mut keys = Vec::with_capacity(alloc, conditions.len())?;
     for index in 0..conditions.len() {
-        keys.push(key_of(alloc, rows, &conditions[index], &told[index])?)?;
+        keys.push(key_of(alloc, rows, &conditions[index], &diagnoses[index])?)?;
     }
     Ok(keys)
 }
@@ -201,27 +201,27 @@ fn more_left(counts: &mut Counts, key: &Option<Vec<u8>>) -> Option<usize>
 }
 
 // Of all of them.
-fn mores_of(alloc: Global, keys: &[Option<Vec<u8>>]) -> Result<Vec<Option<usize>>, AllocError>
+fn repeats_of(alloc: Global, keys: &[Option<Vec<u8>>]) -> Result<Vec<Option<usize>>, AllocError>
     requires { length keys.now < 2 ^ 32 }
-    ensures { IfOk result (λ v. v.items ≡ mores (map key_seen keys.now)) }
+    ensures { IfOk result (λ v. v.items ≡ repeats (map key_seen keys.now)) }
 {
     let mut counts = counts_of(alloc, keys)?;
-    let mut mores = Vec::with_capacity(alloc, keys.len())?;
+    let mut repeats = Vec::with_capacity(alloc, keys.len())?;
     for index in 0..keys.len() {
-        mores.push(more_left(&mut counts, &keys[index]))?;
+        repeats.push(more_left(&mut counts, &keys[index]))?;
     }
-    Ok(mores)
+    Ok(repeats)
 }
 
 // No more are reported with any of this many.
 fn none_more(alloc: Global, count: usize) -> Result<Vec<Option<usize>>, AllocError>
     ensures { IfOk result (λ v. v.items ≡ replicate count (Some 0)) }
 {
-    let mut mores = Vec::with_capacity(alloc, count)?;
+    let mut repeats = Vec::with_capacity(alloc, count)?;
     for _ in 0..count {
-        mores.push(Some(0))?;
+        repeats.push(Some(0))?;
     }
-    Ok(mores)
+    Ok(repeats)
 }
 
 /// How many more are reported with each condition: with the first of those false conditions of a
@@ -231,20 +231,20 @@ fn none_more(alloc: Global, count: usize) -> Result<Vec<Option<usize>>, AllocErr
 /// # Errors
 ///
 /// An allocation was refused.
-pub fn mores(
+pub fn repeats(
     alloc: Global,
     rows: Option<&Rows>,
     conditions: &[Condition],
-    told: &[Told],
+    diagnoses: &[Diagnosis],
 ) -> Result<Vec<Option<usize>>, AllocError>
-    requires each { length told.now ≡ length conditions.now }
-    requires few { length told.now < 2 ^ 32 }
+    requires each { length diagnoses.now ≡ length conditions.now }
+    requires few { length diagnoses.now < 2 ^ 32 }
     ensures { IfOk result (λ v.
-        v.items ≡ mores (keys_of rows.entry (map seen conditions.now) told.now)) }
+        v.items ≡ repeats (keys_of rows.entry (map seen conditions.now) diagnoses.now)) }
 {
     if rows.is_none() {
         return none_more(alloc, conditions.len());
     }
-    let keys = keys_of(alloc, rows, conditions, told)?;
-    mores_of(alloc, &keys)
+    let keys = keys_of(alloc, rows, conditions, diagnoses)?;
+    repeats_of(alloc, &keys)
 }

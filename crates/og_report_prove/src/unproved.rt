@@ -5,10 +5,10 @@ ghost use Rattle.serde_json.specs.Data.{object};
 ghost use Rattle.serde_json.specs.View.{view, members_view};
 ghost use Rattle.og_cond.specs.Seen.{seen};
 ghost use Rattle.og_report_prove.specs.Report.{is_proved};
-ghost use Rattle.og_report_prove.specs.Json.{status_word, last_members, middle_members, told_data, unproved_data};
+ghost use Rattle.og_report_prove.specs.Json.{status_word, last_members, middle_members, diagnosis_data, unproved_data};
 
+use crate::diagnosis::Diagnosis;
 use crate::faults::{after_member, false_member, state_member, too_large_member};
-use crate::telling::Told;
 use crate::values::put_optional;
 use og_cond::Condition;
 use og_report_text::{Places, set_number, set_text};
@@ -17,13 +17,13 @@ use serde_json::{Map, Value};
 use std::alloc::{AllocError, Global};
 
 // The word for the finding.
-fn status_word(told: &Told) -> &'static str
-    ensures { result.now ≡ status_word told.now }
+fn status_word(diagnosis: &Diagnosis) -> &'static str
+    ensures { result.now ≡ status_word diagnosis.now }
 {
-    match told {
-        Told::Proved => "proved",
-        Told::False(_) => "false",
-        Told::Open => "open",
+    match diagnosis {
+        Diagnosis::Proved => "proved",
+        Diagnosis::False(_) => "false",
+        Diagnosis::Open => "open",
     }
 }
 
@@ -32,15 +32,15 @@ fn put_last(
     members: &mut Map<String, Value>,
     alloc: Global,
     names: &[Name],
-    told: &Told,
+    diagnosis: &Diagnosis,
 ) -> Result<(), AllocError>
     requires { members.old.entries ≡ [] }
-    ensures { OnOk result (members_view members.new.entries ≡ last_members names.now told.now) }
+    ensures { OnOk result (members_view members.new.entries ≡ last_members names.now diagnosis.now) }
 {
-    let too_large = too_large_member(alloc, names, told)?;
+    let too_large = too_large_member(alloc, names, diagnosis)?;
     put_optional(members, alloc, "too_large", too_large)?;
-    set_text(members, alloc, "status", status_word(told))?;
-    let state = state_member(alloc, names, told)?;
+    set_text(members, alloc, "status", status_word(diagnosis))?;
+    let state = state_member(alloc, names, diagnosis)?;
     put_optional(members, alloc, "state", state)
 }
 
@@ -52,16 +52,16 @@ fn put_middle(
     places: &Places,
     number: u64,
     condition: &Condition,
-    told: &Told,
+    diagnosis: &Diagnosis,
 ) -> Result<(), AllocError>
-    requires { members_view members.old.entries ≡ last_members names.now told.now }
+    requires { members_view members.old.entries ≡ last_members names.now diagnosis.now }
     ensures { OnOk result (members_view members.new.entries
-        ≡ middle_members names.now places.now number (seen condition.now) told.now) }
+        ≡ middle_members names.now places.now number (seen condition.now) diagnosis.now) }
 {
     let place = places.position(condition.at);
     set_number(members, alloc, "line", place.line as u64)?;
     set_text(members, alloc, "kind", condition.kind.name())?;
-    let found = false_member(alloc, names, places, told)?;
+    let found = false_member(alloc, names, places, diagnosis)?;
     put_optional(members, alloc, "false", found)?;
     set_number(members, alloc, "condition", number)?;
     set_number(members, alloc, "column", place.column as u64)
@@ -75,14 +75,14 @@ fn put_first(
     places: &Places,
     number: u64,
     condition: &Condition,
-    told: &Told,
+    diagnosis: &Diagnosis,
 ) -> Result<(), AllocError>
     requires { members_view members.old.entries
-        ≡ middle_members names.now places.now number (seen condition.now) told.now }
+        ≡ middle_members names.now places.now number (seen condition.now) diagnosis.now }
     ensures { OnOk result (object (members_view members.new.entries)
-        ≡ told_data names.now places.now number (seen condition.now) told.now) }
+        ≡ diagnosis_data names.now places.now number (seen condition.now) diagnosis.now) }
 {
-    let after = after_member(alloc, names, told)?;
+    let after = after_member(alloc, names, diagnosis)?;
     put_optional(members, alloc, "after", after)?;
     let Some(at) = condition.action_at else {
         return Ok(());
@@ -97,21 +97,37 @@ fn put_first(
 /// # Errors
 ///
 /// An allocation was refused.
-pub fn told_value(
+pub fn diagnosis_value(
     alloc: Global,
     names: &[Name],
     places: &Places,
     number: u64,
     condition: &Condition,
-    told: &Told,
+    diagnosis: &Diagnosis,
 ) -> Result<Value, AllocError>
     ensures { IfOk result (λ v.
-        view v ≡ told_data names.now places.now number (seen condition.now) told.now) }
+        view v ≡ diagnosis_data names.now places.now number (seen condition.now) diagnosis.now) }
 {
     let mut members = Map::new(alloc);
-    put_last(&mut members, alloc, names, told)?;
-    put_middle(&mut members, alloc, names, places, number, condition, told)?;
-    put_first(&mut members, alloc, names, places, number, condition, told)?;
+    put_last(&mut members, alloc, names, diagnosis)?;
+    put_middle(
+        &mut members,
+        alloc,
+        names,
+        places,
+        number,
+        condition,
+        diagnosis,
+    )?;
+    put_first(
+        &mut members,
+        alloc,
+        names,
+        places,
+        number,
+        condition,
+        diagnosis,
+    )?;
     Ok(Value::Object(members))
 }
 
@@ -122,15 +138,22 @@ fn add_unproved(
     places: &Places,
     number: u64,
     condition: &Condition,
-    told: &Told,
+    diagnosis: &Diagnosis,
 ) -> Result<(), AllocError>
     ensures { OnOk result (map view values.new.items ≡ map view values.old.items
-        ++ (if is_proved told.now then [] else told_data names.now places.now number (seen condition.now) told.now ∷ [])) }
+        ++ (if is_proved diagnosis.now then [] else diagnosis_data names.now places.now number (seen condition.now) diagnosis.now ∷ [])) }
 {
-    if told.is_proved() {
+    if diagnosis.is_proved() {
         return Ok(());
     }
-    let value = told_value(*values.allocator(), names, places, number, condition, told)?;
+    let value = diagnosis_value(
+        *values.allocator(),
+        names,
+        places,
+        number,
+        condition,
+        diagnosis,
+    )?;
     values.push(value)?;
     Ok(())
 }
@@ -141,11 +164,11 @@ pub(crate) fn unproved_values(
     names: &[Name],
     places: &Places,
     conditions: &[Condition],
-    told: &[Told],
+    diagnoses: &[Diagnosis],
 ) -> Result<Vec<Value>, AllocError>
-    requires { length told.now ≡ length conditions.now }
+    requires { length diagnoses.now ≡ length conditions.now }
     ensures { IfOk result (λ values. map view values.items
-        ≡ unproved_data names.now places.now 1 (map seen conditions.now) told.now) }
+        ≡ unproved_data names.now places.now 1 (map seen conditions.now) diagnoses.now) }
 {
     let mut values = Vec::new(alloc);
     for index in 0..conditions.len() {
@@ -156,7 +179,7 @@ pub(crate) fn unproved_values(
             places,
             number,
             &conditions[index],
-            &told[index],
+            &diagnoses[index],
         )?;
     }
     Ok(values)

@@ -62,4 +62,4 @@ pub record IsAdvice (name certs source : List ℕ) (fault : InputFault) (text : 
   pub is_reason : IsReason source fault reason
   pub hint : Option (List ℕ)
   pub one_line : IfSome hint (λ text. IsTrue (is_one_line text))
-  pub told : text ≡ head_text name certs source fault & front_text source (place_of_input fault) & reason & codes "\n" & hint_text hint
+  pub written : text ≡ head_text name certs source fault & front_text source (place_of_input fault) & reason & codes "\n" & hint_text hint

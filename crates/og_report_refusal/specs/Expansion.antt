@@ -10,7 +10,7 @@ use Rattle.og_template_outline.specs.declared.fault.ExpandFault.{ExpandFault}
 pub record IsRemarkAt (name source : List ℕ) (number : ℕ) (fault_name : List ℕ) (place : Option ℕ) (text : List ℕ) : Type 0 where
   pub reason : List ℕ
   pub one_line : IsTrue (is_one_line reason)
-  pub told : text ≡ shown_name name & place_text source place & refusal_text number fault_name & front_text source place & reason & codes "\n"
+  pub written : text ≡ shown_name name & place_text source place & refusal_text number fault_name & front_text source place & reason & codes "\n"
 
 -- the place of a fault; in a template that is too long it is not shown
 abbrev pub shown_place : List ℕ → ExpandFault → Option ℕ

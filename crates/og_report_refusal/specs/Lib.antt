@@ -3,7 +3,6 @@ pub mod Names
 pub mod Quotes
 pub mod Reasons
 pub mod Words
-pub mod Remarks
 pub mod Missing
 pub mod Starting
 pub mod Values

@@ -70,7 +70,7 @@ pub record IsExpectedText (source : List ℕ) (at : ℕ) (text : List ℕ) : Typ
   pub may_end : Bool
   pub exact : AreThose (GoesOn (take (count_before tokens at) tokens)) all_kinds symbols
   pub ends : MatchBool may_end (IsWhole (take (count_before tokens at) tokens)) (IsWhole (take (count_before tokens at) tokens) → ⊥)
-  pub told : text ≡ expected_text (found_text source (drop (count_before tokens at) tokens)) symbols may_end
+  pub written : text ≡ expected_text (found_text source (drop (count_before tokens at) tokens)) symbols may_end
 
 -- the source is cut into tokens
 abbrev pub HasTokens : List ℕ → Type 0
@@ -98,7 +98,7 @@ declared_text source at first = wrong_text source at (codes "' was declared befo
 pub record IsDeclaredText (source : List ℕ) (at : ℕ) (text : List ℕ) : Type 0 where
   pub tokens : List Token
   pub are : AreTokensOf source tokens
-  pub told : text ≡ declared_text source at (start_from tokens (position (is_word source at) tokens) at)
+  pub written : text ≡ declared_text source at (start_from tokens (position (is_word source at) tokens) at)
 
 -- ---- the reasons
 

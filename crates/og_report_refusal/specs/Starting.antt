@@ -1,16 +1,14 @@
 -- The message about a run that does not begin.
-use Rattle.std.specs.Prelude.{◌≡◌, ℕ, zero, suc, ℤ, List, [], ◌∷◌, if◌then◌else◌, ◌==◌, ◌⊎◌, Option, Some, None, Vec, codes}
+use Rattle.std.specs.Prelude.{◌≡◌, ℕ, zero, suc, ℤ, List, [], ◌∷◌, if◌then◌else◌, ◌==◌, None, Vec, codes}
 use Rattle.std.specs.Global.{Global}
 use Rattle.og_typed.specs.Syntax.{Program}
 use Rattle.og_typed.specs.declared.assertion.Assert.{Assert}
-use Rattle.og_typed.specs.Source.{IsSource}
 use Rattle.og_report_text.specs.Places.{◌&◌, position_of, position_text}
 use Rattle.og_report_text.specs.Values.{values_text}
 use Rattle.og_report_refusal.specs.Names.{shown_name}
 use Rattle.og_report_explain.specs.Explanations.{IsFalseNote}
 use Rattle.og_report_prove.specs.Blocks.{false_lines}
 use Rattle.og_command_run.specs.Words.{Give}
-use Rattle.og_report_refusal.specs.Remarks.{IsSourceRemark, IsCheckRemark}
 use denote.Ref.{Bor}
 
 -- FILE:LINE:COLUMN: refused: 50 NotPre
@@ -45,23 +43,9 @@ start_text name source o s found =
 pub record IsStartOf (name source : List ℕ) (o : Program) (s : List ℤ) (text : List ℕ) : Type 0 where
   pub found : Vec (Bor Assert) Global
   pub is_false : IsFalseNote s o.pre found
-  pub told : text ≡ start_text name source o s found.items
+  pub written : text ≡ start_text name source o s found.items
 
 -- the same of the state that the words give
-pub record IsStartRemark (name source : List ℕ) (words : List (List ℕ)) (text : List ℕ) : Type 0 where
-  pub outline : Program
-  pub values : List ℤ
-  pub read : IsSource source outline
-  pub given : Give outline words values
-  pub is_told : IsStartOf name source outline values text
-
--- of a run of a source of this name that does not begin: why the source is refused, or the message about its start
-abbrev pub IsRunRemark : List ℕ → List ℕ → List (List ℕ) → Option (List ℕ) → Type 0
-IsRunRemark name source words (Some text) = IsSourceRemark name source (Some text) ⊎ IsStartRemark name source words text
-IsRunRemark name source words None = IsSourceRemark name source None
-
--- the same with certificates
-abbrev pub IsProvedRunRemark : List ℕ → List ℕ → List ℕ → List ℕ → List (List ℕ) → Option (List ℕ) → Type 0
-IsProvedRunRemark name certs_name source certs words (Some text) =
-    IsCheckRemark name certs_name source certs (Some text) ⊎ IsStartRemark name source words text
-IsProvedRunRemark name certs_name source certs words None = IsCheckRemark name certs_name source certs None
+abbrev pub IsStartRemark : List ℕ → List ℕ → Program → List (List ℕ) → List ℕ → Type 0
+IsStartRemark name source o words text =
+    (values : List ℤ) × Give o words values × IsStartOf name source o values text

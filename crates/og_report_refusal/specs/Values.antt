@@ -3,7 +3,6 @@ use Rattle.std.specs.Prelude.{◌≡◌, ◌⊎◌, ◌<◌, ◌≤◌, ℕ, ℤ
 use Rattle.std.specs.List.{position_or_len, before_first, after_first}
 use Rattle.og_typed.specs.Syntax.{Program}
 use Rattle.og_typed.specs.Resolved.{number_in}
-use Rattle.og_typed.specs.Source.{IsSource}
 use Rattle.og_report_text.specs.Places.{◌&◌}
 use Rattle.og_report_refusal.specs.Names.{shown_name}
 use Rattle.og_command_run.specs.Words.{is_equals, IsInteger}
@@ -48,10 +47,7 @@ schedule_text = codes "a schedule is numbers of processes with commas between th
 abbrev pub reason_line : List ℕ → List ℕ
 reason_line reason = codes "  " & reason & codes "\n"
 
--- that line, of a word and the outline of a source
-pub record IsValueRemark (what : Gives) (source word line : List ℕ) : Type 0 where
-  pub outline : Program
-  pub reason : List ℕ
-  pub read : IsSource source outline
-  pub why : IsWordReason what outline word reason
-  pub told : line ≡ reason_line reason
+-- that line, of a word and an outline
+abbrev pub IsValueRemark : Gives → Program → List ℕ → List ℕ → Type 0
+IsValueRemark what o word line =
+    (reason : List ℕ) × IsWordReason what o word reason × (line ≡ reason_line reason)

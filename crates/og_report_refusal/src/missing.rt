@@ -1,63 +1,16 @@
 //! How many conditions have no certificate.
 
-ghost use Rattle.std.specs.Prelude.{◌≡◌, ◌++◌, OnOk, IfOk, option_map, codes};
+ghost use Rattle.std.specs.Prelude.{◌≡◌, ◌++◌, OnOk, IfOk, codes};
 ghost use Rattle.std.specs.Fmt.{decimal};
 ghost use Rattle.og_report_refusal.specs.Names.{command_text};
-ghost use Rattle.og_report_refusal.specs.Missing.{counts_text, missing_text, length_text, long_text, IsCount, IsCountOf, IsMissingOf, IsMissingRemark};
+ghost use Rattle.og_report_refusal.specs.Missing.{counts_text, missing_text, length_text, long_text};
 
 use crate::put_command;
-use og_cert_read::read_certs;
-use og_cert_text::CertTextError;
-use og_cond::{ConditionsError, conditions};
 use og_find::Missing;
 use og_report_text::put_number;
-use og_typed::{Outline, Source, SourceError};
 use std::alloc::{AllocError, Global};
 
 const LACKING: &str = " conditions have no certificate; ";
-
-// How many conditions an outline has; none where they are too many.
-fn counted(alloc: Global, outline: &Outline) -> Result<Option<u32>, AllocError>
-    ensures { IfOk result (IsCount outline.now) }
-{
-    match conditions(alloc, outline) {
-        Ok(list) => Ok(Some(list.len() as u32)),
-        Err(ConditionsError::Fault(_)) => Ok(None),
-        Err(ConditionsError::Memory) => Err(AllocError),
-    }
-}
-
-// How many conditions a source has; none where it is refused, or they are too many.
-fn count_of(alloc: Global, source: &[u8]) -> Result<Option<u32>, AllocError>
-    ensures { IfOk result (IsCountOf source.now) }
-{
-    let read = match Source::read(alloc, source) {
-        Ok(read) => read,
-        Err(SourceError::Fault(_)) => return Ok(None),
-        Err(SourceError::Memory) => return Err(AllocError),
-    };
-    let count = counted(alloc, read.outline());
-    drop(read);
-    match count? {
-        Some(count) => Ok(Some(count)),
-        None => Ok(None),
-    }
-}
-
-// How many of this many conditions have no certificate in a text; none where it is refused.
-fn missing_of(alloc: Global, certs: &[u8], count: u32) -> Result<Option<Missing>, AllocError>
-    ensures { IfOk result (IsMissingOf certs.now count) }
-{
-    match read_certs(alloc, certs) {
-        Ok(file) => {
-            let missing = Missing::of(&file, count);
-            drop(file);
-            Ok(Some(missing))
-        }
-        Err(CertTextError::Fault(_)) => Ok(None),
-        Err(CertTextError::Memory) => Err(AllocError),
-    }
-}
 
 // Adds two numbers with `of` between them.
 fn put_counts(text: &mut Vec<u8>, missing: Missing) -> Result<(), AllocError>
@@ -134,31 +87,4 @@ pub fn long_line(
     text.extend_from_slice(b" bytes")?;
     put_length(&mut text, name, second)?;
     Ok(text)
-}
-
-/// How many conditions of a source of this name have no certificate, and what says why; nothing
-/// where each has one, or the source or the certificates are refused.
-///
-/// # Errors
-///
-/// An allocation was refused.
-pub fn missing_remark(
-    alloc: Global,
-    name: &str,
-    source: &[u8],
-    certs: &[u8],
-) -> Result<Option<Vec<u8>>, AllocError>
-    ensures { IfOk result (λ note.
-        IsMissingRemark name.now source.now certs.now (option_map (λ n. n.items) note)) }
-{
-    let Some(count) = count_of(alloc, source)? else {
-        return Ok(None);
-    };
-    let Some(missing) = missing_of(alloc, certs, count)? else {
-        return Ok(None);
-    };
-    if missing.count == 0 {
-        return Ok(None);
-    }
-    Ok(Some(missing_line(alloc, name, missing)?))
 }

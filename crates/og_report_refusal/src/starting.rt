@@ -1,11 +1,10 @@
 //! The message about a run that does not begin: its start makes the precondition false.
 
-ghost use Rattle.std.specs.Prelude.{◌≡◌, ◌++◌, map, option_map, IfOk, IfSome, OnOk};
+ghost use Rattle.std.specs.Prelude.{◌≡◌, ◌++◌, map, IfOk, IfSome, OnOk};
 ghost use Rattle.og_command_run.specs.Words.{Give};
-ghost use Rattle.og_report_refusal.specs.Starting.{refused_text, start_value, start_values, start_line, help_line, start_text, IsStartOf, IsStartRemark, IsRunRemark, IsProvedRunRemark};
+ghost use Rattle.og_report_refusal.specs.Starting.{refused_text, start_value, start_values, start_line, help_line, start_text, IsStartOf, IsStartRemark};
 
-use crate::remarks::{check_remark, source_remark};
-use crate::{Names, put_name};
+use crate::put_name;
 use og_command_run::{WordsError, values};
 use og_linear::State;
 use og_report_explain::{Unexplained, false_in};
@@ -13,10 +12,8 @@ use og_report_prove::put_false;
 use og_report_text::{Origins, Places, put_position, put_values};
 use og_subst::Values;
 use og_text::Name;
-use og_typed::{Assert, Outline, Source, SourceError};
+use og_typed::{Assert, Outline, Source};
 use std::alloc::{AllocError, Global};
-use std::sync::Wait;
-use std::thread::Threads;
 
 const HELP: &str =
     "help: words NAME=INT give variables their values at the start, which are else 0\n";
@@ -113,7 +110,7 @@ fn start_text(
 }
 
 // The message about a start of a source, where it makes the precondition false.
-fn told(
+fn start_text_of(
     alloc: Global,
     name: &str,
     source: &Source,
@@ -141,84 +138,25 @@ fn start_of(alloc: Global, outline: &Outline, words: &[&str]) -> Result<Option<S
     }
 }
 
-// The message about the start that the words give.
-fn told_of(
+/// The message about a run of a source of this name that does not begin: where its precondition
+/// stands, the values that the words give to its variables, and which conjuncts of the precondition
+/// are false then. Nothing where a word gives no value, no conjunct is false, or a number on the
+/// way leaves 128 bits.
+///
+/// # Errors
+///
+/// An allocation was refused.
+pub fn start_remark(
     alloc: Global,
     name: &str,
     source: &Source,
     words: &[&str],
 ) -> Result<Option<Vec<u8>>, AllocError>
-    ensures { IfOk result (λ note. IfSome note
-        (λ text. IsStartRemark name.now source.now.bytes (map (λ w. w.now) words.now) text.items)) }
+    ensures { IfOk result (λ note. IfSome note (λ text. IsStartRemark name.now source.now.bytes
+        source.now.outline (map (λ w. w.now) words.now) text.items)) }
 {
     match start_of(alloc, source.outline(), words)? {
-        Some(state) => told(alloc, name, source, &state),
+        Some(state) => start_text_of(alloc, name, source, &state),
         None => Ok(None),
-    }
-}
-
-// From the bytes of the source.
-fn start_remark(
-    alloc: Global,
-    name: &str,
-    source: &[u8],
-    words: &[&str],
-) -> Result<Option<Vec<u8>>, AllocError>
-    ensures { IfOk result (λ note. IfSome note
-        (λ text. IsStartRemark name.now source.now (map (λ w. w.now) words.now) text.items)) }
-{
-    match Source::read(alloc, source) {
-        Ok(read) => {
-            let note = told_of(alloc, name, &read, words);
-            drop(read);
-            note
-        }
-        Err(SourceError::Fault(_)) => Ok(None),
-        Err(SourceError::Memory) => Err(AllocError),
-    }
-}
-
-/// The message about a run of a source of this name that does not begin: why the source is refused,
-/// or where its precondition stands, the values that the words give to its variables, and which
-/// conjuncts of the precondition are false then. Nothing of a source with an outline where a word
-/// gives no value, no conjunct is false, or a number on the way leaves 128 bits.
-///
-/// # Errors
-///
-/// An allocation was refused.
-pub fn run_remark(
-    alloc: Global,
-    name: &str,
-    source: &[u8],
-    words: &[&str],
-) -> Result<Option<Vec<u8>>, AllocError>
-    ensures { IfOk result (λ note. IsRunRemark name.now source.now (map (λ w. w.now) words.now)
-        (option_map (λ n. n.items) note)) }
-{
-    match source_remark(alloc, name, source)? {
-        Some(text) => Ok(Some(text)),
-        None => start_remark(alloc, name, source, words),
-    }
-}
-
-/// Of a run that certificates are to prove safe, which may be refused too.
-///
-/// # Errors
-///
-/// An allocation was refused.
-pub fn proved_run_remark<H: Threads + Wait + Sync>(
-    rt: &H,
-    alloc: Global,
-    names: Names<'_>,
-    source: &[u8],
-    certs: &[u8],
-    words: &[&str],
-) -> Result<Option<Vec<u8>>, AllocError>
-    ensures { IfOk result (λ note. IsProvedRunRemark names.entry.source.now names.entry.certs.now
-        source.now certs.now (map (λ w. w.now) words.now) (option_map (λ n. n.items) note)) }
-{
-    match check_remark(rt, alloc, names, source, certs)? {
-        Some(text) => Ok(Some(text)),
-        None => start_remark(alloc, names.source, source, words),
     }
 }

@@ -1,12 +1,12 @@
 //! Why a word gives no variable a value or a range.
 
-ghost use Rattle.std.specs.Prelude.{◌≡◌, IfOk, IfSome};
+ghost use Rattle.std.specs.Prelude.{◌≡◌, IfOk};
 ghost use Rattle.og_typed.specs.Resolved.{number_in};
 ghost use Rattle.og_report_refusal.specs.Values.{quoted_text, form_text, IsNumberReason, IsVariableReason, IsWordReason, schedule_text, reason_line, IsValueRemark};
 
 use crate::put_name;
 use og_command_run::{integer, number_of};
-use og_typed::{Outline, Source, SourceError};
+use og_typed::Outline;
 use std::alloc::{AllocError, Global};
 
 /// What the words of a command give to variables.
@@ -114,14 +114,6 @@ fn line_of(alloc: Global, reason: &[u8]) -> Result<Vec<u8>, AllocError>
     Ok(line)
 }
 
-// Why a word gives no variable of a source a value, as a line.
-fn told(alloc: Global, gives: Gives, source: &Source, word: &str) -> Result<Vec<u8>, AllocError>
-    ensures { IfOk result (λ line. IsValueRemark gives source.now.bytes word.now line.items) }
-{
-    let reason = word_reason(alloc, gives, source.outline(), word)?;
-    line_of(alloc, &reason)
-}
-
 /// Why a word is no schedule, as a line after two blanks.
 ///
 /// # Errors
@@ -133,9 +125,9 @@ pub fn schedule_remark(alloc: Global) -> Result<Vec<u8>, AllocError>
     line_of(alloc, SCHEDULE.as_bytes())
 }
 
-/// Why a word gives no variable of a source a value or a range, as a line after two blanks: it has
-/// no `=`, its name is not declared or an auxiliary's, or what it says is no value; where it is
-/// one, that the variable has one already. Nothing where the source is refused.
+/// Why a word gives no variable of an outline a value or a range, as a line after two blanks: it
+/// has no `=`, its name is not declared or an auxiliary's, or it says no value; where it says one,
+/// that the variable has one already.
 ///
 /// # Errors
 ///
@@ -143,19 +135,11 @@ pub fn schedule_remark(alloc: Global) -> Result<Vec<u8>, AllocError>
 pub fn value_remark(
     alloc: Global,
     gives: Gives,
-    source: &[u8],
+    outline: &Outline,
     word: &str,
-) -> Result<Option<Vec<u8>>, AllocError>
-    ensures { IfOk result (λ note.
-        IfSome note (λ line. IsValueRemark gives source.now word.now line.items)) }
+) -> Result<Vec<u8>, AllocError>
+    ensures { IfOk result (λ line. IsValueRemark gives outline.now word.now line.items) }
 {
-    match Source::read(alloc, source) {
-        Ok(read) => {
-            let line = told(alloc, gives, &read, word);
-            drop(read);
-            Ok(Some(line?))
-        }
-        Err(SourceError::Fault(_)) => Ok(None),
-        Err(SourceError::Memory) => Err(AllocError),
-    }
+    let reason = word_reason(alloc, gives, outline, word)?;
+    line_of(alloc, &reason)
 }

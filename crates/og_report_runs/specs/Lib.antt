@@ -3,5 +3,5 @@ pub mod Lines
 pub mod Places
 pub mod Report
 pub mod Runs
-pub mod Sights
-pub mod Told
+pub mod Observations
+pub mod RunDiagnosis

@@ -1,9 +1,10 @@
 //! Runs that get to a false condition: found, and reported as text and as JSON.
 //!
-//! specs/Sights.antt, Places.antt and Runs.antt say what a run shows, Told.antt the report by it,
-//! Lines.antt, Report.antt and Json.antt how it is reported.
+//! specs/Observations.antt, Places.antt and Runs.antt say what a run shows, RunDiagnosis.antt the
+//! diagnosis by it, Lines.antt, Report.antt and Json.antt how it is reported.
 #![tactic(auto)]
 
+mod diagnosis;
 mod exact;
 mod holding;
 mod lines;
@@ -14,12 +15,11 @@ mod reporting;
 mod seeking;
 mod standing;
 mod stuck;
-mod telling;
 mod witness;
 
+pub use diagnosis::diagnose_by_run;
 pub use lines::{Explored, put_run_line, put_start};
 pub use objects::json;
 pub use place::Place;
 pub use reporting::{count_reached, report};
-pub use telling::told_by_run;
 pub use witness::{Run, Witness, find_run};

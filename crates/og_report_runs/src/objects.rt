@@ -4,7 +4,7 @@ ghost use Rattle.std.specs.Prelude.{◌≡◌, ◌++◌, ◌≤◌, ◌^◌, [],
 ghost use Rattle.serde_json.specs.View.{view};
 ghost use Rattle.og_cond.specs.Seen.{seen};
 ghost use Rattle.og_report_prove.specs.Report.{is_proved};
-ghost use Rattle.og_report_prove.specs.Json.{told_data};
+ghost use Rattle.og_report_prove.specs.Json.{diagnosis_data};
 ghost use Rattle.og_report_runs.specs.Json.{with_member, history_items, start_data, run_data, with_run, unproved_data, explored_data, report_data, json_text};
 
 use crate::lines::Explored;
@@ -13,7 +13,7 @@ use crate::witness::{Run, Witness};
 use og_cond::Condition;
 use og_linear::State;
 use og_report_explore::{numbers, printed_number};
-use og_report_prove::{Told, put_values, told_value, totals_value};
+use og_report_prove::{Diagnosis, diagnosis_value, put_values, totals_value};
 use og_report_text::{Places, bytes_of, list_value, set_number, set_text};
 use og_subst::Values;
 use og_text::Name;
@@ -101,15 +101,15 @@ fn run_value(alloc: Global, outline: &Outline, run: &Run) -> Result<Value, Alloc
 fn with_run(
     alloc: Global,
     outline: &Outline,
-    told: &Told,
+    diagnosis: &Diagnosis,
     run: &Run,
     value: Value,
 ) -> Result<Value, AllocError>
-    ensures { IfOk result (λ v. view v ≡ with_run outline.now told.now run.now (view value)) }
+    ensures { IfOk result (λ v. view v ≡ with_run outline.now diagnosis.now run.now (view value)) }
 {
-    match told {
-        Told::False(_) => with_member(alloc, "run", run_value(alloc, outline, run)?, value),
-        Told::Proved | Told::Open => Ok(value),
+    match diagnosis {
+        Diagnosis::False(_) => with_member(alloc, "run", run_value(alloc, outline, run)?, value),
+        Diagnosis::Proved | Diagnosis::Open => Ok(value),
     }
 }
 
@@ -120,18 +120,18 @@ fn add_unproved(
     places: &Places,
     number: u64,
     condition: &Condition,
-    told: &Told,
+    diagnosis: &Diagnosis,
     run: &Run,
 ) -> Result<(), AllocError>
     ensures { OnOk result (map view values.new.items ≡ map view values.old.items
-        ++ (if is_proved told.now then [] else with_run outline.now told.now run.now (told_data outline.now.names places.now number (seen condition.now) told.now) ∷ [])) }
+        ++ (if is_proved diagnosis.now then [] else with_run outline.now diagnosis.now run.now (diagnosis_data outline.now.names places.now number (seen condition.now) diagnosis.now) ∷ [])) }
 {
-    if told.is_proved() {
+    if diagnosis.is_proved() {
         return Ok(());
     }
     let alloc = *values.allocator();
-    let value = told_value(alloc, outline.names(), places, number, condition, told)?;
-    values.push(with_run(alloc, outline, told, run, value)?)?;
+    let value = diagnosis_value(alloc, outline.names(), places, number, condition, diagnosis)?;
+    values.push(with_run(alloc, outline, diagnosis, run, value)?)?;
     Ok(())
 }
 
@@ -141,13 +141,13 @@ fn unproved_values(
     outline: &Outline,
     places: &Places,
     conditions: &[Condition],
-    told: &[Told],
+    diagnoses: &[Diagnosis],
     runs: &[Run],
 ) -> Result<Vec<Value>, AllocError>
-    requires each { length told.now ≡ length conditions.now }
+    requires each { length diagnoses.now ≡ length conditions.now }
     requires run { length runs.now ≡ length conditions.now }
     ensures { IfOk result (λ values. map view values.items
-        ≡ unproved_data outline.now places.now 1 (map seen conditions.now) told.now runs.now) }
+        ≡ unproved_data outline.now places.now 1 (map seen conditions.now) diagnoses.now runs.now) }
 {
     let mut values = Vec::new(alloc);
     for index in 0..conditions.len() {
@@ -158,7 +158,7 @@ fn unproved_values(
             places,
             number,
             &conditions[index],
-            &told[index],
+            &diagnoses[index],
             &runs[index],
         )?;
     }
@@ -185,16 +185,16 @@ fn report_value(
     places: &Places,
     explored: Explored,
     conditions: &[Condition],
-    told: &[Told],
+    diagnoses: &[Diagnosis],
     runs: &[Run],
 ) -> Result<Value, AllocError>
-    requires each { length told.now ≡ length conditions.now }
+    requires each { length diagnoses.now ≡ length conditions.now }
     requires run { length runs.now ≡ length conditions.now }
     ensures { IfOk result (λ v. view v
-        ≡ report_data outline.now places.now explored (map seen conditions.now) told.now runs.now) }
+        ≡ report_data outline.now places.now explored (map seen conditions.now) diagnoses.now runs.now) }
 {
-    let unproved = unproved_values(alloc, outline, places, conditions, told, runs)?;
-    let totals = totals_value(alloc, told, list_value(unproved))?;
+    let unproved = unproved_values(alloc, outline, places, conditions, diagnoses, runs)?;
+    let totals = totals_value(alloc, diagnoses, list_value(unproved))?;
     with_member(
         alloc,
         "runs",
@@ -216,16 +216,18 @@ pub fn json(
     source: &[u8],
     explored: Explored,
     conditions: &[Condition],
-    told: &[Told],
+    diagnoses: &[Diagnosis],
     runs: &[Run],
 ) -> Result<Vec<u8>, AllocError>
     requires short { length source.now ≤ 2 ^ 20 }
-    requires each { length told.now ≡ length conditions.now }
+    requires each { length diagnoses.now ≡ length conditions.now }
     requires run { length runs.now ≡ length conditions.now }
     ensures { IfOk result (λ text. text.items
-        ≡ json_text outline.now source.now explored (map seen conditions.now) told.now runs.now) }
+        ≡ json_text outline.now source.now explored (map seen conditions.now) diagnoses.now runs.now) }
 {
     let places = Places::new(alloc, source)?;
-    let value = report_value(alloc, outline, &places, explored, conditions, told, runs)?;
+    let value = report_value(
+        alloc, outline, &places, explored, conditions, diagnoses, runs,
+    )?;
     bytes_of(alloc, &value)
 }

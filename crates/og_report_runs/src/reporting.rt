@@ -3,16 +3,16 @@
 ghost use Rattle.std.specs.Prelude.{◌≡◌, ◌++◌, ◌<◌, ◌≤◌, ◌^◌, ℕ, List, [], length, map, IfOk, OnOk};
 ghost use Rattle.og_cond.specs.Seen.{seen};
 ghost use Rattle.og_cert_read.specs.Firsts.{found as number_of};
-ghost use Rattle.og_report_prove.specs.Effects.{after_told};
-ghost use Rattle.og_report_prove.specs.Report.{told_text};
-ghost use Rattle.og_report_prove.specs.Together.{shown, keys_of, mores};
-ghost use Rattle.og_report_runs.specs.Report.{line_of, count_reached, explored_text, told_lines, report_text};
+ghost use Rattle.og_report_prove.specs.Effects.{after_diagnosis};
+ghost use Rattle.og_report_prove.specs.Report.{diagnosis_text};
+ghost use Rattle.og_report_prove.specs.Together.{shown, keys_of, repeats};
+ghost use Rattle.og_report_runs.specs.Report.{line_of, count_reached, explored_text, diagnosis_lines, report_text};
 
 use crate::lines::{Explored, put_run_line};
 use crate::witness::Run;
 use og_cond::Condition;
 use og_report_prove::{
-    Firsts, Page, Told, mores, put_number_line, put_told, put_totals, put_yes_line,
+    Diagnosis, Firsts, Page, put_diagnosis, put_number_line, put_totals, put_yes_line, repeats,
 };
 use og_report_text::{Origins, Places, Rows};
 use og_typed::Outline;
@@ -24,18 +24,18 @@ fn put_line(
     outline: &Outline,
     explored: Explored,
     more: Option<usize>,
-    told: &Told,
+    diagnosis: &Diagnosis,
     run: &Run,
 ) -> Result<(), AllocError>
     ensures { OnOk result (text.new.items ≡ text.old.items
-        ++ line_of outline.now explored (shown more told.now) run.now) }
+        ++ line_of outline.now explored (shown more diagnosis.now) run.now) }
 {
     let Some(_) = more else {
         return Ok(());
     };
-    match told {
-        Told::False(_) => put_run_line(text, outline, explored, run),
-        Told::Proved | Told::Open => Ok(()),
+    match diagnosis {
+        Diagnosis::False(_) => put_run_line(text, outline, explored, run),
+        Diagnosis::Proved | Diagnosis::Open => Ok(()),
     }
 }
 
@@ -49,18 +49,18 @@ fn put_one(
     number: u128,
     condition: &Condition,
     more: Option<usize>,
-    told: &Told,
+    diagnosis: &Diagnosis,
     run: &Run,
 ) -> Result<(), AllocError>
     requires places { page.origins.now.places.now ≡ page.origins.now.source.now }
     requires names { page.names.now ≡ outline.now.names }
     ensures text { OnOk result (text.new.items ≡ text.old.items
-        ++ (told_text outline.now.names page.entry.origins.now.source.now page.entry.origins.now.rows (λ t. number_of t firsts.old) number (seen condition.now) more told.now ++ line_of outline.now explored (shown more told.now) run.now)) }
+        ++ (diagnosis_text outline.now.names page.entry.origins.now.source.now page.entry.origins.now.rows (λ t. number_of t firsts.old) number (seen condition.now) more diagnosis.now ++ line_of outline.now explored (shown more diagnosis.now) run.now)) }
     ensures firsts { OnOk result ((t : List ℕ) → number_of t firsts.new
-        ≡ after_told outline.now.names page.entry.origins.now.source.now page.entry.origins.now.rows (shown more told.now) t number (number_of t firsts.old)) }
+        ≡ after_diagnosis outline.now.names page.entry.origins.now.source.now page.entry.origins.now.rows (shown more diagnosis.now) t number (number_of t firsts.old)) }
 {
-    put_told(text, firsts, page, number, condition, more, told)?;
-    put_line(text, outline, explored, more, told, run)
+    put_diagnosis(text, firsts, page, number, condition, more, diagnosis)?;
+    put_line(text, outline, explored, more, diagnosis, run)
 }
 
 // The report of each condition, numbered from 1.
@@ -70,18 +70,18 @@ fn put_all(
     page: Page,
     explored: Explored,
     conditions: &[Condition],
-    mores: &[Option<usize>],
-    told: &[Told],
+    repeats: &[Option<usize>],
+    diagnoses: &[Diagnosis],
     runs: &[Run],
 ) -> Result<(), AllocError>
     requires places { page.origins.now.places.now ≡ page.origins.now.source.now }
     requires names { page.names.now ≡ outline.now.names }
-    requires mores { length mores.now ≡ length conditions.now }
-    requires each { length told.now ≡ length conditions.now }
+    requires repeats { length repeats.now ≡ length conditions.now }
+    requires each { length diagnoses.now ≡ length conditions.now }
     requires run { length runs.now ≡ length conditions.now }
-    ensures { OnOk result (text.new.items ≡ text.old.items ++ told_lines outline.now explored
+    ensures { OnOk result (text.new.items ≡ text.old.items ++ diagnosis_lines outline.now explored
         page.entry.origins.now.source.now page.entry.origins.now.rows [] (map seen conditions.now)
-        mores.now told.now runs.now) }
+        repeats.now diagnoses.now runs.now) }
 {
     let mut firsts = Firsts::new(*text.allocator());
     for index in 0..conditions.len() {
@@ -94,8 +94,8 @@ fn put_all(
             explored,
             number,
             &conditions[index],
-            mores[index],
-            &told[index],
+            repeats[index],
+            &diagnoses[index],
             &runs[index],
         )?;
     }
@@ -143,15 +143,15 @@ pub fn report(
     rows: Option<&Rows>,
     explored: Explored,
     conditions: &[Condition],
-    told: &[Told],
+    diagnoses: &[Diagnosis],
     runs: &[Run],
 ) -> Result<Vec<u8>, AllocError>
     requires short { length source.now ≤ 2 ^ 20 }
-    requires each { length told.now ≡ length conditions.now }
+    requires each { length diagnoses.now ≡ length conditions.now }
     requires run { length runs.now ≡ length conditions.now }
-    requires few { length told.now < 2 ^ 32 }
+    requires few { length diagnoses.now < 2 ^ 32 }
     ensures { IfOk result (λ text. text.items ≡ report_text outline.now explored source.now
-        rows.entry (map seen conditions.now) told.now runs.now) }
+        rows.entry (map seen conditions.now) diagnoses.now runs.now) }
 {
     let places = Places::new(alloc, source)?;
     let origins = Origins {
@@ -159,16 +159,16 @@ pub fn report(
         places: &places,
         rows,
     };
-    let mores = mores(alloc, rows, conditions, told)?;
+    let repeats = repeats(alloc, rows, conditions, diagnoses)?;
     let mut text = Vec::new(alloc);
     let page = Page {
         names: outline.names(),
         origins: &origins,
     };
     put_all(
-        &mut text, outline, page, explored, conditions, &mores, told, runs,
+        &mut text, outline, page, explored, conditions, &repeats, diagnoses, runs,
     )?;
-    put_totals(&mut text, told)?;
+    put_totals(&mut text, diagnoses)?;
     put_explored(&mut text, explored, runs)?;
     Ok(text)
 }

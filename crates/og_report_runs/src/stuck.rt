@@ -5,7 +5,7 @@ ghost use Rattle.og_typed.specs.Plain.{formula};
 ghost use Rattle.og_typed.specs.Machine.{todo};
 ghost use Rattle.og_typed.specs.Seen.{statement_of};
 ghost use Rattle.og_report_text.specs.Assertions.{assertion_text};
-ghost use Rattle.og_report_runs.specs.Told.{next_test, IsNext, StandsAt, AreStandsAt};
+ghost use Rattle.og_report_runs.specs.RunDiagnosis.{next_test, IsNext, StandsAt, AreStandsAt};
 
 use crate::placing::number_of;
 use crate::standing::{is_at, is_before, read_alike};

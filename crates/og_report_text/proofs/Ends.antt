@@ -82,10 +82,10 @@ json_answers : (b : Bool) (ds : Items) (t : List ℕ) → EndsWithBrace ds → E
 unfolding serde_json_on_literals
 json_answers true ds t h p q = refl
 json_answers false ds t (inl none) p q =
-    let told = subst (λ (x : Items). EndsWith (members_text true (last_members false x)) t) none p in
+    let chosen_ones = subst (λ (x : Items). EndsWith (members_text true (last_members false x)) t) none p in
     absurd (omega (
       arith,
-      same_before 115 117 (codes "e,\"unproved\":[]}") t (ends_less (codes ",\"unblocked\":fal") (115 ∷ codes "e,\"unproved\":[]}") t told)
+      same_before 115 117 (codes "e,\"unproved\":[]}") t (ends_less (codes ",\"unblocked\":fal") (115 ∷ codes "e,\"unproved\":[]}") t chosen_ones)
           (ends_less (codes "\"unblocked\":tr") (117 ∷ codes "e,\"unproved\":[]}") t q),
     ))
 json_answers false ds t (inr more) p q =

@@ -44,10 +44,10 @@ module _ (names : List (List ℕ)) where
   nothing_text vars = if length vars == 0 then codes ".." else codes "nothing about " & names_text names [] vars
 
   -- of all conjuncts those that are printed for these variables
-  abbrev pub told_text : List ℕ → List Formula → List Formula → List ℕ
-  told_text vars all told =
-      if length told == 0 then nothing_text vars
-      else conjuncts_text [] told & (if nat_lt (length told) (length all) then codes " and .." else [])
+  abbrev pub chosen_text : List ℕ → List Formula → List Formula → List ℕ
+  chosen_text vars all chosen_ones =
+      if length chosen_ones == 0 then nothing_text vars
+      else conjuncts_text [] chosen_ones & (if nat_lt (length chosen_ones) (length all) then codes " and .." else [])
 
   -- of a conjunction the part about these variables, of any other assertion all
   abbrev pub known_text : List ℕ → Formula → List ℕ
@@ -57,6 +57,6 @@ module _ (names : List (List ℕ)) where
   known_text vars (Eq f) = assertion_text names (Eq f)
   known_text vars (Ne f) = assertion_text names (Ne f)
   known_text vars (Not a) = assertion_text names (Not a)
-  known_text vars (And all) = told_text vars (conjuncts_in all) (chosen vars (conjuncts_in all))
+  known_text vars (And all) = chosen_text vars (conjuncts_in all) (chosen vars (conjuncts_in all))
   known_text vars (Or all) = assertion_text names (Or all)
   known_text vars (Imp a b) = assertion_text names (Imp a b)

@@ -1,6 +1,7 @@
 pub mod Assertions
 pub mod Conjuncts
 pub mod Faults
+pub mod InputErrors
 pub mod Line
 pub mod Listing
 pub mod Origins
@@ -8,7 +9,8 @@ pub mod Places
 pub mod Quotes
 pub mod Relations
 pub mod Seen
-pub mod Told
+pub mod Subject
+pub mod Answers
 pub mod Values
 pub mod Numbers
 pub mod Yes

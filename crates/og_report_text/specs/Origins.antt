@@ -22,17 +22,17 @@ from_of None at = at
 from_of (Some row) at = row.from
 
 -- LINE:COLUMN, and behind it the values of an instance
-abbrev pub told_of : List ℕ → Option Row → ℕ → List ℕ
-told_of source None at = position_text (position_of source at)
-told_of source (Some row) at = position_text (position_of source row.from) & row.instance.items
+abbrev pub place_text_of : List ℕ → Option Row → ℕ → List ℕ
+place_text_of source None at = position_text (position_of source at)
+place_text_of source (Some row) at = position_text (position_of source row.from) & row.instance.items
 
-abbrev pub told_at : List ℕ → Rows → ℕ → List ℕ
-told_at source rows at = told_of source (row_at rows at) at
+abbrev pub place_text_at : List ℕ → Rows → ℕ → List ℕ
+place_text_at source rows at = place_text_of source (row_at rows at) at
 
 -- the place of an action, where there is one
-abbrev pub with_told : List ℕ → Rows → Option ℕ → List ℕ
-with_told source rows None = []
-with_told source rows (Some at) = codes " with " & told_at source rows at
+abbrev pub with_place_text : List ℕ → Rows → Option ℕ → List ℕ
+with_place_text source rows None = []
+with_place_text source rows (Some at) = codes " with " & place_text_at source rows at
 
 -- the text from there to the end of the line
 abbrev pub quoted_at : ℕ → List ℕ → Rows → ℕ → List ℕ

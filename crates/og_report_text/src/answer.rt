@@ -2,7 +2,7 @@
 
 ghost use Rattle.std.specs.Prelude.{◌≡◌, ◌≤◌, ◌^◌, length, IfOk, IsSome};
 ghost use Rattle.og_report_text.specs.Faults.{place_of_input};
-ghost use Rattle.og_report_text.specs.Told.{IsTold, IsUnread};
+ghost use Rattle.og_report_text.specs.Answers.{IsFaultAnswer, IsUnread};
 ghost use Rattle.og_typed.specs.Refused.{IsNotRead};
 
 use crate::fault::InputFault;
@@ -28,7 +28,7 @@ impl Answer {
     /// An allocation was refused.
     pub fn refused(alloc: Global, fault: &InputFault, source: &[u8]) -> Result<Answer, AllocError>
         requires { IsSome (place_of_input fault.now) → length source.now ≤ 2 ^ 20 }
-        ensures { IfOk result (IsTold source.now fault.now) }
+        ensures { IfOk result (IsFaultAnswer source.now fault.now) }
     {
         let text = refused_line(alloc, fault, source)?;
         Ok(Answer { text, status: 2 })

@@ -2,7 +2,7 @@
 
 ghost use Rattle.std.specs.Prelude.{◌≡◌, ◌++◌, [], codes, if◌then◌else◌, IfOk, OnOk};
 ghost use Rattle.og_typed.specs.Plain.{formula};
-ghost use Rattle.og_report_text.specs.Conjuncts.{conjuncts, speaks_of, chosen, conjuncts_text, nothing_text, known_text, told_text};
+ghost use Rattle.og_report_text.specs.Conjuncts.{conjuncts, speaks_of, chosen, conjuncts_text, nothing_text, known_text, chosen_text};
 ghost use Rattle.og_report_text.specs.Seen.{formulas_of};
 ghost use Rattle.og_report_text.specs.Values.{names_text};
 
@@ -106,21 +106,21 @@ fn put_more(text: &mut Vec<u8>, more: bool) -> Result<(), AllocError>
 }
 
 // The text of conjuncts, these of which are chosen.
-fn put_told(
+fn put_chosen(
     text: &mut Vec<u8>,
     names: &[Name],
     vars: &[u32],
     all: &[&Assert],
-    told: &[&Assert],
+    chosen_ones: &[&Assert],
 ) -> Result<(), AllocError>
     ensures { OnOk result (text.new.items ≡ text.old.items
-        ++ told_text names.now vars.now (formulas_of all.now) (formulas_of told.now)) }
+        ++ chosen_text names.now vars.now (formulas_of all.now) (formulas_of chosen_ones.now)) }
 {
-    if told.is_empty() {
+    if chosen_ones.is_empty() {
         return put_nothing(text, names, vars);
     }
-    put_conjuncts(text, names, told)?;
-    put_more(text, told.len() < all.len())
+    put_conjuncts(text, names, chosen_ones)?;
+    put_more(text, chosen_ones.len() < all.len())
 }
 
 /// Adds what an assertion says of these variables to the text: of a conjunction the conjuncts in
@@ -144,6 +144,6 @@ pub fn put_known(
     let alloc = *text.allocator();
     let mut all = Vec::new(alloc);
     add_conjuncts(&mut all, assert)?;
-    let told = chosen(alloc, vars, &all)?;
-    put_told(text, names, vars, &all, &told)
+    let chosen_ones = chosen(alloc, vars, &all)?;
+    put_chosen(text, names, vars, &all, &chosen_ones)
 }

@@ -1,5 +1,5 @@
 //! What reports share: places and numbers, the facts of conditions, quoted lines, assertions and
-//! values, the texts of refusals, and members, lists and bytes of JSON.
+//! values, outlines in their texts, the texts of refusals, and members, lists and bytes of JSON.
 //!
 //! specs/ defines each text, in a file named for it.
 #![tactic(auto)]
@@ -12,6 +12,7 @@ mod facts;
 mod fault;
 mod forms;
 mod heading;
+mod input_error;
 mod json_values;
 mod line;
 mod origins;
@@ -19,6 +20,7 @@ mod places;
 mod quotes;
 mod relations;
 mod row;
+mod subject;
 mod values;
 mod words;
 
@@ -29,6 +31,7 @@ pub use conjuncts::{add_conjuncts, put_conjuncts, put_known, speaks_of};
 pub use fault::InputFault;
 pub use forms::{put_constant, put_name, put_times};
 pub use heading::put_heading;
+pub use input_error::InputError;
 pub use json_values::{bytes_of, list_value, set_number, set_text};
 pub use line::{put_opening, refused_line};
 pub use origins::Origins;
@@ -36,5 +39,6 @@ pub use places::{Places, Position};
 pub use quotes::put_quote;
 pub use relations::{Relation, put_relation};
 pub use row::{Row, Rows};
+pub use subject::Subject;
 pub use values::{put_names, put_value, put_values};
 pub use words::{put_action_place, put_number, put_position};

@@ -1,7 +1,7 @@
 //! How the places of an outline are printed.
 
 ghost use Rattle.std.specs.Prelude.{◌≡◌, ◌++◌, None, OnOk, option_map};
-ghost use Rattle.og_report_text.specs.Origins.{row_at, told_at, with_told, quoted_at};
+ghost use Rattle.og_report_text.specs.Origins.{row_at, place_text_at, with_place_text, quoted_at};
 
 use crate::places::Places;
 use crate::quotes::put_quote;
@@ -51,7 +51,7 @@ impl<'a> Origins<'a> {
     pub fn put_place(&self, text: &mut Vec<u8>, at: u32) -> Result<(), AllocError>
         requires { self.now.places.now ≡ self.now.source.now }
         ensures { OnOk result (text.new.items ≡ text.old.items
-            ++ told_at self.now.source.now self.now.rows at) }
+            ++ place_text_at self.now.source.now self.now.rows at) }
     {
         match self.row(at) {
             None => put_position(text, self.places.position(at)),
@@ -70,7 +70,7 @@ impl<'a> Origins<'a> {
     pub fn put_action_place(&self, text: &mut Vec<u8>, at: Option<u32>) -> Result<(), AllocError>
         requires { self.now.places.now ≡ self.now.source.now }
         ensures { OnOk result (text.new.items ≡ text.old.items
-            ++ with_told self.now.source.now self.now.rows at) }
+            ++ with_place_text self.now.source.now self.now.rows at) }
     {
         let Some(at) = at else {
             return Ok(());

@@ -7,7 +7,7 @@ use Rattle.og_run.specs.Runs.{Given}
 use Rattle.og_run.specs.Histories.{process_count}
 use Rattle.og_run.specs.declared.rule.Listed.{Listed}
 use Rattle.og_run.specs.declared.rule.View.{View}
-use Rattle.og_run.specs.Cards.{Place, card, listed, keeper, gives, blank_cards, Lists, Handed, FirstSeats}
+use Rattle.og_run.specs.Cards.{Place, card, listed, keeper, gives, unstarted_cards, Lists, Handed, FirstSeats}
 use Rattle.og_run.proofs.Steps.{same_some, slice_get_set_same, slice_get_set_other}
 
 pub there_is : (xs : List Listed) (p : ℕ) → p < length xs → (x : Listed) × (slice_get xs p ≡ Some x)
@@ -20,9 +20,9 @@ all_same zero y q x e = absurd (cc)
 all_same (suc n) y zero x e = same_some y x e
 all_same (suc n) y (suc q) x e = all_same n y q x e
 
-pub handed_first : (given : Given) → Handed given 0 (keeper (blank_cards given))
+pub handed_first : (given : Given) → Handed given 0 (keeper (unstarted_cards given))
 handed_first given = (
-  blank_cards given,
+  unstarted_cards given,
   refl,
   length-replicate (process_count given.outline) (listed (card given [] false) false),
   λ q x e. let same = all_same (process_count given.outline) (listed (card given [] false) false) q x e in

@@ -9,7 +9,7 @@ use Rattle.og_run.specs.Runs.{Given}
 use Rattle.og_run.specs.declared.rule.Card.{Card}
 use Rattle.og_run.specs.declared.rule.Listed.{Listed}
 use Rattle.og_run.specs.declared.rule.View.{View}
-use Rattle.og_run.specs.Cards.{listed, keeper, holder, with_card, nobody, blank_cards, Fits, Kept, gives, Tells}
+use Rattle.og_run.specs.Cards.{listed, keeper, holder, with_card, nobody, unstarted_cards, Fits, Kept, gives, Confirms}
 
 pub off : false ≡ true → ⊥
 off e = true≢false (sym e)
@@ -65,8 +65,8 @@ alone_set views id w others apart by other v u e f hv hu same = ⊎_elim
     (at_set views id other w u f))
     (at_set views id by w v e)
 
-pub tells_keep : (given : Given) (slots id : ℕ) (me : Me (Unit {0}) View) → me.0.keeps ≡ true → me.0.holds ≡ true → Allows (Kept given) slots id me 0 (λ n. n) (Tells (step slots 0 0 0 none) me)
-tells_keep given slots id me keeps_all has s r wide at small =
+pub confirms_keep : (given : Given) (slots id : ℕ) (me : Me (Unit {0}) View) → me.0.keeps ≡ true → me.0.holds ≡ true → Allows (Kept given) slots id me 0 (λ n. n) (Confirms (step slots 0 0 0 none) me)
+confirms_keep given slots id me keeps_all has s r wide at small =
     let v : View = me.0 in
     let p : ℕ = v.process in
     let mine = r.fits id v at in
@@ -162,19 +162,19 @@ gives_keep given id v p c x keeps_all free is inside s r at =
           (at_end vs g a by e);
     }
 
-pub begins : (given : Given) → Kept given (opening (0 ∷ []) [] (keeper (blank_cards given)))
+pub begins : (given : Given) → Kept given (opening (0 ∷ []) [] (keeper (unstarted_cards given)))
 begins given = record {
   one_word = refl;
   seat = 0;
-  cards = blank_cards given;
+  cards = unstarted_cards given;
   fits = first;
   alone = λ by other v w e f hv hw _. absurd (none_held by v e hv);
 }
   where
-    first : (by : ℕ) (v : View) → At (keeper (blank_cards given) ∷ []) by v → Fits 0 (blank_cards given) by v
-    first zero v e = subst (Fits 0 (blank_cards given) 0) (some-injective _ _ e) ((λ _. (refl, refl)), (λ h. absurd (off h)))
+    first : (by : ℕ) (v : View) → At (keeper (unstarted_cards given) ∷ []) by v → Fits 0 (unstarted_cards given) by v
+    first zero v e = subst (Fits 0 (unstarted_cards given) 0) (some-injective _ _ e) ((λ _. (refl, refl)), (λ h. absurd (off h)))
     first (suc by) v e = absurd (some-ne-none v (sym e))
 
-    none_held : (by : ℕ) (v : View) → At (keeper (blank_cards given) ∷ []) by v → v.holds ≡ true → ⊥
+    none_held : (by : ℕ) (v : View) → At (keeper (unstarted_cards given) ∷ []) by v → v.holds ≡ true → ⊥
     none_held zero v e h = off (ap (λ (z : View). z.holds) (some-injective _ _ e) ∙ h)
     none_held (suc by) v e h = some-ne-none v (sym e)

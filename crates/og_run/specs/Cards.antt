@@ -61,8 +61,8 @@ abbrev pub nobody : View
 nobody = record { keeps = false; cards = []; holds = false; process = 0; card = no_card }
 
 -- at the start every card is empty and taken in
-abbrev pub blank_cards : Given → List Listed
-blank_cards g = replicate (process_count g.outline) (listed (card g [] false) false)
+abbrev pub unstarted_cards : Given → List Listed
+unstarted_cards g = replicate (process_count g.outline) (listed (card g [] false) false)
 
 abbrev pub Fits : ℕ → List Listed → ℕ → View → Type 0
 Fits seat cards by v = (v.keeps ≡ true → (by ≡ seat) × (v.cards ≡ cards)) × (v.holds ≡ true → slice_get cards v.process ≡ Some (listed v.card true))
@@ -80,8 +80,8 @@ abbrev pub gives : ℕ → Card → View → View
 gives p c v = record { keeps = v.keeps; cards = slice_set v.cards p (listed c true); holds = v.holds; process = v.process; card = v.card }
 
 -- the card that was taken in is the listed one, and is listed as in
-abbrev pub Tells : Step (Unit {0}) → Me (Unit {0}) View → ℕ → Me (Unit {0}) View → Type 0
-Tells st m found m' = (slice_get m.0.cards m.0.process ≡ Some (listed m.0.card true)) × (m' ≡ (keeper (slice_set m.0.cards m.0.process (listed m.0.card false)), m.1))
+abbrev pub Confirms : Step (Unit {0}) → Me (Unit {0}) View → ℕ → Me (Unit {0}) View → Type 0
+Confirms st m found m' = (slice_get m.0.cards m.0.process ≡ Some (listed m.0.card true)) × (m' ≡ (keeper (slice_set m.0.cards m.0.process (listed m.0.card false)), m.1))
 
 -- the card of p is of this given, and has heard a beginning of the history with all moves of p; where it heard of a halt, all of it
 abbrev pub CardFits : Given → List ℕ → Bool → ℕ → Card → Type 0

@@ -6,7 +6,7 @@ ghost use Rattle.og_run.specs.Cards.{Acts, CardFits, SeatsFor, keeper as keeper_
 ghost use Rattle.og_run.specs.declared.rule.Listed.{Listed};
 
 use crate::machine::Machine;
-use crate::rule::{ArenaName, CardName, Gives, OneCardEach, TakesIn, Tell, View};
+use crate::rule::{ArenaName, CardName, Confirm, Gives, OneCardEach, TakesIn, View};
 use crate::setting::Setting;
 use crate::turn::RunTurn;
 use atomic_table::{Seat as Token, Table};
@@ -71,13 +71,13 @@ impl<K: ArenaName> Seat<K> {
 /// What lies under the lock: the machine, and the arena's own seat, which lists each process's
 /// card.
 #[derive(Drop)]
-pub(crate) struct Desk<K: ArenaName, B: Machine> {
+pub(crate) struct Locked<K: ArenaName, B: Machine> {
     machine: B,
     keeper: Token<(), View>,
     name: PhantomData<K>,
 }
 
-impl<K: ArenaName, B: Machine> Model for Desk<K, B> {
+impl<K: ArenaName, B: Machine> Model for Locked<K, B> {
     ghost use Rattle.std.specs.Prelude.{◌≡◌, []};
     ghost use Rattle.og_run.specs.Cards.{Position, Lists};
 
@@ -109,7 +109,7 @@ fn take_in(tokens: &Tokens, keeper: &mut Token<(), View>, token: Token<(), View>
         )) }
 {
     tokens.shared.join_seat::<TakesIn>(keeper, token);
-    tokens.shared.load::<Tell>(keeper, 0);
+    tokens.shared.load::<Confirm>(keeper, 0);
 }
 
 // Lists a card of p, and hands it out. The card is one of this machine; it is named by C.
@@ -132,7 +132,7 @@ fn hand_out<C: CardName, B: Machine>(
     tokens.shared.split_seat::<Gives<C>>(keeper)
 }
 
-impl<K: ArenaName, B: Machine> Desk<K, B> {
+impl<K: ArenaName, B: Machine> Locked<K, B> {
     /// One act of the seat's process.
     fn act(&mut self, tokens: &Tokens, seat: &mut Seat<K>) -> RunTurn
         requires { tokens.now.shared.table_id ≡ K.table }
@@ -169,7 +169,7 @@ impl<K: ArenaName, B: Machine> Desk<K, B> {
         ensures { (B.given result ≡ self.given) × (B.history result ≡ self.history)
             × (B.halted result ≡ self.halted) }
     {
-        let Desk {
+        let Locked {
             machine,
             keeper: _,
             name: _,
@@ -180,15 +180,15 @@ impl<K: ArenaName, B: Machine> Desk<K, B> {
 
 /// The table of an arena that is not made yet: every card is empty and taken in.
 #[derive(Drop)]
-pub struct Blank {
+pub struct Unstarted {
     tokens: Tokens,
     keeper: Token<(), View>,
     given: Snapshot<Setting>,
 }
 
-impl Model for Blank {
+impl Model for Unstarted {
     ghost use Rattle.std.specs.Prelude.{◌≡◌, []};
-    ghost use Rattle.og_run.specs.Cards.{For, keeper as keeper_of, blank_cards};
+    ghost use Rattle.og_run.specs.Cards.{For, keeper as keeper_of, unstarted_cards};
 
     ghost Value = { For };
 
@@ -199,17 +199,17 @@ impl Model for Blank {
 
     ghost view = { λ b. record { table = b.tokens.shared.table_id; given = b.given.value } };
 
-    ghost invariant = { λ b. (b.keeper.table_id ≡ b.tokens.shared.table_id) × (b.tokens.shared.table_id.words ≡ 1) × (b.keeper.me ≡ (keeper_of (blank_cards b.given.value), [])) };
+    ghost invariant = { λ b. (b.keeper.table_id ≡ b.tokens.shared.table_id) × (b.tokens.shared.table_id.words ≡ 1) × (b.keeper.me ≡ (keeper_of (unstarted_cards b.given.value), [])) };
 }
 
-impl Blank {
+impl Unstarted {
     /// The table for the outline, the start and the limit of this machine.
-    pub fn new<B: Machine>(alloc: Global, machine: &B) -> Result<Blank, AllocError>
+    pub fn new<B: Machine>(alloc: Global, machine: &B) -> Result<Unstarted, AllocError>
         ensures { IfOk result (λ b. b.given ≡ B.given machine.now) }
     {
         let setting = machine.setting();
         let (tokens, keeper) = Table::of_words(alloc, &[0], setting)?;
-        Ok(Blank {
+        Ok(Unstarted {
             tokens,
             keeper,
             given: Snapshot::of(setting),
@@ -220,7 +220,7 @@ impl Blank {
 /// A machine under a lock, on which threads act by seats. K names its table.
 #[derive(Drop)]
 pub struct Arena<K: ArenaName, B: Machine> {
-    desk: Mutex<Desk<K, B>>,
+    locked: Mutex<Locked<K, B>>,
     changed: Condvar,
     tokens: Tokens,
     ghost named: { tokens.shared.table_id ≡ K.table },
@@ -244,34 +244,34 @@ fn first_seat<K: ArenaName>(process: u32, token: Token<(), View>) -> Seat<K>
 impl<K: ArenaName, B: Machine> Arena<K, B> {
     /// The arena of this machine, whose history is empty, and one seat for each process in the
     /// order of their numbers. Nothing is heard yet, and no halt is known. The table is the one of
-    /// the blank, which K names and which was made for this machine.
+    /// `unstarted`, which K names and which was made for this machine.
     pub fn new(
         alloc: Global,
-        blank: Blank,
+        unstarted: Unstarted,
         machine: B,
     ) -> Result<(Arena<K, B>, Vec<Seat<K>>), AllocError>
-        requires name { blank.table ≡ K.table }
-        requires given { blank.given ≡ B.given machine }
+        requires name { unstarted.table ≡ K.table }
+        requires given { unstarted.given ≡ B.given machine }
         requires empty { B.history machine ≡ [] }
         ensures { IfOk result (λ r. SeatsFor (B.given machine) r.1.items) }
     {
-        let Blank {
+        let Unstarted {
             tokens,
             mut keeper,
             given: _,
-        } = blank;
+        } = unstarted;
         let mut seats = Vec::new(alloc);
         for p in 0..machine.processes() {
             let token = hand_out::<Brand, B>(&tokens, &mut keeper, &machine, p);
             seats.push(first_seat(p, token))?;
         }
-        let desk = Mutex::new(Desk {
+        let locked = Mutex::new(Locked {
             machine,
             keeper,
             name: PhantomData,
         });
         let arena = Arena {
-            desk,
+            locked,
             changed: Condvar::new(),
             tokens,
         };
@@ -288,32 +288,32 @@ impl<K: ArenaName, B: Machine> Arena<K, B> {
         ensures process { seat.new.process ≡ seat.old.process }
         ensures act { Acts seat.old.process seat.old.card result seat.new.card }
     {
-        let turn = self.desk.lock(rt).act(&self.tokens, seat);
+        let turn = self.locked.lock(rt).act(&self.tokens, seat);
         if !matches!(turn, RunTurn::Waits | RunTurn::Early) {
             self.changed.notify_all();
         }
         turn
     }
 
-    pub(crate) fn into_desk(self) -> (Desk<K, B>, Tokens)
+    pub(crate) fn into_locked(self) -> (Locked<K, B>, Tokens)
         ensures { result.1.shared.table_id ≡ K.table }
     {
         let Arena {
-            desk,
+            locked,
             changed: _,
             tokens,
         } = self;
-        (desk.into_inner(), tokens)
+        (locked.into_inner(), tokens)
     }
 
     /// Waits until the history is longer than the seat has seen, or nothing can move any more.
     /// Takes no memory.
     pub fn wait_change<R: Wait>(&self, rt: &R, seat: &Seat<K>) {
         let seen = seat.seen;
-        let _desk = self.changed.wait_while(
+        let _locked = self.changed.wait_while(
             rt,
-            self.desk.lock(rt),
-            |desk| desk.machine.steps() == seen && !desk.machine.is_over(),
+            self.locked.lock(rt),
+            |locked| locked.machine.steps() == seen && !locked.machine.is_over(),
         );
     }
 }

@@ -14,7 +14,7 @@ mod setting;
 mod threads;
 mod turn;
 
-pub use arena::{Arena, Blank, Seat};
+pub use arena::{Arena, Seat, Unstarted};
 pub use board::Board;
 pub use fault::{RunError, RunFault};
 pub use machine::Machine;

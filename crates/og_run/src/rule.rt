@@ -1,11 +1,11 @@
-//! The rule of the seats, and its kinds of step: make, split, join and tell.
+//! The rule of the seats, and its kinds of step: make, split, join and confirm.
 
 use crate::setting::Setting;
 use atomic_table::{Join, Play, Split, TableRule};
 use std::collections::LinkedList;
 use std::marker::{Brand, PhantomData};
 
-/// Names the table of an arena. Code that uses an arena is generic over it, takes the `Blank` as an
+/// Names the table of an arena. Code that uses an arena is generic over it, takes an `Unstarted` as an
 /// argument, and is called with `Brand`.
 pub trait ArenaName {
     ghost use Rattle.atomic_table.specs.Seated.{TableId};
@@ -45,11 +45,11 @@ pub struct View {
 pub struct OneCardEach;
 
 impl TableRule<(), View, Setting> for OneCardEach {
-    ghost use Rattle.og_run.specs.Cards.{Kept, keeper, blank_cards};
+    ghost use Rattle.og_run.specs.Cards.{Kept, keeper, unstarted_cards};
 
     ghost holds = { Kept };
 
-    ghost first = { λ g. keeper (blank_cards g) };
+    ghost first = { λ g. keeper (unstarted_cards g) };
 }
 
 /// Names a process and the card that it is given.
@@ -94,11 +94,11 @@ impl Join<View> for TakesIn {
     ghost spent = { nobody };
 }
 
-/// Tells that the card that was taken in is the listed one.
-pub struct Tell;
+/// Confirms that the card that was taken in is the listed one.
+pub struct Confirm;
 
-impl Play<(), View> for Tell {
-    ghost use Rattle.og_run.specs.Cards.{Tells};
+impl Play<(), View> for Confirm {
+    ghost use Rattle.og_run.specs.Cards.{Confirms};
 
-    ghost then = { Tells };
+    ghost then = { Confirms };
 }

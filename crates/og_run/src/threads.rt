@@ -5,7 +5,7 @@ ghost use Rattle.og_run.specs.Histories.{IsRun, process_count};
 ghost use Rattle.og_run.specs.Cards.{CardFits, Place};
 ghost use Rattle.og_run.specs.Over.{OverAt};
 
-use crate::arena::{Arena, Blank, Seat};
+use crate::arena::{Arena, Seat, Unstarted};
 use crate::machine::Machine;
 use crate::rule::ArenaName;
 use crate::turn::RunTurn;
@@ -120,11 +120,11 @@ fn settle<K: ArenaName, B: Machine>(arena: Arena<K, B>, mut seats: Vec<Seat<K>>)
     ensures { (k : ℕ) (s : Place) → slice_get seats.items k ≡ Some s
         → CardFits (B.given result) (B.history result) (B.halted result) s.process s.card }
 {
-    let (mut desk, tokens) = arena.into_desk();
+    let (mut locked, tokens) = arena.into_locked();
     while let Some(seat) = seats.pop() {
-        desk.take(&tokens, seat);
+        locked.take(&tokens, seat);
     }
-    desk.into_machine()
+    locked.into_machine()
 }
 
 /// Runs each process of the board in a thread of its own, until nothing more can happen. Its table
@@ -134,9 +134,16 @@ pub(crate) fn run_named<
     B: Machine + Send,
     G: Gate,
     R: Threads + Wait + Sync,
->(rt: &R, alloc: Global, blank: Blank, machine: B, main: u32, gate: &G) -> Result<B, ThreadFault>
-    requires name { blank.table ≡ K.table }
-    requires given { blank.given ≡ B.given machine }
+>(
+    rt: &R,
+    alloc: Global,
+    unstarted: Unstarted,
+    machine: B,
+    main: u32,
+    gate: &G,
+) -> Result<B, ThreadFault>
+    requires name { unstarted.table ≡ K.table }
+    requires given { unstarted.given ≡ B.given machine }
     requires empty { (B.history machine ≡ []) × (B.halted machine ≡ false) }
     requires some { 0 < process_count (B.given machine).outline }
     ensures same { IfOk result (λ m. B.given m ≡ B.given machine) }
@@ -144,7 +151,7 @@ pub(crate) fn run_named<
     ensures over { IfOk result (λ m. (p : ℕ) → p < process_count (B.given m).outline
         → OverAt (B.given m) (B.history m) (B.halted m) p) }
 {
-    let (arena, seats) = Arena::<K, B>::new(alloc, blank, machine)?;
+    let (arena, seats) = Arena::<K, B>::new(alloc, unstarted, machine)?;
     let start = Start::new(seats.len());
     let run = Run {
         arena: &arena,
@@ -173,6 +180,6 @@ pub(crate) fn run_board<B: Machine + Send, G: Gate, R: Threads + Wait + Sync>(
     ensures over { IfOk result (λ m. (p : ℕ) → p < process_count (B.given m).outline
         → OverAt (B.given m) (B.history m) (B.halted m) p) }
 {
-    let blank = Blank::new(alloc, &machine)?;
-    run_named::<Brand, B, G, R>(rt, alloc, blank, machine, main, gate)
+    let unstarted = Unstarted::new(alloc, &machine)?;
+    run_named::<Brand, B, G, R>(rt, alloc, unstarted, machine, main, gate)
 }

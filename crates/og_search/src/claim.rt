@@ -30,7 +30,7 @@ pub struct Ground {
     bounds: Bounds,
 }
 
-/// What the inequalities of a condition tell by themselves.
+/// What the inequalities of a condition say by themselves.
 #[derive(Drop)]
 pub enum Start {
     /// This.

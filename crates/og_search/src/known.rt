@@ -83,7 +83,7 @@ impl KnownRows {
         }
     }
 
-    /// Takes in the inequalities of a part that are not known. Tells how many.
+    /// Takes in the inequalities of a part that are not known. Returns how many.
     pub(crate) fn take_atoms(
         &mut self,
         part: &Part,

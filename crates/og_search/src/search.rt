@@ -5,13 +5,15 @@ use crate::rests::Rests;
 use crate::steps::{Decision, Entry, Parts};
 use crate::stop::{Halt, Stop};
 use og_search_choices::{
-    Against, Chains, Choice, Clash, Common, Denials, Facts, News, Open, Part, Reach, View,
+    Cause, Chains, Choice, Common, Conflict, Denials, Facts, News, Open, Part, Reach, View,
     common_to_choice, failing, forced, forced_among, refuted_by, untaken, weight,
 };
 use og_search_elimination::{Gap, Outcome, Problem, Ranges, eliminate, narrow};
-use og_search_pigeons::{Crowd, look, weight_of_pairs};
-use og_search_queues::{Queue, Sight, look as look_for_queue};
-use og_search_refutation::{Cases, Lifted, Placed, Proof, both_sides, denial, leaf, refute_clash};
+use og_search_pigeons::{Pigeons, look, weight_of_pairs};
+use og_search_queues::{Detection, Queue, look as look_for_queue};
+use og_search_refutation::{
+    Cases, Lifted, Placed, Proof, both_sides, denial, leaf, refute_conflict,
+};
 use og_search_rows::{Bounds, Inequality, Model, Place, TOP, Term, Variables};
 use std::alloc::{AllocError, Global};
 
@@ -29,7 +31,7 @@ const LIFT_LEVEL: u32 = 130;
 
 /// The lowest level at which numbers are looked for that are all different and have too few values,
 /// so that levels are left to refute them.
-const CROWD_LEVEL: u32 = 100;
+const PIGEONS_LEVEL: u32 = 100;
 
 /// The most facts of a part that is held against the choices of the condition.
 const DENIAL_LIMIT: usize = 64;
@@ -179,7 +181,7 @@ impl<'a> Search<'a> {
         self.marks.walk(choice.mark).step().is_some()
     }
 
-    // Takes in the choices of a part that are not on the path. Tells how many.
+    // Takes in the choices of a part that are not on the path. Returns how many.
     fn take_choices(&mut self, part: &'a Part, level: u32) -> Result<usize, AllocError> {
         let mut taken = 0usize;
         for (number, choice) in part.choices.iter().enumerate() {
@@ -328,8 +330,8 @@ impl<'a> Search<'a> {
 
     // Numbers that are all different and have too few values, if there are some, to be refuted
     // below this level. Takes a step for each 1,000 facts that are looked through.
-    fn crowd(&mut self, level: u32, bounds: &Bounds) -> Result<Option<Crowd>, Stop> {
-        if level < CROWD_LEVEL {
+    fn pigeons(&mut self, level: u32, bounds: &Bounds) -> Result<Option<Pigeons>, Stop> {
+        if level < PIGEONS_LEVEL {
             return Ok(None);
         }
         self.known
@@ -340,10 +342,10 @@ impl<'a> Search<'a> {
 
     // A queue that leaves no place free, if there is one, to be refuted below this level. Takes a
     // step for each 10,000 looks at a fact on the path.
-    fn queue(&mut self, level: u32, bounds: &Bounds) -> Result<Sight, Stop> {
+    fn queue(&mut self, level: u32, bounds: &Bounds) -> Result<Detection, Stop> {
         let seen = look_for_queue(self.alloc, self.view(bounds), level)?;
         self.known.rows.spend((seen.looks / 10_000) as u64)?;
-        Ok(seen.sight)
+        Ok(seen.detection)
     }
 
     // An inequality that all parts of one of these choices imply, and that is false of the values.
@@ -358,7 +360,7 @@ impl<'a> Search<'a> {
         if failing.is_empty() {
             return Err(Stop::Model);
         }
-        match self.decide_on_sight(level, bounds)? {
+        match self.decide_by_queue(level, bounds)? {
             Some(decision) => Ok(decision),
             None => self.decide_among(&failing, bounds),
         }
@@ -434,15 +436,15 @@ impl<'a> Search<'a> {
         None
     }
 
-    // To refute a crowd or a queue, if one is seen.
-    fn decide_on_sight(&mut self, level: u32, bounds: &Bounds) -> Result<Option<Decision>, Stop> {
-        if let Some(crowd) = self.crowd(level, bounds)? {
-            return Ok(Some(Decision::Refute(crowd)));
+    // To refute pigeons or a queue, if one is seen.
+    fn decide_by_queue(&mut self, level: u32, bounds: &Bounds) -> Result<Option<Decision>, Stop> {
+        if let Some(pigeons) = self.pigeons(level, bounds)? {
+            return Ok(Some(Decision::Refute(pigeons)));
         }
         Ok(match self.queue(level, bounds)? {
-            Sight::Queue(queue) => Some(Decision::Queue(queue)),
-            Sight::Bound(form) => Some(Decision::Branch { form, next: None }),
-            Sight::Nothing => None,
+            Detection::Queue(queue) => Some(Decision::Queue(queue)),
+            Detection::Bound(form) => Some(Decision::Branch { form, next: None }),
+            Detection::Nothing => None,
         })
     }
 
@@ -461,7 +463,7 @@ impl<'a> Search<'a> {
         Ok(Decision::Split(choice.ok_or(Stop::Stuck)?))
     }
 
-    // Marks the choice as taken or not. Tells it, if it is there.
+    // Marks the choice as taken or not. Returns it, if it is there.
     fn set_taken(&mut self, i: usize, is_taken: bool) -> Option<Open<'a>> {
         let open = self.open.get_mut(i)?;
         open.is_taken = is_taken;
@@ -501,20 +503,20 @@ impl<'a> Search<'a> {
         }
     }
 
-    // The leaf of a part with a clash, if its sum is a contradiction.
-    fn close_clash(
+    // The leaf of a part with a conflict, if its sum is a contradiction.
+    fn close_conflict(
         &mut self,
-        clash: Clash,
+        conflict: Conflict,
         level: u32,
         bounds: &Bounds,
     ) -> Result<Option<Proof>, Stop> {
-        let index = clash.atom.index;
+        let index = conflict.atom.index;
         let place = Place { level, index };
-        let Some(proof) = refute_clash(&mut self.known.rows, bounds, clash, place)? else {
+        let Some(proof) = refute_conflict(&mut self.known.rows, bounds, conflict, place)? else {
             return Ok(None);
         };
         self.known.rows.spend(1)?;
-        if let Against::Fact(index) = clash.against {
+        if let Cause::Fact(index) = conflict.cause {
             self.go_near(index, bounds);
         }
         Ok(Some(self.keep(proof)?))
@@ -529,11 +531,11 @@ impl<'a> Search<'a> {
         bounds: &Bounds,
         reach: Reach,
     ) -> Result<Option<Proof>, Stop> {
-        if let Some(clash) = self.facts(bounds).clash(part, reach) {
+        if let Some(conflict) = self.facts(bounds).conflict(part, reach) {
             self.known
                 .rows
                 .spend((part.count as u64 / 16).saturating_add(1))?;
-            return self.close_clash(clash, level, bounds);
+            return self.close_conflict(conflict, level, bounds);
         }
         for choice in &part.choices {
             if self.facts(bounds).are_shut(&choice.parts, reach) {
@@ -660,7 +662,7 @@ impl<'a> Search<'a> {
         match decision {
             Decision::Split(i) => self.split_at(below, i, bounds),
             Decision::Branch { form, next } => self.branch(below, form, next, bounds),
-            Decision::Refute(crowd) => self.refute_crowd(&crowd, bounds),
+            Decision::Refute(pigeons) => self.refute_pigeons(&pigeons, bounds),
             Decision::Queue(queue) => self.refute_queue(&queue, bounds),
         }
     }
@@ -672,8 +674,8 @@ impl<'a> Search<'a> {
     }
 
     // Refutes numbers that are all different and have too few values.
-    fn refute_crowd(&mut self, crowd: &Crowd, bounds: &Bounds) -> Result<Proof, Stop> {
-        let proof = crowd.refute(&mut self.known.rows, &self.open, bounds, &mut self.room)?;
+    fn refute_pigeons(&mut self, pigeons: &Pigeons, bounds: &Bounds) -> Result<Proof, Stop> {
+        let proof = pigeons.refute(&mut self.known.rows, &self.open, bounds, &mut self.room)?;
         Ok(proof)
     }
 

@@ -1,7 +1,7 @@
 //! With what a level of a search begins, and how it goes on.
 
 use og_search_choices::Part;
-use og_search_pigeons::Crowd;
+use og_search_pigeons::Pigeons;
 use og_search_queues::Queue;
 use og_search_refutation::{Lifted, Proof};
 use og_search_rows::Inequality;
@@ -26,7 +26,7 @@ pub(crate) enum Decision {
         next: Option<usize>,
     },
     /// It refutes these numbers.
-    Refute(Crowd),
+    Refute(Pigeons),
     /// It refutes this queue.
     Queue(Queue),
 }

@@ -1,10 +1,10 @@
 //! The facts of a search, its rows by their terms, and its open choices.
 //!
-//! No contract promises anything of them: they tell a search what to look at.
+//! No contract promises anything of them: they guide a search.
 #![tactic(auto)]
 
 mod chains;
-mod clash;
+mod conflict;
 mod denial;
 mod index;
 mod likeness;
@@ -12,7 +12,7 @@ mod open;
 mod part;
 
 pub use chains::Chains;
-pub use clash::{Against, Clash, Facts, Reach};
+pub use conflict::{Cause, Conflict, Facts, Reach};
 pub use denial::{Denials, denied_choice, is_denied, refuted_by};
 pub use index::Index;
 pub use likeness::mark_of_atom;

@@ -60,7 +60,7 @@ fn is_as_tight(rows: &Rows, row: usize, other: usize) -> bool {
 }
 
 // Adds the sum of two opposite rows if that is above 0.
-fn add_clash(rows: &mut Rows, row: usize, other: usize) -> Result<(), AddError>
+fn add_opposite(rows: &mut Rows, row: usize, other: usize) -> Result<(), AddError>
     ensures extends { Extends rows.old.rows rows.new.rows }
     ensures contradiction { IfErr result (ShowsContradiction rows.new.rows) }
 {
@@ -134,7 +134,7 @@ impl Working {
             return Ok(());
         }
         if let Some(other) = alike.opposite {
-            add_clash(rows, row, other)?;
+            add_opposite(rows, row, other)?;
         }
         match alike.parallel {
             Some(one) => self.replace(one.place, row),

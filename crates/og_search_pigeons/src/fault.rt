@@ -1,10 +1,10 @@
-//! Why a crowd is not refuted.
+//! Why pigeons are not refuted.
 
 use og_search_refutation::Unshown;
 use og_search_rows::RowError;
 use std::alloc::{AllocError, AllocFailed};
 
-/// Why a crowd is not refuted.
+/// Why pigeons are not refuted.
 #[derive(Clone, Copy)]
 pub enum Unrefuted {
     /// An allocation was refused.

@@ -4,18 +4,18 @@
 //! it out.
 #![tactic(auto)]
 
-mod crowd;
 mod fault;
 mod leaves;
 mod looking;
 mod making;
 mod numbers;
 mod pairs;
+mod pigeons;
 mod refuter;
 
-pub use crowd::{Crowd, Member, Order};
 pub use fault::Unrefuted;
 pub use leaves::{Leaves, once};
 pub use looking::look;
 pub use making::{Known, beyond};
 pub use pairs::{PARTS_LIMIT, hidden, orders, weight_of_pairs};
+pub use pigeons::{Member, Order, Pigeons};

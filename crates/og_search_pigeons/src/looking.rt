@@ -1,13 +1,13 @@
-//! The facts that make up a crowd, those that are on the path and those that it lacks.
+//! The facts that make numbers pigeons: those on the path, and those that it lacks.
 
-use crate::crowd::{Crowd, Lack, Member, Order};
-use crate::numbers::{Crowded, smallest_crowd};
+use crate::numbers::{Excess, smallest_excess};
 use crate::pairs::{Pair, pairs};
+use crate::pigeons::{Lemma, Member, Order, Pigeons};
 use og_search_choices::View;
 use og_search_rows::{Inequality, Limit, Origin, Place, Side};
 use std::alloc::{AllocError, Global};
 
-/// The fewest pairs of a crowd.
+/// The fewest pairs of different numbers that are looked at.
 const FEWEST: usize = 6;
 
 /// A variable, and the facts that say that it is not below the least value and not above the
@@ -33,23 +33,23 @@ fn pair_of(pairs: &[Pair], var: u32, other: u32) -> Option<Pair> {
 
 impl Bounded {
     // Notes that a fact at this place says this of the variable, if none does yet.
-    fn note(&mut self, limit: Limit, place: Place, crowd: &Crowded) {
+    fn note(&mut self, limit: Limit, place: Place, pigeons: &Excess) {
         match limit.side {
-            Side::Lower if limit.value >= crowd.least => self.least = self.least.or(Some(place)),
-            Side::Upper if limit.value <= crowd.most => self.most = self.most.or(Some(place)),
+            Side::Lower if limit.value >= pigeons.least => self.least = self.least.or(Some(place)),
+            Side::Upper if limit.value <= pigeons.most => self.most = self.most.or(Some(place)),
             _ => {}
         }
     }
 
     // The fact on this side, which is made if there is none.
-    fn fact(&self, side: Side, crowd: &mut Crowd) -> Result<Option<Place>, AllocError> {
+    fn fact(&self, side: Side, pigeons: &mut Pigeons) -> Result<Option<Place>, AllocError> {
         let known = match side {
             Side::Lower => self.least,
             Side::Upper => self.most,
         };
         match known {
             Some(place) => Ok(Some(place)),
-            None => crowd.lack(Lack::Bound {
+            None => pigeons.lemma(Lemma::Bound {
                 var: self.var,
                 side,
             }),
@@ -57,9 +57,9 @@ impl Bounded {
     }
 
     // The number with its facts.
-    fn member(&self, crowd: &mut Crowd) -> Result<Option<Member>, AllocError> {
-        let least = self.fact(Side::Lower, crowd)?;
-        let most = self.fact(Side::Upper, crowd)?;
+    fn member(&self, pigeons: &mut Pigeons) -> Result<Option<Member>, AllocError> {
+        let least = self.fact(Side::Lower, pigeons)?;
+        let most = self.fact(Side::Upper, pigeons)?;
         let var = self.var;
         match (least, most) {
             (Some(least), Some(most)) => Ok(Some(Member { var, least, most })),
@@ -69,7 +69,7 @@ impl Bounded {
 }
 
 // Notes a fact at this place, if it is about one of the variables.
-fn note_fact(bounded: &mut [Bounded], form: &Inequality, place: Place, crowd: &Crowded) {
+fn note_fact(bounded: &mut [Bounded], form: &Inequality, place: Place, pigeons: &Excess) {
     let Some(only) = form.terms.first().copied() else {
         return;
     };
@@ -80,14 +80,14 @@ fn note_fact(bounded: &mut [Bounded], form: &Inequality, place: Place, crowd: &C
         return;
     };
     if let Some(own) = bounded.iter_mut().find(|one| one.var == only.var) {
-        own.note(limit, place, crowd);
+        own.note(limit, place, pigeons);
     }
 }
 
-// The variables of a crowd, with the first facts on the path that bound them.
-fn with_facts(alloc: Global, view: View, crowd: &Crowded) -> Result<Vec<Bounded>, AllocError> {
-    let mut bounded = Vec::with_capacity(alloc, crowd.variables.len())?;
-    for var in &crowd.variables {
+// The variables of the pigeons, with the first facts on the path that bound them.
+fn with_facts(alloc: Global, view: View, pigeons: &Excess) -> Result<Vec<Bounded>, AllocError> {
+    let mut bounded = Vec::with_capacity(alloc, pigeons.variables.len())?;
+    for var in &pigeons.variables {
         bounded.push(Bounded {
             var: *var,
             least: None,
@@ -96,17 +96,17 @@ fn with_facts(alloc: Global, view: View, crowd: &Crowded) -> Result<Vec<Bounded>
     }
     for row in view.base {
         if let Some(Origin::Given(place)) = view.rows.origin(*row) {
-            note_fact(&mut bounded, view.rows.form(*row), *place, crowd);
+            note_fact(&mut bounded, view.rows.form(*row), *place, pigeons);
         }
     }
     Ok(bounded)
 }
 
 // The place of the choice of the two orders, which is made if it is hidden.
-fn place_of(view: View, pair: Pair, crowd: &mut Crowd) -> Result<Option<Place>, AllocError> {
+fn place_of(view: View, pair: Pair, pigeons: &mut Pigeons) -> Result<Option<Place>, AllocError> {
     let choice = pair.choice;
     match (pair.left, view.open.get(choice)) {
-        (Some(part), _) => crowd.lack(Lack::Order { choice, part }),
+        (Some(part), _) => pigeons.lemma(Lemma::Order { choice, part }),
         (None, Some(open)) => Ok(Some(open.place)),
         (None, None) => Ok(None),
     }
@@ -116,14 +116,14 @@ fn place_of(view: View, pair: Pair, crowd: &mut Crowd) -> Result<Option<Place>, 
 fn order_of(
     view: View,
     pairs: &[Pair],
-    crowd: &mut Crowd,
+    pigeons: &mut Pigeons,
     var: u32,
     other: u32,
 ) -> Result<Option<Order>, AllocError> {
     let Some(pair) = pair_of(pairs, var, other) else {
         return Ok(None);
     };
-    let Some(choice) = place_of(view, pair, crowd)? else {
+    let Some(choice) = place_of(view, pair, pigeons)? else {
         return Ok(None);
     };
     let is_less_first = pair.first == var;
@@ -133,18 +133,18 @@ fn order_of(
     }))
 }
 
-// The choices that say that a variable differs from each number of the crowd.
+// The choices that say that a variable differs from each of the pigeons.
 fn orders_with(
     alloc: Global,
     view: View,
     pairs: &[Pair],
-    crowd: &mut Crowd,
+    pigeons: &mut Pigeons,
     var: u32,
 ) -> Result<Option<Vec<Order>>, AllocError> {
-    let others = crowd.copied_members()?;
+    let others = pigeons.copied_members()?;
     let mut orders = Vec::with_capacity(alloc, others.len())?;
     for other in &others {
-        match order_of(view, pairs, crowd, var, other.var)? {
+        match order_of(view, pairs, pigeons, var, other.var)? {
             Some(order) => orders.push(order)?,
             None => return Ok(None),
         }
@@ -157,34 +157,34 @@ fn gathered(
     alloc: Global,
     view: View,
     pairs: &[Pair],
-    crowded: &Crowded,
+    excess: &Excess,
     level: u32,
-) -> Result<Option<Crowd>, AllocError> {
-    let mut crowd = Crowd::new(alloc, level, crowded.least, crowded.most);
-    for one in &with_facts(alloc, view, crowded)? {
-        let orders = orders_with(alloc, view, pairs, &mut crowd, one.var)?;
-        match (one.member(&mut crowd)?, orders) {
-            (Some(member), Some(orders)) => crowd.add(member, orders)?,
+) -> Result<Option<Pigeons>, AllocError> {
+    let mut pigeons = Pigeons::new(alloc, level, excess.least, excess.most);
+    for one in &with_facts(alloc, view, excess)? {
+        let orders = orders_with(alloc, view, pairs, &mut pigeons, one.var)?;
+        match (one.member(&mut pigeons)?, orders) {
+            (Some(member), Some(orders)) => pigeons.add(member, orders)?,
             _ => return Ok(None),
         }
     }
-    Ok(Some(crowd))
+    Ok(Some(pigeons))
 }
 
-/// The smallest crowd, to be refuted below this level: numbers that are all different, by open
-/// choices, and one more than they have values within the bounds. None where there is no crowd of 4
-/// to 10 numbers, or there are too few levels.
+/// The smallest set of pigeons, to be refuted below this level: numbers that are all different, by
+/// open choices, and one more than they have values within the bounds. None where there are no 4 to
+/// 10 of them, or there are too few levels.
 ///
 /// # Errors
 ///
 /// `AllocError` where an allocation was refused.
-pub fn look(alloc: Global, view: View, level: u32) -> Result<Option<Crowd>, AllocError> {
+pub fn look(alloc: Global, view: View, level: u32) -> Result<Option<Pigeons>, AllocError> {
     let pairs = pairs(alloc, view.open, view.bounds)?;
     if pairs.len() < FEWEST {
         return Ok(None);
     }
-    match smallest_crowd(alloc, &pairs, view.bounds)? {
-        Some(crowded) => gathered(alloc, view, &pairs, &crowded, level),
+    match smallest_excess(alloc, &pairs, view.bounds)? {
+        Some(excess) => gathered(alloc, view, &pairs, &excess, level),
         None => Ok(None),
     }
 }

@@ -1,10 +1,10 @@
-//! The facts that a crowd lacks: what refutes the other parts of a choice, or the other side of a
+//! The facts that the path lacks: what refutes the other parts of a choice, or the other side of a
 //! bound.
 
-use crate::crowd::{Crowd, Lack};
 use crate::fault::Unrefuted;
-use og_search_choices::{Against, Atom, Clash, Open, Part};
-use og_search_refutation::{Cases, Proof, both_sides, refute_clash};
+use crate::pigeons::{Lemma, Pigeons};
+use og_search_choices::{Atom, Cause, Conflict, Open, Part};
+use og_search_refutation::{Cases, Proof, both_sides, refute_conflict};
 use og_search_rows::{Bounds, Inequality, Place, Rows, Side, Term};
 use std::alloc::Global;
 
@@ -30,9 +30,9 @@ impl Known<'_, '_> {
     // What refutes an inequality at this level that is false within the bounds.
     fn beyond(&mut self, atom: &Atom, level: u32) -> Result<Option<Proof>, Unrefuted> {
         let index = atom.index;
-        let against = Against::Bounds;
-        let clash = Clash { atom, against };
-        Ok(refute_clash(self.rows, self.bounds, clash, Place { level, index })?)
+        let cause = Cause::Bounds;
+        let conflict = Conflict { atom, cause };
+        Ok(refute_conflict(self.rows, self.bounds, conflict, Place { level, index })?)
     }
 
     // The refutation of an open choice, where this is the one of the part that is left.
@@ -94,22 +94,22 @@ pub fn beyond(alloc: Global, var: u32, side: Side, value: i128) -> Result<Inequa
     Ok(Inequality::single(alloc, Term { var, coefficient }, constant)?)
 }
 
-impl Crowd {
+impl Pigeons {
     // The refutation above a fact that is made at this level, where this is the one below it.
     fn above(
         &self,
-        lack: Lack,
+        lemma: Lemma,
         level: u32,
         proof: Proof,
         known: &mut Known,
     ) -> Result<Proof, Unrefuted> {
         known.rows.spend(1)?;
-        match lack {
-            Lack::Order { choice, part } => {
+        match lemma {
+            Lemma::Order { choice, part } => {
                 let choice = known.open.get(choice).copied().ok_or(Unrefuted::Levels)?;
                 known.with_order(choice, part, level, proof)
             }
-            Lack::Bound { var, side } => {
+            Lemma::Bound { var, side } => {
                 let value = match side {
                     Side::Lower => self.least(),
                     Side::Upper => self.most(),
@@ -124,9 +124,9 @@ impl Crowd {
     /// step of the budget of the rows, and what its own sums cost.
     pub(crate) fn above_all(&self, proof: Proof, known: &mut Known) -> Result<Proof, Unrefuted> {
         let mut whole = proof;
-        for (number, lack) in self.lacks().iter().enumerate().rev() {
+        for (number, lemma) in self.lemmas().iter().enumerate().rev() {
             let level = self.level_of(number).ok_or(Unrefuted::Levels)?;
-            whole = self.above(*lack, level, whole, known)?;
+            whole = self.above(*lemma, level, whole, known)?;
         }
         Ok(whole)
     }

@@ -4,10 +4,10 @@ use crate::pairs::Pair;
 use og_search_rows::{Bounds, Side};
 use std::alloc::{AllocError, Global};
 
-/// The least size of a crowd: fewer numbers are left to the search.
+/// The fewest pigeons: fewer numbers are left to the search.
 const LEAST: usize = 4;
 
-/// The greatest size of a crowd: a refutation of more numbers is too large.
+/// The most pigeons: a refutation of more numbers is too large.
 const GREATEST: usize = 10;
 
 /// The most variables that are looked at.
@@ -26,7 +26,7 @@ struct Number {
 /// Variables that differ from one another, one more than there are values from the least one to the
 /// greatest.
 #[derive(Drop)]
-pub(crate) struct Crowded {
+pub(crate) struct Excess {
     pub variables: Vec<u32>,
     pub least: i128,
     pub most: i128,
@@ -45,7 +45,7 @@ impl Numbers {
         self.numbers.iter().position(|number| number.var == var)
     }
 
-    // Adds a variable, if it is not there and there is room. Tells its place.
+    // Adds a variable, if it is not there and there is room. Returns its place.
     fn add(&mut self, var: u32, bounds: &Bounds) -> Result<Option<usize>, AllocError> {
         let place = self.place(var);
         let next = self.numbers.len();
@@ -112,8 +112,8 @@ impl Numbers {
         Ok(variables)
     }
 
-    // A crowd of this many numbers, if there is one with this least value.
-    fn crowd_from(&self, least: i128, size: usize) -> Result<Option<Crowded>, AllocError> {
+    // This many pigeons, if there are that many with this least value.
+    fn pigeons_from(&self, least: i128, size: usize) -> Result<Option<Excess>, AllocError> {
         let values = size.saturating_sub(1) as i128;
         let Some(most) = least.saturating_add(values).checked_sub(1) else {
             return Ok(None);
@@ -122,40 +122,40 @@ impl Numbers {
         if bits.count_ones() as usize != size {
             return Ok(None);
         }
-        Ok(Some(Crowded {
+        Ok(Some(Excess {
             variables: self.variables(bits)?,
             least,
             most,
         }))
     }
 
-    // A crowd of this many numbers.
-    fn crowd(&self, size: usize) -> Result<Option<Crowded>, AllocError> {
+    // This many pigeons.
+    fn pigeons(&self, size: usize) -> Result<Option<Excess>, AllocError> {
         for first in &self.numbers {
-            if let Some(crowd) = self.crowd_from(first.least, size)? {
-                return Ok(Some(crowd));
+            if let Some(pigeons) = self.pigeons_from(first.least, size)? {
+                return Ok(Some(pigeons));
             }
         }
         Ok(None)
     }
 
-    // The smallest crowd.
-    fn smallest(&self) -> Result<Option<Crowded>, AllocError> {
+    // The smallest set of pigeons.
+    fn smallest(&self) -> Result<Option<Excess>, AllocError> {
         for size in LEAST..=GREATEST {
-            if let Some(crowd) = self.crowd(size)? {
-                return Ok(Some(crowd));
+            if let Some(pigeons) = self.pigeons(size)? {
+                return Ok(Some(pigeons));
             }
         }
         Ok(None)
     }
 }
 
-/// The smallest crowd among the variables of these pairs.
-pub(crate) fn smallest_crowd(
+/// The smallest set of pigeons among the variables of these pairs.
+pub(crate) fn smallest_excess(
     alloc: Global,
     pairs: &[Pair],
     bounds: &Bounds,
-) -> Result<Option<Crowded>, AllocError> {
+) -> Result<Option<Excess>, AllocError> {
     let mut numbers = Numbers {
         alloc,
         numbers: Vec::new(alloc),

@@ -1,15 +1,15 @@
-//! The refutation of a crowd.
+//! The refutation of pigeons: more different numbers than there are values.
 //!
 //! Up to four numbers are put in order, one after the other: each order has a chain that is longer
 //! than the values. Of more numbers each is taken to be in the lower half of the values or in the
 //! upper one, until one more is in a half than that has values; then these are refuted alone.
 
-use crate::crowd::{Crowd, Member, Order};
 use crate::fault::Unrefuted;
 use crate::leaves::{Leaves, once};
 use crate::making::Known;
+use crate::pigeons::{Member, Order, Pigeons};
 use og_search_choices::Open;
-use og_search_refutation::{Case, Proof, Tree, branch, told_at};
+use og_search_refutation::{Case, Proof, Tree, assumed_at, branch};
 use og_search_rows::{Bounds, Inequality, Place, Rows, Term};
 use std::alloc::{AllocError, Global};
 
@@ -50,7 +50,7 @@ struct Sorting<'v> {
 #[derive(Drop)]
 struct Refuter<'a, 'r> {
     alloc: Global,
-    crowd: &'a Crowd,
+    pigeons: &'a Pigeons,
     leaves: &'a mut Leaves<'r>,
     // The numbers, each with its tightest bounds.
     members: Vec<Member>,
@@ -75,7 +75,7 @@ impl<'v> Sorting<'v> {
     }
 
     // Those in a half that are more than its values, and the least of these values.
-    fn crowded(&self) -> Option<(&[usize], i128)> {
+    fn excess(&self) -> Option<(&[usize], i128)> {
         if self.low.len() > self.lower {
             return Some((&self.low, self.least));
         }
@@ -211,11 +211,11 @@ impl Refuter<'_, '_> {
         let Some(behind) = ordering.chain.get(at) else {
             return self.put(below, ordering, at, link, None);
         };
-        let order = self.crowd.order(member, behind.member);
+        let order = self.pigeons.order(member, behind.member);
         let order = order.ok_or(Unrefuted::Levels)?;
-        let told = Some(told_at(below));
-        let less = self.put(below, ordering, at, link, told)?;
-        let greater = self.insert(below, ordering, member, at.saturating_add(1), told)?;
+        let assumed = Some(assumed_at(below));
+        let less = self.put(below, ordering, at, link, assumed)?;
+        let greater = self.insert(below, ordering, member, at.saturating_add(1), assumed)?;
         Ok(split(self.alloc, order, below, less, greater)?)
     }
 
@@ -243,7 +243,7 @@ impl Refuter<'_, '_> {
     #[cycle(halving)]
     fn halve(&mut self, level: u32, sorting: &mut Sorting) -> Result<Tree, Unrefuted> {
         let below = level.checked_sub(1).ok_or(Unrefuted::Levels)?;
-        if let Some((list, least)) = sorting.crowded() {
+        if let Some((list, least)) = sorting.excess() {
             return self.refute(below, list, least);
         }
         let number = sorting.next().ok_or(Unrefuted::Levels)?;
@@ -263,7 +263,7 @@ impl Refuter<'_, '_> {
         sorting: &mut Sorting,
     ) -> Result<Tree, Unrefuted> {
         let own = self.member(number)?;
-        self.set(number, own.with_most(told_at(level)));
+        self.set(number, own.with_most(assumed_at(level)));
         sorting.low.push(number)?;
         let tree = self.halve(level, sorting)?;
         sorting.low.pop();
@@ -280,7 +280,7 @@ impl Refuter<'_, '_> {
         sorting: &mut Sorting,
     ) -> Result<Tree, Unrefuted> {
         let own = self.member(number)?;
-        self.set(number, own.with_least(told_at(level)));
+        self.set(number, own.with_least(assumed_at(level)));
         sorting.high.push(number)?;
         let tree = self.halve(level, sorting)?;
         sorting.high.pop();
@@ -296,7 +296,7 @@ impl Refuter<'_, '_> {
     }
 }
 
-impl Crowd {
+impl Pigeons {
     /// What refutes the numbers below all facts that are made.
     ///
     /// # Errors
@@ -305,7 +305,7 @@ impl Crowd {
     pub fn tree(&self, leaves: &mut Leaves) -> Result<Tree, Unrefuted> {
         let alloc = leaves.alloc();
         let count = self.members().len();
-        let level = self.level_of(self.lacks().len());
+        let level = self.level_of(self.lemmas().len());
         let level = level.ok_or(Unrefuted::Levels)?.saturating_add(1);
         let mut list = Vec::with_capacity(alloc, count)?;
         for place in 0..count {
@@ -313,16 +313,16 @@ impl Crowd {
         }
         let mut refuter = Refuter {
             alloc,
-            crowd: self,
+            pigeons: self,
             leaves,
             members: self.copied_members()?,
         };
         refuter.refute(level, &list, self.least())
     }
 
-    /// Refutes the crowd below its level, where these are the choices and the bounds with which it
-    /// was found. Each 16 leaves cost a step of the budget of the rows, and each fact that is made
-    /// one and what its own sums cost; the size of the leaves is taken from the room.
+    /// Refutes the pigeons below their level, where these are the choices and the bounds with which
+    /// they were found. Each 16 leaves cost a step of the budget of the rows, and each fact that is
+    /// made one and what its own sums cost; the size of the leaves is taken from the room.
     ///
     /// # Errors
     ///

@@ -28,7 +28,7 @@ pub(crate) struct Apart<'a> {
 
 /// The parts of a choice in which an entry waits and is through.
 #[derive(Clone, Copy)]
-pub(crate) struct Ways<'a> {
+pub(crate) struct Branches<'a> {
     pub place: Place,
     pub parts: &'a [Part],
     pub waits: usize,
@@ -41,7 +41,7 @@ pub(crate) struct Ways<'a> {
 pub(crate) struct Candidate<'a> {
     pub number: Var,
     pub counter: Var,
-    pub ways: Option<Ways<'a>>,
+    pub branches: Option<Branches<'a>>,
     pub apart: Apart<'a>,
 }
 
@@ -71,8 +71,8 @@ impl Hidden {
 impl<'a> Candidate<'a> {
     /// The part in which it waits, if its facts are not on the path.
     pub(crate) fn waits(&self) -> Option<&'a Part> {
-        let ways = self.ways?;
-        ways.parts.get(ways.waits)
+        let branches = self.branches?;
+        branches.parts.get(branches.waits)
     }
 }
 
@@ -135,7 +135,7 @@ fn two_left(parts: &[Part], bounds: &Bounds) -> Option<(usize, usize)> {
 
 // The candidate with this number that may be through, where it waits in the one part and is through
 // in the other.
-fn in_doubt<'a>(
+fn open_candidate<'a>(
     pairs: &[Hidden],
     one: Open<'a>,
     waits: usize,
@@ -152,7 +152,7 @@ fn in_doubt<'a>(
     Some(Candidate {
         number: var,
         counter,
-        ways: Some(Ways {
+        branches: Some(Branches {
             place: one.place,
             parts: one.parts,
             waits,
@@ -179,7 +179,7 @@ fn candidate_of<'a>(
         return Some(Candidate {
             number: var,
             counter,
-            ways: None,
+            branches: None,
             apart: Apart {
                 choice,
                 parts,
@@ -191,8 +191,8 @@ fn candidate_of<'a>(
         return None;
     }
     let (first, second) = two_left(one.parts, bounds)?;
-    match in_doubt(pairs, one, first, second, number) {
-        None => in_doubt(pairs, one, second, first, number),
+    match open_candidate(pairs, one, first, second, number) {
+        None => open_candidate(pairs, one, second, first, number),
         found => found,
     }
 }

@@ -1,9 +1,9 @@
 //! The entries of a queue, made of the facts about them.
 
-use crate::candidates::{Candidate, Hidden, Range, Ways, range_of};
+use crate::candidates::{Branches, Candidate, Hidden, Range, range_of};
 use crate::missed::Missed;
 use crate::narrowing::{Ground, Held, Narrowing, Own, Source, Stage, fact_of};
-use crate::queue::{Distinct, Doubt, Entry, State, Var};
+use crate::queue::{Distinct, Entry, OpenEntry, State, Var};
 use og_search_choices::Part;
 use std::alloc::{AllocError, Global};
 
@@ -86,18 +86,23 @@ impl<'a, 'h> Maker<'a, 'h> {
     }
 
     // The facts known of an entry that may be through.
-    fn in_doubt(&self, ground: &mut Ground, ways: Ways) -> Result<Flagged, Missed> {
-        let waits = ways.parts.get(ways.waits).ok_or(Missed::Fact)?;
-        let through = ways.parts.get(ways.through).ok_or(Missed::Fact)?;
+    fn open_candidate(&self, ground: &mut Ground, branches: Branches) -> Result<Flagged, Missed> {
+        let waits = branches.parts.get(branches.waits).ok_or(Missed::Fact)?;
+        let through = branches.parts.get(branches.through).ok_or(Missed::Fact)?;
         let (flag, index, low) = self.flag_of(waits, through).ok_or(Missed::Fact)?;
-        let left = [ways.waits, ways.through];
+        let left = [branches.waits, branches.through];
         let none: &[Held] = &[];
-        let narrowing = ground.narrowing(Source::Path(ways.place), ways.parts, &left, none)?;
+        let narrowing = ground.narrowing(
+            Source::Path(branches.place),
+            branches.parts,
+            &left,
+            none,
+        )?;
         let (entry, stage) = (self.entries.len(), Stage::Waiting);
         Ok(Flagged {
-            state: State::Open(Doubt {
+            state: State::Open(OpenEntry {
                 narrowing,
-                is_waiting_first: ways.waits < ways.through,
+                is_waiting_first: branches.waits < branches.through,
                 flag: low,
             }),
             flag,
@@ -127,8 +132,8 @@ impl<'a, 'h> Maker<'a, 'h> {
 
     // The facts known of a candidate's flag.
     fn flagged(&self, ground: &mut Ground, candidate: Candidate) -> Result<Flagged, Missed> {
-        match candidate.ways {
-            Some(ways) => self.in_doubt(ground, ways),
+        match candidate.branches {
+            Some(branches) => self.open_candidate(ground, branches),
             None => self.waiting(ground),
         }
     }

@@ -11,7 +11,7 @@ use crate::refuter::{Refuter, Standing, Values, WEIGHT, Waiting, levels_behind, 
 use crate::sets::{Course, Known, Listed, Sets};
 use og_search_choices::Open;
 use og_search_pigeons::{Known as Path, Leaves, Unrefuted, beyond, once};
-use og_search_refutation::{Multiple, Name, Proof, Tree, branch, told_at};
+use og_search_refutation::{Multiple, Name, Proof, Tree, assumed_at, branch};
 use og_search_rows::{Bounds, Inequality, Place, Rows, Side, Term};
 use std::alloc::Global;
 
@@ -68,7 +68,7 @@ impl Refuter<'_, '_, '_> {
         if halves.high.len() as i128 > most.saturating_sub(middle) {
             let least = middle.saturating_add(1);
             let values = Values { least, most };
-            return Ok(Some(self.refute_crowd(level, &halves.high, values, None)?));
+            return Ok(Some(self.refute_pigeons(level, &halves.high, values, None)?));
         }
         if halves.low.len() as i128 > middle.saturating_sub(self.queue.least) {
             return Ok(Some(self.refute_low(level, halves)?));
@@ -101,7 +101,7 @@ impl Refuter<'_, '_, '_> {
         halves: &mut Halves,
         entry: usize,
     ) -> Result<Tree, Unrefuted> {
-        let low = Some(told_at(level));
+        let low = Some(assumed_at(level));
         halves.low.push(Listed { entry, low })?;
         let tree = self.refute_halves(level, halves)?;
         halves.low.pop();
@@ -163,11 +163,11 @@ impl Refuter<'_, '_, '_> {
         halves: &mut Halves,
         number: usize,
     ) -> Result<Tree, Unrefuted> {
-        let fact = told_at(level);
+        let fact = assumed_at(level);
         let below = level.checked_sub(1).ok_or(Unrefuted::Levels)?;
         let waits = self.refute_waits_high(below, halves, number, fact)?;
         let through = self.refute_through_high(below, number, fact)?;
-        self.with_doubt(below, number, waits, through)
+        self.with_open_entry(below, number, waits, through)
     }
 
     // What refutes that such an entry is through, at this level, if it may be.
@@ -175,13 +175,13 @@ impl Refuter<'_, '_, '_> {
         &mut self,
         level: u32,
         number: usize,
-        told: Place,
+        assumed: Place,
     ) -> Result<Option<Tree>, Unrefuted> {
         let entry = self.entry(number)?;
-        let State::Open(doubt) = &entry.state else {
+        let State::Open(open_entry) = &entry.state else {
             return Ok(None);
         };
-        let index = doubt.flag;
+        let index = open_entry.flag;
         let flag = self.weighted(Place { level, index });
         let range = Multiple {
             times: 1,
@@ -190,7 +190,7 @@ impl Refuter<'_, '_, '_> {
                 side: Side::Upper,
             },
         };
-        let end = vec![in self.alloc; once(told), flag, range]?;
+        let end = vec![in self.alloc; once(assumed), flag, range]?;
         Ok(Some(self.leaves.close(end)?))
     }
 
@@ -205,7 +205,7 @@ impl Refuter<'_, '_, '_> {
             list: &list,
             known: Some(Known {
                 value: middle.saturating_add(1),
-                place: told_at(level),
+                place: assumed_at(level),
             }),
             most: self.queue.most,
             counter: self.counter,
@@ -220,7 +220,7 @@ impl Refuter<'_, '_, '_> {
         let middle = queue.least.saturating_add(half as i128).saturating_sub(1);
         let mut halves = Halves {
             middle,
-            counter: told_at(level),
+            counter: assumed_at(level),
             next: 0,
             high: Vec::new(self.alloc),
             low: Vec::new(self.alloc),
@@ -252,8 +252,8 @@ impl Queue {
             alloc,
             queue: self,
             leaves,
-            end: told_at(lower(self.level, 1)?),
-            counter: told_at(lower(self.level, 2)?),
+            end: assumed_at(lower(self.level, 1)?),
+            counter: assumed_at(lower(self.level, 2)?),
             standings: vec![in alloc; none; self.entries.len()]?,
         };
         refuter.refute(lower(self.level, 3)?)

@@ -19,5 +19,5 @@ mod queue;
 mod refuter;
 mod sets;
 
-pub use noticing::{Seen, Sight, look};
+pub use noticing::{Detection, Seen, look};
 pub use queue::Queue;

@@ -41,7 +41,7 @@ pub(crate) struct Closing {
 
 /// A part of a choice: how many facts it has, and what refutes it, unless it is left.
 #[derive(Clone, Copy)]
-pub(crate) struct Fate {
+pub(crate) struct Remainder {
     pub count: usize,
     pub closing: Option<Closing>,
 }
@@ -50,7 +50,7 @@ pub(crate) struct Fate {
 #[derive(Drop)]
 pub(crate) struct Narrowing {
     pub choice: Source,
-    pub fates: Vec<Fate>,
+    pub remainders: Vec<Remainder>,
 }
 
 /// A part whose facts are known, where its entry waits.
@@ -88,7 +88,7 @@ fn are_at_odds(form: &Inequality, other: &Inequality) -> bool {
 }
 
 // The fact of these parts that is at odds with the inequality.
-fn held_against(held: &[Held], atom: &Atom) -> Option<Source> {
+fn held_opposite(held: &[Held], atom: &Atom) -> Option<Source> {
     for one in held {
         if let Some(index) = at_odds(one.part, atom) {
             let (entry, stage) = (one.entry, one.stage);
@@ -115,7 +115,7 @@ impl Ground<'_, '_> {
     }
 
     // The fact on the path that is at odds with the inequality.
-    fn path_against(&mut self, form: &Inequality) -> Option<Place> {
+    fn path_opposite(&mut self, form: &Inequality) -> Option<Place> {
         self.looks = self.looks.saturating_add(self.view.base.len());
         for row in self.view.base {
             if let Some(Origin::Given(place)) = self.view.rows.origin(*row) {
@@ -136,10 +136,10 @@ impl Ground<'_, '_> {
                 source: None,
             });
         }
-        let source = match held_against(held, atom) {
+        let source = match held_opposite(held, atom) {
             Some(own) => own,
             None => {
-                let place = self.path_against(&atom.form)?;
+                let place = self.path_opposite(&atom.form)?;
                 self.taken(place)
             }
         };
@@ -158,15 +158,20 @@ impl Ground<'_, '_> {
     }
 
     // What becomes of a part that is left or not.
-    fn fate(&mut self, part: &Part, is_left: bool, held: &[Held]) -> Result<Fate, Missed> {
+    fn remainder(
+        &mut self,
+        part: &Part,
+        is_left: bool,
+        held: &[Held],
+    ) -> Result<Remainder, Missed> {
         let count = part.count;
         if is_left {
             let closing = None;
-            return Ok(Fate { count, closing });
+            return Ok(Remainder { count, closing });
         }
         match self.closing(part, held) {
             None => Err(Missed::Fact),
-            closing => Ok(Fate { count, closing }),
+            closing => Ok(Remainder { count, closing }),
         }
     }
 
@@ -184,14 +189,14 @@ impl Ground<'_, '_> {
         left: &[usize],
         held: &[Held],
     ) -> Result<Narrowing, Missed> {
-        let mut fates = Vec::with_capacity(self.alloc, parts.len())?;
+        let mut remainders = Vec::with_capacity(self.alloc, parts.len())?;
         for (number, part) in parts.iter().enumerate() {
-            fates.push(self.fate(part, left.contains(&number), held)?)?;
+            remainders.push(self.remainder(part, left.contains(&number), held)?)?;
         }
         if let Source::Path(place) = choice {
             self.note(place);
         }
-        Ok(Narrowing { choice, fates })
+        Ok(Narrowing { choice, remainders })
     }
 
     /// The place of the fact on the path that is this inequality, if there is one.

@@ -21,13 +21,13 @@ const LEVEL: u32 = 120;
 /// The facts seen at a level, and how many facts on the path were looked at for it.
 #[derive(Drop)]
 pub struct Seen {
-    pub sight: Sight,
+    pub detection: Detection,
     pub looks: usize,
 }
 
 /// The facts seen at a level.
 #[derive(Drop)]
-pub enum Sight {
+pub enum Detection {
     /// No queue.
     Nothing,
     /// A queue, once it is known that this form is above 0: that the counter has no more values.
@@ -167,10 +167,10 @@ fn gathered<'a>(
 }
 
 // The queue, or the form that has to be above 0 before.
-fn sight_of(alloc: Global, view: View, queue: Queue) -> Result<Sight, AllocError> {
+fn detection_of(alloc: Global, view: View, queue: Queue) -> Result<Detection, AllocError> {
     let most = queue.most;
     if view.bounds.get(queue.counter, Side::Upper).value <= most {
-        return Ok(Sight::Queue(queue));
+        return Ok(Detection::Queue(queue));
     }
     match most.checked_add(1) {
         Some(constant) if view.bounds.get(queue.counter, Side::Lower).value <= most => {
@@ -178,9 +178,9 @@ fn sight_of(alloc: Global, view: View, queue: Queue) -> Result<Sight, AllocError
                 var: queue.counter,
                 coefficient: -1,
             };
-            Ok(Sight::Bound(Inequality::single(alloc, term, constant)?))
+            Ok(Detection::Bound(Inequality::single(alloc, term, constant)?))
         }
-        _ => Ok(Sight::Nothing),
+        _ => Ok(Detection::Nothing),
     }
 }
 
@@ -190,16 +190,16 @@ fn look_at<'a>(
     candidates: &[Candidate<'a>],
     hidden: &[Hidden],
     level: u32,
-) -> Result<Sight, AllocError> {
+) -> Result<Detection, AllocError> {
     let Some(first) = candidates.first().copied() else {
-        return Ok(Sight::Nothing);
+        return Ok(Detection::Nothing);
     };
     if candidates.len() < FEWEST || candidates.len() > MOST {
-        return Ok(Sight::Nothing);
+        return Ok(Detection::Nothing);
     }
     match gathered(ground, candidates, hidden, first, level) {
-        Ok(queue) => sight_of(ground.alloc, ground.view, queue),
-        Err(Missed::Fact) => Ok(Sight::Nothing),
+        Ok(queue) => detection_of(ground.alloc, ground.view, queue),
+        Err(Missed::Fact) => Ok(Detection::Nothing),
         Err(Missed::Memory) => Err(AllocError),
     }
 }
@@ -218,11 +218,14 @@ pub fn look(alloc: Global, view: View, level: u32) -> Result<Seen, AllocError> {
     };
     let hidden = hidden_pairs(alloc, view.open)?;
     if level < LEVEL || hidden.len() < FEWEST {
-        let sight = Sight::Nothing;
-        return Ok(Seen { sight, looks: 0 });
+        let detection = Detection::Nothing;
+        return Ok(Seen {
+            detection,
+            looks: 0,
+        });
     }
     let candidates = candidates(alloc, view, &hidden)?;
-    let sight = look_at(&mut ground, &candidates, &hidden, level)?;
+    let detection = look_at(&mut ground, &candidates, &hidden, level)?;
     let looks = ground.looks;
-    Ok(Seen { sight, looks })
+    Ok(Seen { detection, looks })
 }

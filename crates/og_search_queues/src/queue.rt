@@ -9,7 +9,7 @@ pub(crate) type Var = u32;
 /// The choice of an entry that may be through, which leaves two parts: whether it waits in the
 /// first one of these, and the place in the other one of the fact that its flag is at least 1.
 #[derive(Drop)]
-pub(crate) struct Doubt {
+pub(crate) struct OpenEntry {
     pub narrowing: Narrowing,
     pub is_waiting_first: bool,
     pub flag: usize,
@@ -19,7 +19,7 @@ pub(crate) struct Doubt {
 #[derive(Drop)]
 pub(crate) enum State {
     /// It may be.
-    Open(Doubt),
+    Open(OpenEntry),
     /// It waits.
     Waits,
 }

@@ -3,8 +3,8 @@
 
 use crate::narrowing::{Closing, Narrowing, Source, Stage};
 use crate::queue::{Entry, Queue, State};
-use og_search_pigeons::{Crowd, Leaves, Member, Order, Unrefuted, beyond, once};
-use og_search_refutation::{Case, Multiple, Name, Tree, branch, told_at};
+use og_search_pigeons::{Leaves, Member, Order, Pigeons, Unrefuted, beyond, once};
+use og_search_refutation::{Case, Multiple, Name, Tree, assumed_at, branch};
 use og_search_rows::{Inequality, Place, Side};
 use std::alloc::Global;
 
@@ -115,13 +115,13 @@ impl<'q> Refuter<'q, '_, '_> {
         left: Vec<Tree>,
     ) -> Result<Tree, Unrefuted> {
         let mut left = left.into_iter();
-        let mut cases = Vec::with_capacity(self.alloc, narrowing.fates.len())?;
-        for fate in &narrowing.fates {
-            let tree = match fate.closing {
+        let mut cases = Vec::with_capacity(self.alloc, narrowing.remainders.len())?;
+        for remainder in &narrowing.remainders {
+            let tree = match remainder.closing {
                 Some(closing) => self.closed(closing, level)?,
                 None => left.next().ok_or(Unrefuted::Levels)?,
             };
-            let count = fate.count;
+            let count = remainder.count;
             cases.push(Case { level, count, tree })?;
         }
         let choice = self.place_of(narrowing.choice)?;
@@ -149,7 +149,7 @@ impl<'q> Refuter<'q, '_, '_> {
         tree: Tree,
     ) -> Result<Tree, Unrefuted> {
         let mut end = Vec::with_capacity(self.alloc, facts.len().saturating_add(1))?;
-        end.push(once(told_at(level)))?;
+        end.push(once(assumed_at(level)))?;
         end.extend_from_slice(facts)?;
         let first = self.leaves.close(end)?;
         Ok(branch(self.alloc, level, form, first, tree)?)
@@ -175,7 +175,7 @@ impl<'q> Refuter<'q, '_, '_> {
         for (place, other) in before.iter().enumerate() {
             let pair = pairs.get(other.entry).ok_or(Unrefuted::Levels)?;
             orders.push(Order {
-                choice: told_at(lower(level, place)?),
+                choice: assumed_at(lower(level, place)?),
                 is_less_first: pair.is_less_first,
             })?;
         }
@@ -191,7 +191,7 @@ impl<'q> Refuter<'q, '_, '_> {
         least: Vec<Multiple>,
         group: &mut Vec<Waiting>,
     ) -> Result<(), Unrefuted> {
-        let most = told_at(lower(level, 3)?);
+        let most = assumed_at(lower(level, 3)?);
         let orders = self.orders(lower(level, LEVELS_OF_ENTRY)?, number, group)?;
         group.push(Waiting {
             entry: number,
@@ -269,24 +269,24 @@ impl<'q> Refuter<'q, '_, '_> {
 
     /// The choice of whether an entry waits or is through, at this level, where these trees refute
     /// either. The second one is made only where it may be through.
-    pub(crate) fn with_doubt(
+    pub(crate) fn with_open_entry(
         &mut self,
         level: u32,
         number: usize,
         waits: Tree,
         through: Option<Tree>,
     ) -> Result<Tree, Unrefuted> {
-        let doubt = match &self.entry(number)?.state {
+        let open_entry = match &self.entry(number)?.state {
             State::Waits => return Ok(waits),
-            State::Open(doubt) => doubt,
+            State::Open(open_entry) => open_entry,
         };
         let through = through.ok_or(Unrefuted::Levels)?;
-        let left = if doubt.is_waiting_first {
+        let left = if open_entry.is_waiting_first {
             vec![in self.alloc; waits, through]?
         } else {
             vec![in self.alloc; through, waits]?
         };
-        self.split(&doubt.narrowing, level, left)
+        self.split(&open_entry.narrowing, level, left)
     }
 
     /// The facts that the number of an entry is at most the greatest value.
@@ -299,20 +299,20 @@ impl<'q> Refuter<'q, '_, '_> {
         Ok(vec![in self.alloc; once(high), once(self.end)]?)
     }
 
-    // The numbers of these entries, which have these values, at this level: the facts that tell so
+    // The numbers of these entries, which have these values, at this level: the facts that say so
     // stand above it.
-    fn crowd(&self, level: u32, group: &[Waiting], values: Values) -> Result<Crowd, Unrefuted> {
+    fn pigeons(&self, level: u32, group: &[Waiting], values: Values) -> Result<Pigeons, Unrefuted> {
         let below = lower(level, group.len())?;
-        let mut crowd = Crowd::new(self.alloc, below, values.least, values.most);
+        let mut pigeons = Pigeons::new(self.alloc, below, values.least, values.most);
         for (place, one) in group.iter().enumerate() {
             let member = Member {
                 var: self.entry(one.entry)?.number,
-                least: told_at(lower(level, place.saturating_add(1))?),
+                least: assumed_at(lower(level, place.saturating_add(1))?),
                 most: one.most,
             };
-            crowd.add(member, one.orders.clone()?)?;
+            pigeons.add(member, one.orders.clone()?)?;
         }
-        Ok(crowd)
+        Ok(pigeons)
     }
 
     // The facts that the number of an entry is not below the least value, with the one at the
@@ -348,15 +348,15 @@ impl<'q> Refuter<'q, '_, '_> {
     /// What refutes entries that wait and are one more than their numbers have values, below this
     /// level. The fact at the place belongs to those from which it follows that they are not below
     /// the least value.
-    pub(crate) fn refute_crowd(
+    pub(crate) fn refute_pigeons(
         &mut self,
         level: u32,
         group: &[Waiting],
         values: Values,
         counter: Option<Place>,
     ) -> Result<Tree, Unrefuted> {
-        let crowd = self.crowd(level, group, values)?;
-        let mut tree = crowd.tree(self.leaves)?;
+        let pigeons = self.pigeons(level, group, values)?;
+        let mut tree = pigeons.tree(self.leaves)?;
         for (place, one) in group.iter().enumerate().rev() {
             let below = lower(level, place.saturating_add(1))?;
             tree = self.with_least(below, one, values.least, counter, tree)?;

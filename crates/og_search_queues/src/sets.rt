@@ -4,7 +4,7 @@ use crate::narrowing::{Own, Source, Stage};
 use crate::queue::State;
 use crate::refuter::{Refuter, Values, Waiting, levels_behind, lower};
 use og_search_pigeons::{Unrefuted, beyond, once};
-use og_search_refutation::{Multiple, Tree, told_at};
+use og_search_refutation::{Multiple, Tree, assumed_at};
 use og_search_rows::{Place, Side};
 use std::alloc::Global;
 
@@ -85,7 +85,7 @@ impl Refuter<'_, '_, '_> {
         least: i128,
     ) -> Result<Tree, Unrefuted> {
         let below = lower(level, 1)?;
-        let tree = self.refute_crowd(below, waiting, values, Some(told_at(below)))?;
+        let tree = self.refute_pigeons(below, waiting, values, Some(assumed_at(below)))?;
         let form = beyond(self.alloc, self.queue.counter, Side::Lower, least)?;
         let facts = self.counted()?;
         self.shown(below, form, &facts, tree)
@@ -105,7 +105,7 @@ impl Refuter<'_, '_, '_> {
         };
         match sets.known {
             Some(known) if known.value == least => {
-                self.refute_crowd(level, waiting, values, Some(known.place))
+                self.refute_pigeons(level, waiting, values, Some(known.place))
             }
             _ => self.refute_above_shown(level, waiting, values, least),
         }
@@ -153,7 +153,7 @@ impl Refuter<'_, '_, '_> {
         let waits = self.refute_one_more(below, sets, course, listed)?;
         let through = self.refute_one_through(below, sets, course, listed)?;
         course.next = course.next.saturating_sub(1);
-        self.with_doubt(below, listed.entry, waits, through)
+        self.with_open_entry(below, listed.entry, waits, through)
     }
 
     // The fact that the number of an entry that waits is above the counter.
@@ -215,10 +215,10 @@ impl Refuter<'_, '_, '_> {
         course: &mut Course,
         listed: Listed,
     ) -> Result<Option<Tree>, Unrefuted> {
-        let State::Open(doubt) = &self.entry(listed.entry)?.state else {
+        let State::Open(open_entry) = &self.entry(listed.entry)?.state else {
             return Ok(None);
         };
-        let index = doubt.flag;
+        let index = open_entry.flag;
         self.note_through(listed.entry, Some(Place { level, index }));
         course.through = course.through.saturating_add(1);
         let tree = self.refute_sets(level, sets, course)?;

@@ -24,7 +24,7 @@ impl<T: Drop> From<AllocFailed<T>> for Unwritten {
     }
 }
 
-/// Why a clash is not refuted.
+/// Why a conflict is not refuted.
 #[derive(Clone, Copy)]
 pub enum Unshown {
     /// An allocation was refused.

@@ -50,7 +50,7 @@ impl Cases {
 }
 
 /// The place of the only fact of a part or a side at this level.
-pub fn told_at(level: u32) -> Place {
+pub fn assumed_at(level: u32) -> Place {
     Place { level, index: 0 }
 }
 

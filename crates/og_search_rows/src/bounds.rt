@@ -488,7 +488,7 @@ impl Bounds {
     }
 
     /// Takes the bound that an inequality of one variable sets, said by this row if there is one.
-    /// Tells the variable if that got a better bound; none where the bounds say as much already,
+    /// Returns the variable if that got a better bound; none where the bounds say as much already,
     /// where the inequality is not of one of the variables alone, and where a number leaves `i128`.
     /// All marks so far still lead back to the same intervals.
     ///

@@ -68,7 +68,7 @@ fn put(terms: &mut Vec<Term>, term: Term) -> Result<(), AllocError>
     Ok(())
 }
 
-// Adds a multiple of a term. Tells whether its coefficient fits.
+// Adds a multiple of a term. Returns whether its coefficient fits.
 fn put_multiple(terms: &mut Vec<Term>, times: i128, term: Term) -> Result<bool, AllocError>
     ensures { IfOk result (λ fits. IsTrue fits → (s : List ℤ)
         → sum_at terms.new.items s ≡ sum_at terms.old.items s +ℤ times *ℤ part_at term s) }
@@ -81,7 +81,7 @@ fn put_multiple(terms: &mut Vec<Term>, times: i128, term: Term) -> Result<bool, 
     Ok(true)
 }
 
-// Adds the sum of multiples of two terms of one variable. Tells whether its coefficient fits.
+// Adds the sum of multiples of two terms of one variable. Returns whether its coefficient fits.
 fn put_both(terms: &mut Vec<Term>, m: i128, x: Term, k: i128, y: Term) -> Result<bool, AllocError>
     requires { x.var ≡ y.var }
     ensures { IfOk result (λ fits. IsTrue fits → (s : List ℤ)
@@ -95,7 +95,7 @@ fn put_both(terms: &mut Vec<Term>, m: i128, x: Term, k: i128, y: Term) -> Result
     Ok(true)
 }
 
-// Adds multiples of all these terms. Tells whether their coefficients fit.
+// Adds multiples of all these terms. Returns whether their coefficients fit.
 fn put_all(terms: &mut Vec<Term>, times: i128, more: &[Term]) -> Result<bool, AllocError>
     ensures { IfOk result (λ fits. IsTrue fits → (s : List ℤ)
         → sum_at terms.new.items s ≡ sum_at terms.old.items s +ℤ times *ℤ sum_at more.now s) }
@@ -108,7 +108,7 @@ fn put_all(terms: &mut Vec<Term>, times: i128, more: &[Term]) -> Result<bool, Al
     Ok(true)
 }
 
-// Adds the terms of the sum of two multiples. Tells whether their coefficients fit.
+// Adds the terms of the sum of two multiples. Returns whether their coefficients fit.
 fn put_sum(
     terms: &mut Vec<Term>,
     m: i128,

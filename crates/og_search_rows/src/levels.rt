@@ -1,4 +1,4 @@
-//! Levels, which tell how deep a fact was met, and sets of them.
+//! Levels, which say how deep a fact was met, and sets of them.
 
 /// The level of the condition's own facts. Each level below has one less, down to 0.
 pub const TOP: u32 = 200;

@@ -389,7 +389,7 @@ impl Rows {
     }
 
     // Adds to a sum the multiples of bounds by which all these terms but those of one variable
-    // cancel out. Tells whether the multiples fit.
+    // cancel out. Returns whether the multiples fit.
     fn put_bounds(
         &mut self,
         sum: &mut Vec<Summand>,
@@ -508,7 +508,7 @@ impl Rows {
         }
     }
 
-    /// Whether all these rows hold of the model, as far as `i128` tells.
+    /// Whether all these rows hold of the model, as far as `i128` shows.
     pub fn all_hold(&self, rows: &[usize], model: &Model) -> bool
         ensures { IsTrue result → All (λ i. HoldsAt self.now.rows i model.now) rows.now }
     {

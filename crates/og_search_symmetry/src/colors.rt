@@ -77,7 +77,7 @@ impl Refiner<'_> {
         }
     }
 
-    // Adds what the facts of each part tell together.
+    // Adds what the facts of each part say together.
     fn add_each(&mut self, parts: &[Vec<Fact>]) {
         for part in parts {
             let around = part_mark(self.colors, part, NESTING_LIMIT);
@@ -85,7 +85,7 @@ impl Refiner<'_> {
         }
     }
 
-    // Adds what the facts of a list tell, and each part of a choice that is the last one, as that
+    // Adds what the facts of a list say, and each part of a choice that is the last one, as that
     // of a goal is.
     fn add_list(&mut self, list: &[Fact]) {
         match list.split_last() {

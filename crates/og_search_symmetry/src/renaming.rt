@@ -12,7 +12,7 @@ pub(crate) struct Renaming {
     names: Vec<u32>,
     origins: Vec<u32>,
     // Those of which something was said.
-    told: Vec<bool>,
+    paired: Vec<bool>,
     is_changed: bool,
     // Whether something else was said of one later.
     is_denied: bool,
@@ -50,7 +50,7 @@ impl Renaming {
         Ok(Renaming {
             names: each(alloc, variables)?,
             origins: each(alloc, variables)?,
-            told: vec![in alloc; false; variables as usize]?,
+            paired: vec![in alloc; false; variables as usize]?,
             is_changed: false,
             is_denied: false,
         })
@@ -88,8 +88,8 @@ impl Renaming {
         self.is_denied
     }
 
-    fn is_told(&self, var: u32) -> bool {
-        matches!(self.told.get(var as usize), Some(true))
+    fn is_paired(&self, var: u32) -> bool {
+        matches!(self.paired.get(var as usize), Some(true))
     }
 
     // Lets the second one stand for the first.
@@ -106,15 +106,15 @@ impl Renaming {
     /// first, or the second was said to stand for another one.
     pub(crate) fn note(&mut self, var: u32, name: u32) {
         let other = at(&self.origins, name);
-        if self.is_told(var) || self.is_told(other) {
+        if self.is_paired(var) || self.is_paired(other) {
             self.is_denied |= self.name(var) != name;
             return;
         }
         let free = self.name(var);
         self.set(other, free);
         self.set(var, name);
-        if let Some(told) = self.told.get_mut(var as usize) {
-            *told = true;
+        if let Some(paired) = self.paired.get_mut(var as usize) {
+            *paired = true;
         }
         self.is_changed = true;
     }

@@ -1,7 +1,7 @@
 -- Lists that have not one part.
 use Rattle.std.proofs.Common.{◌≡◌, ◌<◌, ◌⊎◌, inl, inr, List, [], ◌∷◌, map, length, refl, arith}
 use Rattle.std.specs.Prelude.{Ok}
-use Rattle.og_template_expand.specs.declared.assertions.Connective.TheVariants.{And, Or}
+use Rattle.og_template_expand.specs.declared.connective.Connective.TheVariants.{And, Or}
 use Rattle.og_template_expand.specs.Trees.{Unit, Conjunction}
 use Rattle.og_template_expand.specs.TreeOf.{conjoined, disjoined}
 use Rattle.og_template_expand.specs.Answer.{◌>>=◌}

@@ -1,5 +1,5 @@
 -- Loops that add to a list.
-use Rattle.std.proofs.Common.{◌≡◌, ℕ, ◌+◌, ◌<◌, length, map, drop, get_or, subst, drop-cons, add-one, List, [], ◌∷◌, ◌++◌, Result, Ok, Err, refl, sym, ap, ◌∙◌, append_assoc}
+use Rattle.std.proofs.Common.{◌≡◌, ℕ, ◌+◌, ◌<◌, length, map, drop, get_or, subst, drop-cons, add-one, List, ◌∷◌, ◌++◌, Ok, Err, refl, sym, ap, ◌∙◌, append_assoc}
 use Rattle.og_template_expand.specs.declared.fault.Stop.{Stop}
 use Rattle.og_template_expand.specs.declared.fault.Stop.TheVariants as stops
 use Rattle.og_template_expand.specs.Answer.{Checked, ◌>>=◌, behind, gathered}

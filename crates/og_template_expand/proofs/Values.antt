@@ -1,6 +1,5 @@
 -- Values that fit 64 bits.
-use Rattle.std.proofs.Common.{◌≡◌, ◌^◌, ℕ, ℤ, pos, negsuc, Bool, true, false, FitsSigned, refl, arith}
-use Rattle.std.specs.Prelude.{nat_lt, Ok}
+use Rattle.std.proofs.Common.{◌≡◌, ℤ, pos, negsuc, true, false, FitsSigned, arith}
 use Rattle.og_template_expand.specs.Values.{fits}
 use mir.Syntax.{w64}
 use Rattle.std.proofs.lemmas.Bool.Decides.{nat_tests}

@@ -1,13 +1,12 @@
 -- Assertions, with uses, quantifiers and lists as they are written out.
 use Rattle.std.specs.Prelude.{ℕ, zero, suc, List, [], ◌∷◌, ◌++◌, Ok}
 use Rattle.og_text.specs.declared.place.Span.{Span}
-use Rattle.og_parse.specs.Language.{Placed}
 use Rattle.og_parse.specs.declared.raw.RawName.{RawName}
 use Rattle.og_parse.specs.Trees as outline
 use Rattle.og_template.specs.declared.fault.FaultKind.TheVariants.{TooDeep}
-use Rattle.og_template_expand.specs.declared.assertions.Connective.{Connective}
-use Rattle.og_template_expand.specs.declared.assertions.Connective.TheVariants.{And, Or}
-use Rattle.og_template_expand.specs.Trees.{Expression, Assertion, Alone, Implies, Disjunction, no_part, part, Conjunction, no_unit, unit, Unit, Truth, Falsity, Comparison, Use, Not, Group, All, Any, Binder, Definition}
+use Rattle.og_template_expand.specs.declared.connective.Connective.{Connective}
+use Rattle.og_template_expand.specs.declared.connective.Connective.TheVariants.{And, Or}
+use Rattle.og_template_expand.specs.Trees.{Expression, Assertion, Alone, Implies, Disjunction, no_part, part, Conjunction, no_unit, unit, Unit, Truth, Falsity, Comparison, Use, Not, Group, All, Any, Binder}
 use Rattle.og_template_expand.specs.Answer.{Checked, ◌>>=◌, refused}
 use Rattle.og_template_expand.specs.Scope.{Bound, Scope, defined_of}
 use Rattle.og_template_expand.specs.Values.{value_of}
@@ -57,7 +56,10 @@ first_word (Any place binder inner) = place
 abbrev pub arguments_of : Scope → List RawName → List Expression → Checked (List Bound)
 arguments_of scope parameters [] = Ok []
 arguments_of scope [] (e ∷ es) = Ok []
-arguments_of scope (p ∷ ps) (e ∷ es) = value_of scope e >>= λ v. arguments_of scope ps es >>= λ others. Ok ((p.name, v) ∷ others)
+arguments_of scope (p ∷ ps) (e ∷ es) = do
+  v ← value_of scope e
+  others ← arguments_of scope ps es
+  Ok ((p.name, v) ∷ others)
 
 -- ---- what opens no level
 
@@ -70,12 +72,18 @@ module _ (opens : Opens) (scope : Scope) where
   abbrev pub unit_by : Unit → Checked outline.Assertion
   unit_by (Truth place) = Ok outline.Truth
   unit_by (Falsity place) = Ok outline.Falsity
-  unit_by (Comparison left relation right) = sum_of scope left >>= λ l. sum_of scope right >>= λ r. Ok (outline.Comparison l relation r)
+  unit_by (Comparison left relation right) = do
+    l ← sum_of scope left
+    r ← sum_of scope right
+    Ok (outline.Comparison l relation r)
   unit_by u = opens.unit scope u
 
   abbrev pub conjuncts_by : Conjunction → Checked (List outline.Assertion)
   conjuncts_by no_unit = Ok []
-  conjuncts_by (unit u others) = unit_by u >>= λ a. conjuncts_by others >>= λ all. Ok (spliced And a ++ all)
+  conjuncts_by (unit u others) = do
+    a ← unit_by u
+    all ← conjuncts_by others
+    Ok (spliced And a ++ all)
 
   abbrev pub conjunction_by : Conjunction → Checked outline.Assertion
   conjunction_by (unit u no_unit) = unit_by u
@@ -83,7 +91,10 @@ module _ (opens : Opens) (scope : Scope) where
 
   abbrev pub disjuncts_by : Disjunction → Checked (List outline.Assertion)
   disjuncts_by no_part = Ok []
-  disjuncts_by (part c others) = conjunction_by c >>= λ a. disjuncts_by others >>= λ all. Ok (spliced Or a ++ all)
+  disjuncts_by (part c others) = do
+    a ← conjunction_by c
+    all ← disjuncts_by others
+    Ok (spliced Or a ++ all)
 
   abbrev pub disjunction_by : Disjunction → Checked outline.Assertion
   disjunction_by (part c no_part) = conjunction_by c
@@ -91,7 +102,10 @@ module _ (opens : Opens) (scope : Scope) where
 
   abbrev pub assertion_by : Assertion → Checked outline.Assertion
   assertion_by (Alone d) = disjunction_by d
-  assertion_by (Implies d place right) = disjunction_by d >>= λ a. opens.implied scope place right >>= λ b. Ok (outline.Implication a b)
+  assertion_by (Implies d place right) = do
+    a ← disjunction_by d
+    b ← opens.implied scope place right
+    Ok (outline.Implication a b)
 
 -- ---- levels
 
@@ -107,7 +121,9 @@ abbrev pub operands_by : Opens → Connective → Unit → Scope → Checked (Li
 operands_by inner connective u scope = unit_by inner scope u >>= λ a. Ok (spliced connective a)
 
 abbrev pub quantified_by : Opens → Connective → Scope → Binder → Unit → Checked outline.Assertion
-quantified_by inner connective scope binder u = instances scope binder (operands_by inner connective u) >>= λ all. Ok (joined connective all)
+quantified_by inner connective scope binder u = do
+  all ← instances scope binder (operands_by inner connective u)
+  Ok (joined connective all)
 
 abbrev pub negation_by : Opens → Scope → Unit → Checked outline.Assertion
 negation_by inner scope u = unit_by inner scope u >>= λ a. Ok (outline.Negation a)
@@ -120,10 +136,16 @@ opened_by inner scope (All place binder u) = quantified_by inner And scope binde
 opened_by inner scope (Any place binder u) = quantified_by inner Or scope binder u
 opened_by inner scope u = unit_by inner scope u
 
--- where so many levels are left
+-- where this number of levels is left
 abbrev pub opens : ℕ → Opens
-opens zero = record { unit = λ scope u. refused TooDeep (first_word u); implied = λ scope place right. refused TooDeep place }
-opens (suc n) = record { unit = opened_by (opens n); implied = λ scope place right. assertion_by (opens n) scope right }
+opens zero = record {
+  unit = λ scope u. refused TooDeep (first_word u);
+  implied = λ scope place right. refused TooDeep place;
+}
+opens (suc n) = record {
+  unit = opened_by (opens n);
+  implied = λ scope place right. assertion_by (opens n) scope right;
+}
 
 -- the assertion of a note, a test or a guard, with at most 100 levels
 abbrev pub assertion_of : Scope → Assertion → Checked outline.Assertion

@@ -33,7 +33,8 @@ constant_as None names value = value_of (top names) value
 abbrev pub constants_in : List Bound → Names → List template.Constant → Checked Names
 constants_in values names [] = Ok names
 constants_in values names (c ∷ others) =
-    constant_as (given_to c.name.name values) names c.value >>= λ v. constants_in values (declared_with c.name.name (Value v) names) others
+    constant_as (given_to c.name.name values) names c.value
+    >>= λ v. constants_in values (declared_with c.name.name (Value v) names) others
 
 -- ---- variables
 
@@ -45,9 +46,13 @@ abbrev pub elements_of : RawName → Range → Checked (List RawName)
 elements_of name range = gathered (one_element name) (numbers_of range)
 
 -- the variables that a name declares, and what it stands for
-abbrev pub variables_of : Names → RawName → Option template.Bounds → Checked (List RawName × Meaning)
+abbrev pub variables_of : Names → RawName → Option template.Bounds
+    → Checked (List RawName × Meaning)
 variables_of names name None = Ok (name ∷ [], Variable)
-variables_of names name (Some bounds) = range_of (top names) bounds >>= λ range. elements_of name range >>= λ all. Ok (all, Family range)
+variables_of names name (Some bounds) = do
+  range ← range_of (top names) bounds
+  all ← elements_of name range
+  Ok (all, Family range)
 
 abbrev pub variables_in : Names → List template.Variable → Checked (Names × List RawName)
 variables_in names [] = Ok (names, [])
@@ -57,7 +62,10 @@ variables_in names (v ∷ others) = do
   Ok (rest.0, own.0 ++ rest.1)
 
 abbrev pub auxiliary : ℤ → RawName → RawAux
-auxiliary value name = record { name = name; value = record { sign = sign_of value; number = unsigned_abs value; span = name.span } }
+auxiliary value name = record {
+  name = name;
+  value = record { sign = sign_of value; number = unsigned_abs value; span = name.span };
+}
 
 -- the initial value is evaluated once, behind the elements
 abbrev pub auxiliaries_in : Names → List template.Auxiliary → Checked (Names × List RawAux)
@@ -81,7 +89,8 @@ main_of scope (Some body) = sequence_of scope body >>= λ q. Ok (Some q)
 abbrev pub one_process : template.Sequence → Scope → Checked (List outline.Seq)
 one_process body scope = sequence_of scope body >>= λ q. Ok (q ∷ [])
 
-abbrev pub process_by : Scope → Option template.Binder → template.Sequence → Checked (List outline.Seq)
+abbrev pub process_by : Scope → Option template.Binder → template.Sequence
+    → Checked (List outline.Seq)
 process_by scope None body = one_process body scope
 process_by scope (Some binder) body = instances scope binder (one_process body)
 
@@ -96,14 +105,24 @@ some_of cobegin (q ∷ others) = Ok (q ∷ others)
 abbrev pub processes_of : Scope → Span → List template.Process → Checked (List outline.Seq)
 processes_of scope cobegin processes = gathered (process_of scope) processes >>= some_of cobegin
 
-abbrev pub outline_in : Scope → template.Template → List RawName → List RawAux → Checked outline.Outline
+abbrev pub outline_in : Scope → template.Template → List RawName → List RawAux
+    → Checked outline.Outline
 outline_in scope t vars auxes = do
   pre ← note_of scope t.pre
   prologue ← main_of scope t.prologue
   processes ← processes_of scope t.cobegin t.processes
   epilogue ← main_of scope t.epilogue
   post ← note_of scope t.post
-  Ok (record { vars = vars; auxes = auxes; pre = pre; prologue = prologue; cobegin = t.cobegin; processes = processes; epilogue = epilogue; post = post })
+  Ok (record {
+    vars = vars;
+    auxes = auxes;
+    pre = pre;
+    prologue = prologue;
+    cobegin = t.cobegin;
+    processes = processes;
+    epilogue = epilogue;
+    post = post;
+  })
 
 -- the outline of a template where constants have the values that are given, or its first fault
 abbrev pub outline_by : template.Template → List Bound → Checked outline.Outline

@@ -15,7 +15,11 @@ front_of items last = (map item_of items, note_of last)
 
 abbrev pub with_steps : Front → List Step → Front
 with_steps front [] = front
-with_steps front (s ∷ steps) = with_steps (front.0 ++ record { before = front.1; place = s.stmt.place; stmt = s.stmt.value } ∷ [], s.after) steps
+with_steps front (s ∷ steps) =
+    with_steps (
+      front.0 ++ record { before = front.1; place = s.stmt.place; stmt = s.stmt.value } ∷ [],
+      s.after,
+    ) steps
 
 -- steps after others
 abbrev pub onto : Front → Checked (List Step) → Checked Front

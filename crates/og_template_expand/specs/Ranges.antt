@@ -14,7 +14,8 @@ abbrev pub range_between : ℤ → ℤ → Span → Checked Range
 range_between low high place =
     if int_lt low (pos 0) then refused BadRange place
     else (if int_lt high low then Ok (record { low = nat_abs low; count = 0 })
-    else (if nat_lt (nat_abs (high -ℤ low)) 256 then Ok (record { low = nat_abs low; count = nat_abs (high -ℤ low) + 1 })
+    else (if nat_lt (nat_abs (high -ℤ low)) 256
+    then Ok (record { low = nat_abs low; count = nat_abs (high -ℤ low) + 1 })
     else refused BadRange place))
 
 abbrev pub range_of : Scope → Bounds → Checked Range
@@ -23,13 +24,17 @@ range_of scope bounds = do
   high ← value_of scope bounds.high
   range_between low high bounds.place
 
--- so many numbers from this one on
+-- this number and those behind it, as many as the second says
 abbrev pub counted_from : ℕ → ℕ → List ℤ
 counted_from low zero = []
 counted_from low (suc n) = pos low ∷ counted_from (low + 1) n
 
 abbrev pub numbers_of : Range → List ℤ
 numbers_of range = counted_from range.low range.count
+
+-- the values of a binder's range, rising
+abbrev pub values_of : Scope → Binder → Checked (List ℤ)
+values_of scope binder = range_of scope binder.range >>= λ range. Ok (numbers_of range)
 
 abbrev pub is_in : ℤ → Range → Bool
 is_in (pos n) range = nat_le range.low n && nat_lt n (range.low + range.count)
@@ -52,7 +57,8 @@ holds scope test = do
 -- tests are asked from the left up to the first that fails
 abbrev pub all_hold : Scope → List Test → Checked Bool
 all_hold scope [] = Ok true
-all_hold scope (test ∷ tests) = holds scope test >>= λ h. if h then all_hold scope tests else Ok false
+all_hold scope (test ∷ tests) =
+    holds scope test >>= λ h. if h then all_hold scope tests else Ok false
 
 -- the scope in which a binder's name stands for a number, if that is one of its instances
 abbrev pub entered : Scope → Binder → ℤ → Checked (Option Scope)
@@ -65,9 +71,10 @@ abbrev pub inside : {Y : Type 0} → (Scope → Checked (List Y)) → Option Sco
 inside body None = Ok []
 inside body (Some scope) = body scope
 
-abbrev pub instance_of : {Y : Type 0} → Scope → Binder → (Scope → Checked (List Y)) → ℤ → Checked (List Y)
+abbrev pub instance_of : {Y : Type 0} → Scope → Binder → (Scope → Checked (List Y)) → ℤ
+    → Checked (List Y)
 instance_of scope binder body value = entered scope binder value >>= inside body
 
 -- what is made for each instance of a binder, one after the other
 abbrev pub instances : {Y : Type 0} → Scope → Binder → (Scope → Checked (List Y)) → Checked (List Y)
-instances scope binder body = range_of scope binder.range >>= λ range. gathered (instance_of scope binder body) (numbers_of range)
+instances scope binder body = values_of scope binder >>= gathered (instance_of scope binder body)

@@ -7,7 +7,7 @@ use Rattle.og_template.specs.declared.fault.FaultKind.TheVariants.{Undeclared, W
 use Rattle.og_template_expand.specs.Trees.{Definition}
 use Rattle.og_template_expand.specs.Answer.{Checked, ◌>>=◌, refused}
 
--- so many numbers from the lowest on
+-- `count` numbers from the lowest on
 pub record Range : Type 0 where
   pub low : ℕ
   pub count : ℕ
@@ -33,7 +33,8 @@ pub record Scope : Type 0 where
 -- what the last binding of a name gives, or else this
 abbrev pub last_value : Option ℤ → List Bound → List ℕ → Option ℤ
 last_value found [] name = found
-last_value found (b ∷ others) name = last_value (if bytes_eq b.0 name then Some b.1 else found) others name
+last_value found (b ∷ others) name =
+    last_value (if bytes_eq b.0 name then Some b.1 else found) others name
 
 abbrev pub meaning_as : Option ℤ → Option Meaning → RawName → Checked Meaning
 meaning_as (Some v) declared name = Ok (Value v)
@@ -41,7 +42,8 @@ meaning_as None (Some m) name = Ok m
 meaning_as None None name = refused Undeclared name.span
 
 abbrev pub meaning_of : Scope → RawName → Checked Meaning
-meaning_of scope name = meaning_as (last_value None scope.bound name.name) (lookup (bytes_eq name.name) scope.declared) name
+meaning_of scope name = meaning_as (last_value None scope.bound name.name)
+    (lookup (bytes_eq name.name) scope.declared) name
 
 -- the number, the family or the assertion, or 71
 abbrev pub number_as : RawName → Meaning → Checked ℤ
@@ -68,8 +70,10 @@ defined_of scope name = meaning_of scope name >>= defined_as name
 -- the names with one more; one that is declared anew keeps its place
 abbrev pub declared_with : List ℕ → Meaning → Names → Names
 declared_with name m [] = (name, m) ∷ []
-declared_with name m (n ∷ others) = if bytes_eq name n.0 then (n.0, m) ∷ others else n ∷ declared_with name m others
+declared_with name m (n ∷ others) =
+    if bytes_eq name n.0 then (n.0, m) ∷ others else n ∷ declared_with name m others
 
 -- the scope with one more name, which is bound to a number
 abbrev pub bound_to : Scope → List ℕ → ℤ → Scope
-bound_to scope name value = record { declared = scope.declared; bound = scope.bound ++ (name, value) ∷ [] }
+bound_to scope name value =
+    record { declared = scope.declared; bound = scope.bound ++ (name, value) ∷ [] }

@@ -1,5 +1,5 @@
 -- What the program's results and scopes stand for.
-use Rattle.std.specs.Prelude.{◌≡◌, ⊤, ℕ, ℤ, List, map, Result, Ok, Err}
+use Rattle.std.specs.Prelude.{◌≡◌, ⊤, map, Result, Ok, Err}
 use Rattle.og_template_expand.specs.declared.fault.Stop.{Stop}
 use Rattle.og_template_expand.specs.declared.fault.Stop.TheVariants as stops
 use Rattle.og_template_expand.specs.declared.origin.Binding.{Binding}

@@ -23,20 +23,27 @@ target_of scope name (Some index) = element_of scope name index
 
 abbrev pub basic_of : Scope → Basic → Checked outline.Basic
 basic_of scope Skip = Ok outline.Skip
-basic_of scope (Assign name index sum) = target_of scope name index >>= λ x. sum_of scope sum >>= λ s. Ok (outline.Assign x s)
+basic_of scope (Assign name index sum) = do
+  x ← target_of scope name index
+  s ← sum_of scope sum
+  Ok (outline.Assign x s)
 
 abbrev pub simple_in : Scope → Basic → Span → Checked (List (Placed outline.Basic))
-simple_in scope basic place = basic_of scope basic >>= λ b. Ok (record { place = place; value = b } ∷ [])
+simple_in scope basic place = do
+  b ← basic_of scope basic
+  Ok (record { place = place; value = b } ∷ [])
 
 abbrev pub simple_by : Scope → Option Binder → Basic → Span → Checked (List (Placed outline.Basic))
 simple_by scope None basic place = simple_in scope basic place
-simple_by scope (Some binder) basic place = instances scope binder (λ inner. simple_in inner basic place)
+simple_by scope (Some binder) basic place =
+    instances scope binder (λ inner. simple_in inner basic place)
 
 abbrev pub simple_of : Scope → Simple → Checked (List (Placed outline.Basic))
 simple_of scope s = simple_by scope s.binder s.basic s.place
 
 -- an await without an element is 79, at its place
-abbrev pub await_with : outline.Assertion → List (Placed outline.Basic) → Span → Checked outline.Stmt
+abbrev pub await_with : outline.Assertion → List (Placed outline.Basic) → Span
+    → Checked outline.Stmt
 await_with guard [] place = refused NothingLeft place
 await_with guard (b ∷ body) place = Ok (outline.Await guard (b ∷ body))
 
@@ -59,19 +66,38 @@ sequence_with place before (s ∷ steps) = Ok (outline.sequence before (s ∷ st
 abbrev mutual
   pub statement_of : Scope → Span → Statement → Checked outline.Stmt
   statement_of scope place (Once basic) = basic_of scope basic >>= λ b. Ok (outline.Simple b)
-  statement_of scope place (If test branch) = assertion_of scope test >>= λ a. sequence_of scope branch >>= λ q. Ok (outline.If a q)
-  statement_of scope place (IfElse test branch other) = assertion_of scope test >>= λ a. sequence_of scope branch >>= λ q. sequence_of scope other >>= λ r. Ok (outline.IfElse a q r)
-  statement_of scope place (While test body) = assertion_of scope test >>= λ a. sequence_of scope body >>= λ q. Ok (outline.While a q)
+  statement_of scope place (If test branch) = do
+    a ← assertion_of scope test
+    q ← sequence_of scope branch
+    Ok (outline.If a q)
+  statement_of scope place (IfElse test branch other) = do
+    a ← assertion_of scope test
+    q ← sequence_of scope branch
+    r ← sequence_of scope other
+    Ok (outline.IfElse a q r)
+  statement_of scope place (While test body) = do
+    a ← assertion_of scope test
+    q ← sequence_of scope body
+    Ok (outline.While a q)
   statement_of scope place (Await guard body) = await_of scope guard body place
 
   -- the steps of a `for` are those of its instances, one after the other
   pub one_of : Scope → Step → Checked (List outline.Step)
-  one_of scope (Stated statement place after) = statement_of scope place statement >>= λ s. note_of scope after >>= λ n. Ok (stepped s place n ∷ [])
+  one_of scope (Stated statement place after) = do
+    s ← statement_of scope place statement
+    n ← note_of scope after
+    Ok (stepped s place n ∷ [])
   one_of scope (Repeated binder steps) = instances scope binder (λ inner. steps_of inner steps)
 
   pub steps_of : Scope → Steps → Checked (List outline.Step)
   steps_of scope no_step = Ok []
-  steps_of scope (step one others) = one_of scope one >>= λ these. steps_of scope others >>= λ all. Ok (these ++ all)
+  steps_of scope (step one others) = do
+    these ← one_of scope one
+    all ← steps_of scope others
+    Ok (these ++ all)
 
   pub sequence_of : Scope → Sequence → Checked outline.Seq
-  sequence_of scope (sequence before steps) = note_of scope before >>= λ b. steps_of scope steps >>= λ all. sequence_with before.place b all
+  sequence_of scope (sequence before steps) = do
+    b ← note_of scope before
+    all ← steps_of scope steps
+    sequence_with before.place b all

@@ -1,11 +1,9 @@
 -- The terms of sums.
-use Rattle.std.specs.Prelude.{ℕ, ◌*◌, ◌^◌, ℤ, pos, negsuc, int_lt, unsigned_abs, nat_lt, nat_le, Bool, true, false, List, [], ◌∷◌, ◌++◌, length, Ok, if◌then◌else◌}
+use Rattle.std.specs.Prelude.{ℕ, ◌*◌, ◌^◌, ℤ, pos, negsuc, unsigned_abs, nat_le, List, [], ◌∷◌, ◌++◌, length, Ok, if◌then◌else◌}
 use Rattle.std.specs.Fmt.{signed_decimal}
 use Rattle.og_text.specs.declared.place.Span.{Span}
-use Rattle.og_parse.specs.Language.{Placed}
 use Rattle.og_parse.specs.declared.raw.RawName.{RawName}
 use Rattle.og_parse.specs.declared.raw.RawTerm.{RawTerm}
-use Rattle.og_parse.specs.declared.raw.RawFactor.{RawFactor}
 use Rattle.og_parse.specs.declared.raw.RawFactor.TheVariants as factors
 use Rattle.og_parse.specs.declared.raw.Sign.{Sign}
 use Rattle.og_parse.specs.declared.raw.Sign.TheVariants.{Plus, Minus}
@@ -26,12 +24,14 @@ element_bytes family index = family ++ 95 ∷ signed_decimal index
 -- a name of at most 64 bytes, or 3, at the family's name
 abbrev pub element_name : RawName → ℤ → Checked RawName
 element_name family index =
-    if nat_le (length (element_bytes family.name index)) 64 then Ok (record { name = element_bytes family.name index; span = family.span })
+    if nat_le (length (element_bytes family.name index)) 64
+    then Ok (record { name = element_bytes family.name index; span = family.span })
     else refused NameTooLong family.span
 
 -- the element that an index picks, or 73
 abbrev pub element_in : Range → RawName → ℤ → Checked RawName
-element_in range name index = if is_in index range then element_name name index else refused OutOfRange name.span
+element_in range name index =
+    if is_in index range then element_name name index else refused OutOfRange name.span
 
 abbrev pub element_of : Scope → RawName → Expression → Checked RawName
 element_of scope name index = do
@@ -81,11 +81,14 @@ single sign (Of name) = record { sign = sign; factor = factors.Variable name }
 -- a number times a number is one number, of at most 2^63 in magnitude, or 74
 abbrev pub number_product : Sign → ℕ → ℕ → Span → Checked RawTerm
 number_product sign c d place =
-    if nat_le (c * d) (2 ^ 63) then Ok (record { sign = sign; factor = factors.Number (c * d) }) else refused ValueTooLarge place
+    if nat_le (c * d) (2 ^ 63) then Ok (record { sign = sign; factor = factors.Number (c * d) })
+    else refused ValueTooLarge place
 
 abbrev pub product_of : Sign → Operand → Operand → Span → Checked RawTerm
-product_of sign (Whole left c) (Whole right d) place = number_product (times sign (times left right)) c d place
-product_of sign (Whole left c) (Of name) place = Ok (record { sign = times sign left; factor = factors.Product c name })
+product_of sign (Whole left c) (Whole right d) place =
+    number_product (times sign (times left right)) c d place
+product_of sign (Whole left c) (Of name) place =
+    Ok (record { sign = times sign left; factor = factors.Product c name })
 product_of sign (Of name) other place = refused WrongKind name.span
 
 abbrev pub product_in : Scope → Sign → Factor → Factor → Span → Checked RawTerm
@@ -102,14 +105,24 @@ or_zero sign (t ∷ ts) = t ∷ ts
 -- terms, where each sign is turned behind a minus
 abbrev mutual
   pub kind_of : Scope → Sign → Span → Kind → Checked (List RawTerm)
-  kind_of scope sign place (Single factor) = operand_of scope factor >>= λ x. Ok (single sign x ∷ [])
-  kind_of scope sign place (Product left right) = product_in scope sign left right place >>= λ t. Ok (t ∷ [])
-  kind_of scope sign place (Total binder terms) = instances scope binder (λ inner. terms_of inner sign terms) >>= λ all. Ok (or_zero sign all)
+  kind_of scope sign place (Single factor) = do
+    x ← operand_of scope factor
+    Ok (single sign x ∷ [])
+  kind_of scope sign place (Product left right) = do
+    t ← product_in scope sign left right place
+    Ok (t ∷ [])
+  kind_of scope sign place (Total binder terms) = do
+    all ← instances scope binder (λ inner. terms_of inner sign terms)
+    Ok (or_zero sign all)
 
   pub terms_of : Scope → Sign → Terms → Checked (List RawTerm)
   terms_of scope sign no_term = Ok []
   terms_of scope sign (term own place kind others) =
-      kind_of scope (times sign own) place kind >>= λ ts. terms_of scope sign others >>= λ more. Ok (ts ++ more)
+      kind_of scope (times sign own) place kind
+      >>= λ ts. terms_of scope sign others
+      >>= λ more. Ok (ts ++ more)
 
 abbrev pub sum_of : Scope → Sum → Checked outline.Sum
-sum_of scope sum = terms_of scope Plus sum.value >>= λ terms. Ok (record { place = sum.place; value = terms })
+sum_of scope sum = do
+  terms ← terms_of scope Plus sum.value
+  Ok (record { place = sum.place; value = terms })

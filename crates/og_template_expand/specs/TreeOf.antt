@@ -69,7 +69,8 @@ abbrev pub bounds_of : declared_bounds.Bounds → Bounds
 bounds_of b = record { low = expression_of b.low; high = expression_of b.high; place = b.span }
 
 abbrev pub test_of : declared_test.Test → Test
-test_of t = record { left = expression_of t.left; relation = t.relation; right = expression_of t.right }
+test_of t =
+    record { left = expression_of t.left; relation = t.relation; right = expression_of t.right }
 
 abbrev pub binder_of : declared_binder.Binder → Binder
 binder_of b = record { name = b.name; range = bounds_of b.range; tests = map test_of b.tests.items }
@@ -144,19 +145,24 @@ unit_step (Unit-F.All span binder inner) = All span (binder_of binder) inner.val
 unit_step (Unit-F.Any span binder inner) = Any span (binder_of binder) inner.value
 
 abbrev pub assertion_of : declared_assertion.Assertion → Assertion
-assertion_of = fold-Assertion Unit Assertion Conjunction Disjunction unit_step assertion_step conjunction_step disjunction_step
+assertion_of = fold-Assertion Unit Assertion Conjunction Disjunction unit_step assertion_step
+    conjunction_step disjunction_step
 
 abbrev pub disjunction_of : declared_disjunction.Disjunction → Disjunction
-disjunction_of = fold-Disjunction Unit Assertion Conjunction Disjunction unit_step assertion_step conjunction_step disjunction_step
+disjunction_of = fold-Disjunction Unit Assertion Conjunction Disjunction unit_step assertion_step
+    conjunction_step disjunction_step
 
 abbrev pub conjunction_of : declared_conjunction.Conjunction → Conjunction
-conjunction_of = fold-Conjunction Unit Assertion Conjunction Disjunction unit_step assertion_step conjunction_step disjunction_step
+conjunction_of = fold-Conjunction Unit Assertion Conjunction Disjunction unit_step assertion_step
+    conjunction_step disjunction_step
 
 abbrev pub unit_of : declared_unit.Unit → Unit
-unit_of = fold-Unit Unit Assertion Conjunction Disjunction unit_step assertion_step conjunction_step disjunction_step
+unit_of = fold-Unit Unit Assertion Conjunction Disjunction unit_step assertion_step conjunction_step
+    disjunction_step
 
 abbrev pub definition_of : declared_named.Named → Definition
-definition_of d = record { name = d.name; parameters = d.parameters.items; assertion = assertion_of d.assertion }
+definition_of d = record
+    { name = d.name; parameters = d.parameters.items; assertion = assertion_of d.assertion }
 
 abbrev pub note_of : declared_note.Note → Note
 note_of n = record { place = n.span; value = assertion_of n.assertion }
@@ -168,7 +174,8 @@ basic_of basics.Skip = Skip
 basic_of (basics.Assign name index sum) = Assign name (option_map expression_of index) (sum_of sum)
 
 abbrev pub simple_of : declared_element.Element → Simple
-simple_of e = record { binder = option_map binder_of e.binder; basic = basic_of e.basic; place = e.span }
+simple_of e =
+    record { binder = option_map binder_of e.binder; basic = basic_of e.basic; place = e.span }
 
 abbrev pub steps_then : List Step → Steps
 steps_then [] = no_step
@@ -182,7 +189,8 @@ abbrev pub statement_step : Statement-F Statement Step Sequence → Statement
 statement_step (Statement-F.Basic b) = Once (basic_of b)
 statement_step (Statement-F.If test branch other) = choice (assertion_of test) branch other
 statement_step (Statement-F.While test body) = While (assertion_of test) body
-statement_step (Statement-F.Await guard body) = Await (assertion_of guard) (map simple_of body.items)
+statement_step (Statement-F.Await guard body) =
+    Await (assertion_of guard) (map simple_of body.items)
 
 abbrev pub sequence_step : Sequence-F Statement Step Sequence → Sequence
 sequence_step s = sequence (note_of s.before) (steps_then s.steps.items)

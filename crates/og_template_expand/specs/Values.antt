@@ -20,7 +20,8 @@ kept value place = if fits value then Ok value else refused ValueTooLarge place
 
 -- the remainder from 0 to the modulus less 1, or 75 where that is below 1
 abbrev pub remainder : ℤ → ℤ → Span → Checked ℤ
-remainder value modulus place = if int_lt (pos 0) modulus then Ok (int_rem_euclid value modulus) else refused BadModulus place
+remainder value modulus place =
+    if int_lt (pos 0) modulus then Ok (int_rem_euclid value modulus) else refused BadModulus place
 
 abbrev pub operated : ℤ → Operator → Span → ℤ → Checked ℤ
 operated left operators.Plus place right = kept (left +ℤ right) place
@@ -40,4 +41,6 @@ abbrev mutual
   pub chained : Scope → ℤ → Links → Checked ℤ
   chained scope left no_link = Ok left
   chained scope left (link operator place operand others) =
-      value_of scope operand >>= λ right. operated left operator place right >>= λ v. chained scope v others
+      value_of scope operand
+      >>= λ right. operated left operator place right
+      >>= λ v. chained scope v others

@@ -15,7 +15,8 @@ abbrev pub variable_of : declared_variable.Variable → Variable
 variable_of v = record { name = v.name; family = option_map bounds_of v.family }
 
 abbrev pub auxiliary_of : declared_auxiliary.Auxiliary → Auxiliary
-auxiliary_of a = record { name = a.name; family = option_map bounds_of a.family; value = expression_of a.value }
+auxiliary_of a = record
+    { name = a.name; family = option_map bounds_of a.family; value = expression_of a.value }
 
 abbrev pub process_of : declared_process.Process → Process
 process_of p = record { binder = option_map binder_of p.binder; body = sequence_of p.body }

@@ -1,9 +1,8 @@
 //! Assertions, with uses, quantifiers and lists as og has them.
 
-ghost use Rattle.std.specs.Prelude.{◌≡◌, ◌++◌, ◌∷◌, [], map, IfOk, OnOk};
+ghost use Rattle.std.specs.Prelude.{◌≡◌, map, IfOk};
 ghost use Rattle.og_parse.specs.Trees as outlines;
 ghost use Rattle.og_parse.specs.TreeOf.{assertion_of as tree_of};
-ghost use Rattle.og_template_expand.specs.declared.assertions.Connective.TheVariants.{And, Or};
 ghost use Rattle.og_template_expand.specs.Answer.{behind};
 ghost use Rattle.og_template_expand.specs.Ranges.{instances, instance_of};
 ghost use Rattle.og_template_expand.specs.Trees.{Comparison, Implies};
@@ -11,7 +10,8 @@ ghost use Rattle.og_template_expand.specs.Assertions as meaning;
 ghost use Rattle.og_template_expand.specs.Scoped.{IsExpanded, binding_of, scope_of};
 ghost use Rattle.og_template_expand.specs.TreeOf.{expression_of, binder_of, sum_of, unit_of, conjunction_of, disjunction_of, assertion_of, conjoined, disjoined};
 
-use crate::binders::{enter, numbers, range};
+use crate::binders::{enter, values};
+use crate::connective::{Connective, joined, put_spliced};
 use crate::expander::Expander;
 use crate::exprs::value;
 use crate::fault::{Stop, fault};
@@ -26,85 +26,6 @@ use std::alloc::{AllocError, Global};
 /// The greatest number of levels in a note, a test or a guard.
 const LEVELS: u32 = 100;
 
-/// What joins the operands of a list.
-#[derive(Clone, Copy, Drop, PartialEq, Eq)]
-pub(crate) enum Connective {
-    And,
-    Or,
-}
-
-// The list of these operands: one is itself, none is `true` or `false`.
-fn joined(connective: Connective, mut operands: Vec<RawAssert>) -> RawAssert
-    ensures { tree_of result ≡ meaning.joined connective (map tree_of operands.items) }
-{
-    if operands.len() == 1 {
-        return operands.remove(0);
-    }
-    match connective {
-        Connective::And if operands.is_empty() => RawAssert::True,
-        Connective::Or if operands.is_empty() => RawAssert::False,
-        Connective::And => RawAssert::And(operands),
-        Connective::Or => RawAssert::Or(operands),
-    }
-}
-
-// Moves operands to the end of others.
-fn put_all(mut operands: Vec<RawAssert>, all: &mut Vec<RawAssert>) -> Result<(), AllocError>
-    ensures { OnOk result (map tree_of all.new.items ≡ map tree_of all.old.items
-        ++ map tree_of operands.items) }
-{
-    all.append(&mut operands)
-}
-
-// Adds an operand of `and`; a conjunction gives its operands.
-#[tactic(auto, using(crate::proofs::Spliced::and_in_and, crate::proofs::Spliced::or_in_and))]
-fn put_conjunct(operand: RawAssert, all: &mut Vec<RawAssert>) -> Result<(), AllocError>
-    ensures { OnOk result (map tree_of all.new.items ≡ map tree_of all.old.items
-        ++ meaning.spliced And (tree_of operand)) }
-{
-    match operand {
-        RawAssert::And(operands) => put_all(operands, all),
-        RawAssert::True
-        | RawAssert::False
-        | RawAssert::Compare(_, _, _)
-        | RawAssert::Not(_)
-        | RawAssert::Or(_)
-        | RawAssert::Implies(_, _) => Ok(all.push(operand)?),
-    }
-}
-
-// Adds an operand of `or`; a disjunction gives its operands.
-#[tactic(auto, using(crate::proofs::Spliced::or_in_or, crate::proofs::Spliced::and_in_or))]
-fn put_disjunct(operand: RawAssert, all: &mut Vec<RawAssert>) -> Result<(), AllocError>
-    ensures { OnOk result (map tree_of all.new.items ≡ map tree_of all.old.items
-        ++ meaning.spliced Or (tree_of operand)) }
-{
-    match operand {
-        RawAssert::Or(operands) => put_all(operands, all),
-        RawAssert::True
-        | RawAssert::False
-        | RawAssert::Compare(_, _, _)
-        | RawAssert::Not(_)
-        | RawAssert::And(_)
-        | RawAssert::Implies(_, _) => Ok(all.push(operand)?),
-    }
-}
-
-// Adds an operand; a list of the same connective gives its operands.
-fn put_spliced(
-    connective: Connective,
-    operand: RawAssert,
-    all: &mut Vec<RawAssert>,
-) -> Result<(), AllocError>
-    ensures { OnOk result (map tree_of all.new.items ≡ map tree_of all.old.items
-        ++ meaning.spliced connective (tree_of operand)) }
-{
-    match connective {
-        Connective::And => put_conjunct(operand, all),
-        Connective::Or => put_disjunct(operand, all),
-    }
-}
-
 // The values of arguments, with the names of the parameters.
 fn arguments_of<'a>(
     scope: &Scope<'_, '_>,
@@ -112,8 +33,9 @@ fn arguments_of<'a>(
     parameters: &'a [RawName],
     arguments: &[Expr],
 ) -> Result<Vec<Binding<'a>>, Stop>
-    ensures { IsExpanded (λ v. map binding_of v.items) result (meaning.arguments_of
-        (scope_of scope.now) parameters.now (map expression_of arguments.now)) }
+    ensures { IsExpanded (λ v. map binding_of v.items) result
+        (meaning.arguments_of (scope_of scope.now) parameters.now
+        (map expression_of arguments.now)) }
 {
     let mut all = Vec::new(work.alloc);
     let mut rest = parameters;
@@ -179,8 +101,9 @@ fn put_instance<'a>(
     inner: &'a Unit,
     all: &mut Vec<RawAssert>,
 ) -> Result<(), Stop>
-    ensures { IsExpanded (λ _. map tree_of all.new.items) result (behind (map tree_of all.old.items)
-        (instance_of (scope_of scope.now) (binder_of binder.now) (meaning.operands_by (meaning.opens levels) connective (unit_of inner.now)) value)) }
+    ensures { IsExpanded (λ _. map tree_of all.new.items) result
+        (behind (map tree_of all.old.items) (instance_of (scope_of scope.now) (binder_of binder.now)
+        (meaning.operands_by (meaning.opens levels) connective (unit_of inner.now)) value)) }
 {
     match enter(scope, work, binder, value)? {
         Some(within) => {
@@ -201,12 +124,11 @@ fn instances_of<'a>(
     binder: &'a Binder,
     inner: &'a Unit,
 ) -> Result<Vec<RawAssert>, Stop>
-    ensures { IsExpanded (λ v. map tree_of v.items) result (instances (scope_of scope.now)
-        (binder_of binder.now)
+    ensures { IsExpanded (λ v. map tree_of v.items) result
+        (instances (scope_of scope.now) (binder_of binder.now)
         (meaning.operands_by (meaning.opens levels) connective (unit_of inner.now))) }
 {
-    let range = range(scope, work, &binder.range)?;
-    let values = numbers(work.alloc, range)?;
+    let values = values(scope, work, binder)?;
     let mut all = Vec::new(work.alloc);
     for value in &values {
         put_instance(
@@ -224,8 +146,8 @@ fn negation<'a>(
     levels: u32,
     inner: &'a Unit,
 ) -> Result<RawAssert, Stop>
-    ensures { IsExpanded tree_of result
-        (meaning.negation_by (meaning.opens levels) (scope_of scope.now) (unit_of inner.now)) }
+    ensures { IsExpanded tree_of result (meaning.negation_by (meaning.opens levels)
+        (scope_of scope.now) (unit_of inner.now)) }
 {
     let inner = unit(scope, work, levels, inner)?;
     Ok(RawAssert::Not(Box::new(work.alloc, inner)?))
@@ -248,7 +170,7 @@ fn quantified<'a>(
     Ok(joined(connective, all))
 }
 
-// What a unit is that opens a level, where so many are left within it.
+// What a unit is that opens a level; within it `levels` are left.
 #[cycle(assertions)]
 fn opened<'a>(
     scope: &Scope<'_, 'a>,
@@ -256,8 +178,8 @@ fn opened<'a>(
     levels: u32,
     unit: &'a Unit,
 ) -> Result<RawAssert, Stop>
-    ensures { IsExpanded tree_of result
-        (meaning.opened_by (meaning.opens levels) (scope_of scope.now) (unit_of unit.now)) }
+    ensures { IsExpanded tree_of result (meaning.opened_by (meaning.opens levels)
+        (scope_of scope.now) (unit_of unit.now)) }
 {
     match unit {
         Unit::True(_) => Ok(RawAssert::True),
@@ -291,7 +213,7 @@ fn place(unit: &Unit) -> Span
     }
 }
 
-// A unit that opens a level, of which so many are left.
+// A unit that opens a level, of which `levels` are left.
 #[cycle(assertions)]
 fn deeper<'a>(
     scope: &Scope<'_, 'a>,
@@ -301,8 +223,8 @@ fn deeper<'a>(
     span: Span,
 ) -> Result<RawAssert, Stop>
     requires { span ≡ meaning.first_word (unit_of unit.now) }
-    ensures { IsExpanded tree_of result
-        ((meaning.opens levels).unit (scope_of scope.now) (unit_of unit.now)) }
+    ensures { IsExpanded tree_of result ((meaning.opens levels).unit (scope_of scope.now)
+        (unit_of unit.now)) }
 {
     if levels == 0 {
         return Err(fault(FaultKind::TooDeep, span));
@@ -317,8 +239,8 @@ fn unit<'a>(
     levels: u32,
     unit: &'a Unit,
 ) -> Result<RawAssert, Stop>
-    ensures { IsExpanded tree_of result
-        (meaning.unit_by (meaning.opens levels) (scope_of scope.now) (unit_of unit.now)) }
+    ensures { IsExpanded tree_of result (meaning.unit_by (meaning.opens levels) (scope_of scope.now)
+        (unit_of unit.now)) }
 {
     let span = place(unit);
     work.step(span)?;
@@ -342,8 +264,9 @@ fn conjuncts<'a>(
     levels: u32,
     units: &'a [Unit],
 ) -> Result<Vec<RawAssert>, Stop>
-    ensures { IsExpanded (λ v. map tree_of v.items) result (meaning.conjuncts_by
-        (meaning.opens levels) (scope_of scope.now) (conjoined (map unit_of units.now))) }
+    ensures { IsExpanded (λ v. map tree_of v.items) result
+        (meaning.conjuncts_by (meaning.opens levels) (scope_of scope.now)
+        (conjoined (map unit_of units.now))) }
 {
     let mut all = Vec::new(work.alloc);
     for inner in units {
@@ -381,8 +304,9 @@ fn disjuncts<'a>(
     levels: u32,
     conjunctions: &'a [Conjunction],
 ) -> Result<Vec<RawAssert>, Stop>
-    ensures { IsExpanded (λ v. map tree_of v.items) result (meaning.disjuncts_by (meaning.opens
-        levels) (scope_of scope.now) (disjoined (map conjunction_of conjunctions.now))) }
+    ensures { IsExpanded (λ v. map tree_of v.items) result
+        (meaning.disjuncts_by (meaning.opens levels) (scope_of scope.now)
+        (disjoined (map conjunction_of conjunctions.now))) }
 {
     let mut all = Vec::new(work.alloc);
     for inner in conjunctions {
@@ -421,8 +345,8 @@ fn implied<'a>(
     span: Span,
     right: &'a Assertion,
 ) -> Result<RawAssert, Stop>
-    ensures { IsExpanded tree_of result
-        ((meaning.opens levels).implied (scope_of scope.now) span (assertion_of right.now)) }
+    ensures { IsExpanded tree_of result ((meaning.opens levels).implied (scope_of scope.now) span
+        (assertion_of right.now)) }
 {
     if levels == 0 {
         return Err(fault(FaultKind::TooDeep, span));
@@ -477,8 +401,8 @@ pub(crate) fn test<'a>(
     work: &mut Expander<'_>,
     test: &'a Assertion,
 ) -> Result<RawAssert, Stop>
-    ensures { IsExpanded tree_of result
-        (meaning.assertion_of (scope_of scope.now) (assertion_of test.now)) }
+    ensures { IsExpanded tree_of result (meaning.assertion_of (scope_of scope.now)
+        (assertion_of test.now)) }
 {
     assertion(scope, work, LEVELS, test)
 }

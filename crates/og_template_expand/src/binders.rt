@@ -47,8 +47,8 @@ pub(crate) fn range(
     work: &mut Expander<'_>,
     bounds: &Bounds,
 ) -> Result<Range, Stop>
-    ensures { IsExpanded range_of result
-        (ranges.range_of (scope_of scope.now) (bounds_of bounds.now)) }
+    ensures { IsExpanded range_of result (ranges.range_of (scope_of scope.now)
+        (bounds_of bounds.now)) }
 {
     let low = value(scope, work, &bounds.low)?;
     let high = value(scope, work, &bounds.high)?;
@@ -64,6 +64,19 @@ pub(crate) fn numbers(alloc: Global, range: Range) -> Result<Vec<i64>, AllocErro
         all.push((range.low + u64::from(more)) as i64)?;
     }
     Ok(all)
+}
+
+/// The values of a binder's range, rising.
+pub(crate) fn values(
+    scope: &Scope<'_, '_>,
+    work: &mut Expander<'_>,
+    binder: &Binder,
+) -> Result<Vec<i64>, Stop>
+    ensures { IsExpanded (λ v. v.items) result
+        (ranges.values_of (scope_of scope.now) (binder_of binder.now)) }
+{
+    let range = range(scope, work, &binder.range)?;
+    Ok(numbers(work.alloc, range)?)
 }
 
 fn compares(left: i64, relation: Relation, right: i64) -> bool
@@ -89,8 +102,8 @@ fn holds(scope: &Scope<'_, '_>, work: &mut Expander<'_>, test: &Test) -> Result<
 
 // Whether tests hold; they are asked up to the first that does not.
 fn all_hold(scope: &Scope<'_, '_>, work: &mut Expander<'_>, tests: &[Test]) -> Result<bool, Stop>
-    ensures { IsExpanded (λ b. b) result
-        (ranges.all_hold (scope_of scope.now) (map test_of tests.now)) }
+    ensures { IsExpanded (λ b. b) result (ranges.all_hold (scope_of scope.now)
+        (map test_of tests.now)) }
 {
     for test in tests {
         if !holds(scope, work, test)? {

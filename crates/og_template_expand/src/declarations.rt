@@ -54,8 +54,9 @@ pub(crate) fn declare_constants<'a>(
     values: &[Binding<'_>],
     constants: &'a [Constant],
 ) -> Result<(), Stop>
-    ensures { IsExpanded (λ _. names_of names.new) result (meaning.constants_in
-        (map binding_of values.now) (names_of names.old) (map constant_of constants.now)) }
+    ensures { IsExpanded (λ _. names_of names.new) result
+        (meaning.constants_in (map binding_of values.now) (names_of names.old)
+        (map constant_of constants.now)) }
 {
     for declared in constants {
         let value = constant(names, work, values, declared)?;

@@ -82,8 +82,8 @@ impl<'a> Expander<'a> {
     pub(crate) fn step(&mut self, span: Span) -> Result<(), Stop>
         ensures ok { OnOk result (self.old.steps_left ≡ self.new.steps_left + 1) }
         ensures none { OnErr result (self.old.steps_left ≡ 0) }
-        ensures err { IfErr result
-            (λ e. e ≡ Spent (record { kind = TooManySteps; at = span.start })) }
+        ensures err { IfErr result (λ e. e ≡ Spent
+            (record { kind = TooManySteps; at = span.start })) }
     {
         if self.steps_left == 0 {
             return Err(Stop::Spent(TemplateFault {
@@ -99,8 +99,8 @@ impl<'a> Expander<'a> {
     pub(crate) fn count_statement(&mut self, span: Span) -> Result<(), Stop>
         ensures ok { OnOk result (self.old.statements_left ≡ self.new.statements_left + 1) }
         ensures none { OnErr result (self.old.statements_left ≡ 0) }
-        ensures err { IfErr result
-            (λ e. e ≡ Spent (record { kind = TooManyStatements; at = span.start })) }
+        ensures err { IfErr result (λ e. e ≡ Spent
+            (record { kind = TooManyStatements; at = span.start })) }
     {
         if self.statements_left == 0 {
             return Err(Stop::Spent(TemplateFault {

@@ -92,8 +92,8 @@ fn negated(
     inner: &Expr,
     span: Span,
 ) -> Result<i64, Stop>
-    ensures { IsExpanded (λ v. v) result
-        (values.value_of (scope_of scope.now) (Minus (expression_of inner.now) span)) }
+    ensures { IsExpanded (λ v. v) result (values.value_of (scope_of scope.now)
+        (Minus (expression_of inner.now) span)) }
 {
     work.step(span)?;
     let value = value(scope, work, inner)?;
@@ -108,8 +108,8 @@ fn chained(
     first: i64,
     links: &[Link],
 ) -> Result<i64, Stop>
-    ensures { IsExpanded (λ v. v) result
-        (values.chained (scope_of scope.now) first (linked (map operated_of links.now))) }
+    ensures { IsExpanded (λ v. v) result (values.chained (scope_of scope.now) first
+        (linked (map operated_of links.now))) }
 {
     let mut all = first;
     for link in links {
@@ -126,8 +126,8 @@ pub(crate) fn value(
     work: &mut Expander<'_>,
     expr: &Expr,
 ) -> Result<i64, Stop>
-    ensures { IsExpanded (λ v. v) result
-        (values.value_of (scope_of scope.now) (expression_of expr.now)) }
+    ensures { IsExpanded (λ v. v) result (values.value_of (scope_of scope.now)
+        (expression_of expr.now)) }
 {
     match expr {
         Expr::Number(n, span) => number(work, i128::from(*n), *span),

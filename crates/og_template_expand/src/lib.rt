@@ -6,6 +6,7 @@
 
 mod assertions;
 mod binders;
+mod connective;
 mod declarations;
 mod expander;
 mod exprs;

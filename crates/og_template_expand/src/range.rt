@@ -2,7 +2,7 @@
 
 ghost use Rattle.std.specs.Prelude.{◌+◌, ◌≤◌, ◌^◌};
 
-/// So many numbers from the lowest on.
+/// `count` numbers from the lowest on.
 #[derive(Clone, Copy, Drop)]
 pub(crate) struct Range {
     pub(crate) low: u64,

@@ -78,8 +78,9 @@ impl<'a> Names<'a> {
 
     /// Declares a name, or declares it anew.
     pub(crate) fn declare(&mut self, name: &'a RawName, meaning: Meaning<'a>) -> Result<(), Stop>
-        ensures { IsExpanded (λ _. names_of self.new) result (Ok
-            (scope.declared_with name.now.name (meaning_of meaning.entry) (names_of self.old))) }
+        ensures { IsExpanded (λ _. names_of self.new) result
+            (Ok (scope.declared_with name.now.name (meaning_of meaning.entry)
+            (names_of self.old))) }
     {
         self.map.insert(name.name.as_slice(), meaning)?;
         Ok(())
@@ -114,8 +115,8 @@ impl<'s, 'a> Scope<'s, 'a> {
         name: &'a RawName,
         value: i64,
     ) -> Result<Scope<'s, 'a>, AllocError>
-        ensures { IfOk result (λ s.
-            scope_of s ≡ scope.bound_to (scope_of self.now) name.now.name value) }
+        ensures { IfOk result (λ s. scope_of s ≡ scope.bound_to (scope_of self.now) name.now.name
+            value) }
     {
         let mut bound = same_bindings(alloc, &self.bound)?;
         bound.push(Binding {

@@ -12,7 +12,7 @@ ghost use Rattle.og_template_expand.specs.Trees as template;
 ghost use Rattle.og_template_expand.specs.TreeOf.{expression_of, binder_of, assertion_of, note_of, basic_of, simple_of, statement_of, step_of, steps_then, sequence_of};
 
 use crate::assertions::test;
-use crate::binders::{enter, numbers, range};
+use crate::binders::{enter, values};
 use crate::expander::{Expander, same_name};
 use crate::fault::{Stop, fault};
 use crate::scope::Scope;
@@ -31,8 +31,8 @@ fn target(
     name: &RawName,
     index: &Option<Expr>,
 ) -> Result<RawName, Stop>
-    ensures { IsExpanded (λ n. n) result
-        (meaning.target_of (scope_of scope.now) name.now (option_map expression_of index.now)) }
+    ensures { IsExpanded (λ n. n) result (meaning.target_of (scope_of scope.now) name.now
+        (option_map expression_of index.now)) }
 {
     match index {
         None => Ok(same_name(work.alloc, name)?),
@@ -45,8 +45,8 @@ fn basic<'a>(
     work: &mut Expander<'_>,
     basic: &'a Basic,
 ) -> Result<RawBasic, Stop>
-    ensures { IsExpanded basic_tree result
-        (meaning.basic_of (scope_of scope.now) (basic_of basic.now)) }
+    ensures { IsExpanded basic_tree result (meaning.basic_of (scope_of scope.now)
+        (basic_of basic.now)) }
 {
     match basic {
         Basic::Skip => Ok(RawBasic::Skip),
@@ -65,8 +65,9 @@ fn put_element<'a>(
     span: Span,
     all: &mut Vec<RawElement>,
 ) -> Result<(), Stop>
-    ensures { IsExpanded (λ _. map element_tree all.new.items) result (behind (map element_tree
-        all.old.items) (meaning.simple_in (scope_of scope.now) (basic_of inner.now) span)) }
+    ensures { IsExpanded (λ _. map element_tree all.new.items) result
+        (behind (map element_tree all.old.items) (meaning.simple_in (scope_of scope.now)
+        (basic_of inner.now) span)) }
 {
     work.step(span)?;
     let basic = basic(scope, work, inner)?;
@@ -83,8 +84,10 @@ fn put_element_in<'a>(
     element: &'a Element,
     all: &mut Vec<RawElement>,
 ) -> Result<(), Stop>
-    ensures { IsExpanded (λ _. map element_tree all.new.items) result (behind (map element_tree all.old.items)
-        (instance_of (scope_of scope.now) (binder_of binder.now) (λ s. meaning.simple_in s (basic_of element.now.basic) element.now.span) value)) }
+    ensures { IsExpanded (λ _. map element_tree all.new.items) result
+        (behind (map element_tree all.old.items) (instance_of (scope_of scope.now)
+        (binder_of binder.now) (λ s. meaning.simple_in s (basic_of element.now.basic)
+        element.now.span) value)) }
 {
     match enter(scope, work, binder, value)? {
         Some(inner) => put_element(&inner, work, &element.basic, element.span, all),
@@ -100,11 +103,12 @@ fn put_elements<'a>(
     element: &'a Element,
     all: &mut Vec<RawElement>,
 ) -> Result<(), Stop>
-    ensures { IsExpanded (λ _. map element_tree all.new.items) result (behind (map element_tree all.old.items)
-        (instances (scope_of scope.now) (binder_of binder.now) (λ s. meaning.simple_in s (basic_of element.now.basic) element.now.span))) }
+    ensures { IsExpanded (λ _. map element_tree all.new.items) result
+        (behind (map element_tree all.old.items) (instances (scope_of scope.now)
+        (binder_of binder.now) (λ s. meaning.simple_in s (basic_of element.now.basic)
+        element.now.span))) }
 {
-    let range = range(scope, work, &binder.range)?;
-    let values = numbers(work.alloc, range)?;
+    let values = values(scope, work, binder)?;
     for value in &values {
         put_element_in(scope, work, binder, *value, element, all)?;
     }
@@ -118,8 +122,9 @@ fn put_simple<'a>(
     element: &'a Element,
     all: &mut Vec<RawElement>,
 ) -> Result<(), Stop>
-    ensures { IsExpanded (λ _. map element_tree all.new.items) result (behind (map element_tree
-        all.old.items) (meaning.simple_of (scope_of scope.now) (simple_of element.now))) }
+    ensures { IsExpanded (λ _. map element_tree all.new.items) result
+        (behind (map element_tree all.old.items) (meaning.simple_of (scope_of scope.now)
+        (simple_of element.now))) }
 {
     match &element.binder {
         None => put_element(scope, work, &element.basic, element.span, all),
@@ -145,8 +150,8 @@ fn body<'a>(
 
 // The await with this body.
 fn await_with(guard: RawAssert, body: Vec<RawElement>, span: Span) -> Result<RawStmt, Stop>
-    ensures { IsExpanded stmt_tree result
-        (meaning.await_with (assertion_tree guard) (map element_tree body.items) span) }
+    ensures { IsExpanded stmt_tree result (meaning.await_with (assertion_tree guard)
+        (map element_tree body.items) span) }
 {
     if body.is_empty() {
         return Err(fault(FaultKind::NothingLeft, span));
@@ -175,7 +180,8 @@ pub(crate) fn note<'a>(
     work: &mut Expander<'a>,
     note: &'a Note,
 ) -> Result<RawNote, Stop>
-    ensures { IsExpanded note_tree result (meaning.note_of (scope_of scope.now) (note_of note.now)) }
+    ensures { IsExpanded note_tree result (meaning.note_of (scope_of scope.now)
+        (note_of note.now)) }
 {
     work.step(note.span)?;
     work.note_origin(note.span, &scope.bound)?;
@@ -192,8 +198,8 @@ fn statement<'a>(
     statement: &'a Statement,
     span: Span,
 ) -> Result<RawStmt, Stop>
-    ensures { IsExpanded stmt_tree result
-        (meaning.statement_of (scope_of scope.now) span (statement_of statement.now)) }
+    ensures { IsExpanded stmt_tree result (meaning.statement_of (scope_of scope.now) span
+        (statement_of statement.now)) }
 {
     match statement {
         Statement::Basic(inner) => Ok(RawStmt::Basic(basic(scope, work, inner)?)),
@@ -253,8 +259,10 @@ fn put_instance<'a>(
     items: &mut Vec<RawItem>,
     last: &mut RawNote,
 ) -> Result<(), Stop>
-    ensures { IsExpanded (λ _. front_of items.new.items last.new) result (onto (front_of items.old.items last.old)
-        (instance_of (scope_of scope.now) (binder_of binder.now) (λ s. meaning.steps_of s (steps_then (map step_of steps.now))) value)) }
+    ensures { IsExpanded (λ _. front_of items.new.items last.new) result
+        (onto (front_of items.old.items last.old) (instance_of (scope_of scope.now)
+        (binder_of binder.now) (λ s. meaning.steps_of s
+        (steps_then (map step_of steps.now))) value)) }
 {
     match enter(scope, work, binder, value)? {
         Some(inner) => put_steps(&inner, work, steps, items, last),
@@ -272,11 +280,11 @@ fn put_repeated<'a>(
     items: &mut Vec<RawItem>,
     last: &mut RawNote,
 ) -> Result<(), Stop>
-    ensures { IsExpanded (λ _. front_of items.new.items last.new) result (onto (front_of items.old.items last.old)
-        (instances (scope_of scope.now) (binder_of binder.now) (λ s. meaning.steps_of s (steps_then (map step_of steps.now))))) }
+    ensures { IsExpanded (λ _. front_of items.new.items last.new) result
+        (onto (front_of items.old.items last.old) (instances (scope_of scope.now)
+        (binder_of binder.now) (λ s. meaning.steps_of s (steps_then (map step_of steps.now))))) }
 {
-    let range = range(scope, work, &binder.range)?;
-    let values = numbers(work.alloc, range)?;
+    let values = values(scope, work, binder)?;
     for value in &values {
         put_instance(scope, work, binder, *value, steps, items, last)?;
     }
@@ -292,8 +300,9 @@ fn put_step<'a>(
     items: &mut Vec<RawItem>,
     last: &mut RawNote,
 ) -> Result<(), Stop>
-    ensures { IsExpanded (λ _. front_of items.new.items last.new) result (onto (front_of
-        items.old.items last.old) (meaning.one_of (scope_of scope.now) (step_of step.now))) }
+    ensures { IsExpanded (λ _. front_of items.new.items last.new) result
+        (onto (front_of items.old.items last.old) (meaning.one_of (scope_of scope.now)
+        (step_of step.now))) }
 {
     match step {
         Step::Statement(inner, span, after) => {
@@ -312,8 +321,8 @@ fn put_steps<'a>(
     last: &mut RawNote,
 ) -> Result<(), Stop>
     ensures { IsExpanded (λ _. front_of items.new.items last.new) result
-        (onto (front_of items.old.items last.old)
-        (meaning.steps_of (scope_of scope.now) (steps_then (map step_of steps.now)))) }
+        (onto (front_of items.old.items last.old) (meaning.steps_of (scope_of scope.now)
+        (steps_then (map step_of steps.now)))) }
 {
     for step in steps {
         put_step(scope, work, step, items, last)?;
@@ -328,8 +337,8 @@ pub(crate) fn sequence<'a>(
     work: &mut Expander<'a>,
     sequence: &'a Sequence,
 ) -> Result<RawSeq, Stop>
-    ensures { IsExpanded seq_tree result
-        (meaning.sequence_of (scope_of scope.now) (sequence_of sequence.now)) }
+    ensures { IsExpanded seq_tree result (meaning.sequence_of (scope_of scope.now)
+        (sequence_of sequence.now)) }
 {
     let mut last = note(scope, work, &sequence.before)?;
     let mut items = Vec::new(work.alloc);

@@ -9,7 +9,7 @@ ghost use Rattle.og_template_expand.specs.Sums as sums;
 ghost use Rattle.og_template_expand.specs.Scoped.{IsExpanded, range_of, operand_view, scope_of};
 ghost use Rattle.og_template_expand.specs.TreeOf.{expression_of, factor_of, binder_of, signed_of, kind_of, terms_then, sum_of};
 
-use crate::binders::{enter, numbers, range};
+use crate::binders::{enter, values};
 use crate::expander::{Expander, element_name, same_name};
 use crate::exprs::value;
 use crate::fault::{Stop, fault, fault_at};
@@ -78,8 +78,8 @@ pub(crate) fn element(
     name: &RawName,
     index: &Expr,
 ) -> Result<RawName, Stop>
-    ensures { IsExpanded (λ n. n) result
-        (sums.element_of (scope_of scope.now) name.now (expression_of index.now)) }
+    ensures { IsExpanded (λ n. n) result (sums.element_of (scope_of scope.now) name.now
+        (expression_of index.now)) }
 {
     let index = value(scope, work, index)?;
     let range = scope.family(name)?;
@@ -88,7 +88,8 @@ pub(crate) fn element(
 
 // What a name without an index is.
 fn named_operand(scope: &Scope<'_, '_>, alloc: Global, name: &RawName) -> Result<Operand, Stop>
-    ensures { IsExpanded operand_view result (sums.operand_of (scope_of scope.now) (Named name.now)) }
+    ensures { IsExpanded operand_view result (sums.operand_of (scope_of scope.now)
+        (Named name.now)) }
 {
     match scope.meaning(name)? {
         Meaning::Value(value) => Ok(number(value)),
@@ -102,8 +103,8 @@ fn operand_of(
     work: &mut Expander<'_>,
     factor: &Factor,
 ) -> Result<Operand, Stop>
-    ensures { IsExpanded operand_view result
-        (sums.operand_of (scope_of scope.now) (factor_of factor.now)) }
+    ensures { IsExpanded operand_view result (sums.operand_of (scope_of scope.now)
+        (factor_of factor.now)) }
 {
     match factor {
         Factor::Number(magnitude) => Ok(Operand::Number(Sign::Plus, *magnitude)),
@@ -147,8 +148,8 @@ fn number_product(sign: Sign, left: u64, right: u64, span: Span) -> Result<RawTe
 
 // The term that the product of a number and a factor is.
 fn product(sign: Sign, multiplier: Operand, operand: Operand, span: Span) -> Result<RawTerm, Stop>
-    ensures { IsExpanded (λ t. t) result
-        (sums.product_of sign (operand_view multiplier) (operand_view operand) span) }
+    ensures { IsExpanded (λ t. t) result (sums.product_of sign (operand_view multiplier)
+        (operand_view operand) span) }
 {
     match (multiplier, operand) {
         (Operand::Number(left, c), Operand::Number(right, d)) => {
@@ -206,8 +207,9 @@ fn put_instance<'a>(
     terms: &'a [Term],
     all: &mut Vec<RawTerm>,
 ) -> Result<(), Stop>
-    ensures { IsExpanded (λ _. all.new.items) result (behind all.old.items
-        (instance_of (scope_of scope.now) (binder_of binder.now) (λ s. sums.terms_of s sign (terms_then (map signed_of terms.now))) value)) }
+    ensures { IsExpanded (λ _. all.new.items) result
+        (behind all.old.items (instance_of (scope_of scope.now) (binder_of binder.now)
+        (λ s. sums.terms_of s sign (terms_then (map signed_of terms.now))) value)) }
 {
     match enter(scope, work, binder, value)? {
         Some(inner) => put_terms(&inner, work, sign, terms, all),
@@ -227,8 +229,7 @@ fn instances_of<'a>(
     ensures { IsExpanded (λ v. v.items) result (instances (scope_of scope.now)
         (binder_of binder.now) (λ s. sums.terms_of s sign (terms_then (map signed_of terms.now)))) }
 {
-    let range = range(scope, work, &binder.range)?;
-    let values = numbers(work.alloc, range)?;
+    let values = values(scope, work, binder)?;
     let mut all = Vec::new(work.alloc);
     for value in &values {
         put_instance(scope, work, sign, binder, *value, terms, &mut all)?;
@@ -245,8 +246,8 @@ fn terms_of_kind<'a>(
     kind: &'a TermKind,
     span: Span,
 ) -> Result<Vec<RawTerm>, Stop>
-    ensures { IsExpanded (λ v. v.items) result
-        (sums.kind_of (scope_of scope.now) sign span (kind_of kind.now)) }
+    ensures { IsExpanded (λ v. v.items) result (sums.kind_of (scope_of scope.now) sign span
+        (kind_of kind.now)) }
 {
     match kind {
         TermKind::Factor(factor) => {
@@ -273,8 +274,10 @@ fn put_term<'a>(
     term: &'a Term,
     all: &mut Vec<RawTerm>,
 ) -> Result<(), Stop>
-    ensures { IsExpanded (λ _. all.new.items) result (behind all.old.items
-        (sums.kind_of (scope_of scope.now) (sums.times sign (signed_of term.now).sign) (signed_of term.now).place (signed_of term.now).kind)) }
+    ensures { IsExpanded (λ _. all.new.items) result
+        (behind all.old.items (sums.kind_of (scope_of scope.now)
+        (sums.times sign (signed_of term.now).sign) (signed_of term.now).place
+        (signed_of term.now).kind)) }
 {
     work.step(term.span)?;
     let terms = terms_of_kind(
@@ -295,8 +298,9 @@ fn put_terms<'a>(
     terms: &'a [Term],
     all: &mut Vec<RawTerm>,
 ) -> Result<(), Stop>
-    ensures { IsExpanded (λ _. all.new.items) result (behind all.old.items
-        (sums.terms_of (scope_of scope.now) sign (terms_then (map signed_of terms.now)))) }
+    ensures { IsExpanded (λ _. all.new.items) result
+        (behind all.old.items (sums.terms_of (scope_of scope.now) sign
+        (terms_then (map signed_of terms.now)))) }
 {
     for term in terms {
         put_term(scope, work, sign, term, all)?;
@@ -310,7 +314,8 @@ pub(crate) fn sum<'a>(
     work: &mut Expander<'_>,
     sum: &'a Sum,
 ) -> Result<RawSum, Stop>
-    ensures { IsExpanded outlines.sum_of result (sums.sum_of (scope_of scope.now) (sum_of sum.now)) }
+    ensures { IsExpanded outlines.sum_of result (sums.sum_of (scope_of scope.now)
+        (sum_of sum.now)) }
 {
     let mut terms = Vec::new(work.alloc);
     put_terms(scope, work, Sign::Plus, &sum.terms, &mut terms)?;

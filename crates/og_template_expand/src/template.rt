@@ -9,7 +9,7 @@ ghost use Rattle.og_template_expand.specs.Scoped.{IsExpanded, binding_of, scope_
 ghost use Rattle.og_template_expand.specs.TreeOf.{binder_of, sequence_of};
 ghost use Rattle.og_template_expand.specs.WholeOf.{process_of, template_of};
 
-use crate::binders::{enter, numbers, range};
+use crate::binders::{enter, values};
 use crate::declarations::{
     declare_auxiliaries, declare_constants, declare_named, declare_variables,
 };
@@ -54,8 +54,9 @@ fn put_process<'a>(
     body: &'a Sequence,
     all: &mut Vec<RawSeq>,
 ) -> Result<(), Stop>
-    ensures { IsExpanded (λ _. map seq_of all.new.items) result (behind (map seq_of all.old.items)
-        (meaning.one_process (sequence_of body.now) (scope_of scope.now))) }
+    ensures { IsExpanded (λ _. map seq_of all.new.items) result
+        (behind (map seq_of all.old.items) (meaning.one_process (sequence_of body.now)
+        (scope_of scope.now))) }
 {
     let process = sequence(scope, work, body)?;
     all.push(process)?;
@@ -71,8 +72,8 @@ fn put_instance<'a>(
     body: &'a Sequence,
     all: &mut Vec<RawSeq>,
 ) -> Result<(), Stop>
-    ensures { IsExpanded (λ _. map seq_of all.new.items) result (behind (map seq_of all.old.items)
-        (instance_of (scope_of scope.now) (binder_of binder.now)
+    ensures { IsExpanded (λ _. map seq_of all.new.items) result
+        (behind (map seq_of all.old.items) (instance_of (scope_of scope.now) (binder_of binder.now)
         (meaning.one_process (sequence_of body.now)) value)) }
 {
     match enter(scope, work, binder, value)? {
@@ -89,12 +90,11 @@ fn put_family<'a>(
     body: &'a Sequence,
     all: &mut Vec<RawSeq>,
 ) -> Result<(), Stop>
-    ensures { IsExpanded (λ _. map seq_of all.new.items) result (behind (map seq_of all.old.items)
-        (instances (scope_of scope.now) (binder_of binder.now)
+    ensures { IsExpanded (λ _. map seq_of all.new.items) result
+        (behind (map seq_of all.old.items) (instances (scope_of scope.now) (binder_of binder.now)
         (meaning.one_process (sequence_of body.now)))) }
 {
-    let range = range(scope, work, &binder.range)?;
-    let values = numbers(work.alloc, range)?;
+    let values = values(scope, work, binder)?;
     for value in &values {
         put_instance(scope, work, binder, *value, body, all)?;
     }
@@ -108,8 +108,9 @@ fn put_processes<'a>(
     process: &'a Process,
     all: &mut Vec<RawSeq>,
 ) -> Result<(), Stop>
-    ensures { IsExpanded (λ _. map seq_of all.new.items) result (behind (map seq_of all.old.items)
-        (meaning.process_of (scope_of scope.now) (process_of process.now))) }
+    ensures { IsExpanded (λ _. map seq_of all.new.items) result
+        (behind (map seq_of all.old.items) (meaning.process_of (scope_of scope.now)
+        (process_of process.now))) }
 {
     match &process.binder {
         None => put_process(scope, work, &process.body, all),
@@ -154,8 +155,8 @@ fn middle<'a>(
     cobegin: Span,
     processes: &'a [Process],
 ) -> Result<RawProcesses, Stop>
-    ensures { IsExpanded seqs_of result
-        (meaning.processes_of (scope_of scope.now) cobegin (map process_of processes.now)) }
+    ensures { IsExpanded seqs_of result (meaning.processes_of (scope_of scope.now) cobegin
+        (map process_of processes.now)) }
 {
     work.note_origin(cobegin, &scope.bound)?;
     let all = each_process(scope, work, processes)?;
@@ -195,8 +196,8 @@ fn whole<'a>(
     template: &'a Template,
     values: &[Binding<'_>],
 ) -> Result<Raw, Stop>
-    ensures { IsExpanded tree_of result
-        (meaning.outline_by (template_of template.now) (map binding_of values.now)) }
+    ensures { IsExpanded tree_of result (meaning.outline_by (template_of template.now)
+        (map binding_of values.now)) }
 {
     let mut names = Names::new(work.alloc);
     declare_constants(&mut names, work, values, &template.constants)?;

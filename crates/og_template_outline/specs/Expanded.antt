@@ -1,5 +1,5 @@
 -- The promise of an answer.
-use Rattle.std.specs.Prelude.{◌≡◌, ℕ, ◌≤◌, ◌^◌, ◌⊎◌, length, List, [], Bool, true, false, ◌++◌, Some, Contains, codes, if◌then◌else◌}
+use Rattle.std.specs.Prelude.{◌≡◌, ℕ, ◌≤◌, ◌^◌, length, List, [], Bool, true, false, ◌++◌, Some, Contains, codes, if◌then◌else◌}
 use Rattle.og_text.specs.declared.token.Token.{Token}
 use Rattle.og_parse.specs.Trees.{Outline}
 use Rattle.og_parse.specs.Grammar.{IsOutline}
@@ -12,7 +12,7 @@ use Rattle.og_typed.specs.declared.source_fault.SourceFault.TheVariants as sourc
 use Rattle.og_report_text.specs.declared.fault.InputFault.TheVariants as inputs
 use Rattle.og_report_text.specs.declared.answer.Answer.{Answer}
 use Rattle.og_report_text.specs.Line.{opening_text, place_text, refused_line}
-use Rattle.og_report_text.specs.Told.{Says, IsUnread}
+use Rattle.og_report_text.specs.Answers.{Says}
 use Rattle.og_template.specs.Faults.{number_of_kind, name_of_kind}
 use Rattle.og_template.specs.Front.{is_template}
 use Rattle.og_template_outline.specs.Faults.{number_of_fault, name_of_fault}
@@ -57,30 +57,30 @@ fault_line source faults.ExpansionTooLong = unplaced_line (number_of_fault fault
 fault_line source faults.NotReadBack = unplaced_line (number_of_fault faults.NotReadBack) (name_of_fault faults.NotReadBack)
 
 -- the line of this fault, with status 2
-abbrev pub IsTold : List ℕ → ExpandFault → Answer → Type 0
-IsTold source fault a = Says (fault_line source fault) 2 a
+abbrev pub IsFaultAnswer : List ℕ → ExpandFault → Answer → Type 0
+IsFaultAnswer source fault a = Says (fault_line source fault) 2 a
 
 -- what a template of at most 2^20 bytes means: the text of an outline, and the outline; or the line of a fault
 abbrev pub IsExpansion : List ℕ → List (List ℕ) → Expansion → Type 0
 IsExpansion text words (expansions.Outline printed o rows) = (length text ≤ 2 ^ 20) × IsOutlineText printed.items × IsSource printed.items o
-IsExpansion text words (expansions.Refused a fault) = IsTold text fault a
+IsExpansion text words (expansions.Refused a fault) = IsFaultAnswer text fault a
 IsExpansion text words (expansions.BadValue word) = Contains words word.now
 
 pub record HasOutline (text : List ℕ) : Type 0 where
   pub outline : Program
   pub source : IsSource text outline
 
--- of an outline: its refusal as a source, or its bytes; a word has no constant to name
+-- of an outline: its bytes; a word has no constant to name
 abbrev pub IsOfOutline : Bool → List ℕ → List (List ℕ) → Reply → Type 0
 IsOfOutline is_map text words (replies.Answer a) =
-    IsUnread text a ⊎ ((words ≡ []) × HasOutline text × Says (if is_map then [] else text) 0 a)
+    (words ≡ []) × HasOutline text × Says (if is_map then [] else text) 0 a
 IsOfOutline is_map text words (replies.Refused a fault) = ⊥
 IsOfOutline is_map text words (replies.BadValue word) = Contains words word.now
 
 -- of a template: the line of a fault, or the text printed of it
 abbrev pub IsOfTemplate : Bool → List ℕ → List (List ℕ) → Reply → Type 0
 IsOfTemplate is_map text words (replies.Answer a) = IsPrinted is_map a.text.items × (a.status ≡ 0)
-IsOfTemplate is_map text words (replies.Refused a fault) = IsTold text fault a
+IsOfTemplate is_map text words (replies.Refused a fault) = IsFaultAnswer text fault a
 IsOfTemplate is_map text words (replies.BadValue word) = Contains words word.now
 
 abbrev pub IsReplyBy : Bool → Bool → List ℕ → List (List ℕ) → Reply → Type 0

@@ -1,15 +1,16 @@
 //! The answers of `expand`.
 
-ghost use Rattle.std.specs.Prelude.{◌≤◌, ◌^◌, [], length, map, IfOk, if◌then◌else◌};
+ghost use Rattle.std.specs.Prelude.{◌≤◌, ◌^◌, [], length, map, IfOk, IfErr, if◌then◌else◌};
 ghost use Rattle.og_template.specs.Front.{is_template};
-ghost use Rattle.og_report_text.specs.Told.{Says};
-ghost use Rattle.og_template_outline.specs.Expanded.{HasOutline, IsExpansion, IsOutlineText, IsPrinted, IsTold, IsOfOutline, IsOfTemplate, IsReply};
+ghost use Rattle.og_report_text.specs.InputErrors.{OnFault, IsFaultOfSource};
+ghost use Rattle.og_report_text.specs.Answers.{Says};
+ghost use Rattle.og_template_outline.specs.Expanded.{HasOutline, IsExpansion, IsOutlineText, IsPrinted, IsFaultAnswer, IsOfOutline, IsOfTemplate, IsReply};
 
 use crate::fault::{ExpandError, ExpandFault, Refusal};
 use crate::line::fault_line;
 use crate::rows::rows_text;
 use crate::template::of_text;
-use og_report_text::{Answer, Rows};
+use og_report_text::{Answer, InputError, Rows};
 use og_template::is_template;
 use og_text::{LexFault, SOURCE_LIMIT};
 use og_typed::{Outline, Source};
@@ -74,22 +75,18 @@ fn of_outline<'a>(
     text: &[u8],
     words: &[&'a str],
     is_map: bool,
-) -> Result<Reply<'a>, AllocError>
-    ensures { IfOk result (IsOfOutline is_map text.now (map (λ w. w.now) words.now)) }
+) -> Result<Reply<'a>, InputError>
+    ensures reply { IfOk result (IsOfOutline is_map text.now (map (λ w. w.now) words.now)) }
+    ensures refused { IfErr result (OnFault (IsFaultOfSource text.now)) }
 {
-    match Source::read(alloc, text) {
-        Ok(source) => {
-            drop(source);
-            of_read(alloc, text, words, is_map)
-        }
-        Err(error) => Ok(Reply::Answer(Answer::unread(alloc, &error, text)?)),
-    }
+    drop(Source::read(alloc, text)?);
+    Ok(of_read(alloc, text, words, is_map)?)
 }
 
 // The answer to a fault.
 fn refused(alloc: Global, fault: &ExpandFault, text: &[u8]) -> Result<Answer, AllocError>
     requires { length text.now ≤ 2 ^ 20 }
-    ensures { IfOk result (IsTold text.now fault.now) }
+    ensures { IfOk result (IsFaultAnswer text.now fault.now) }
 {
     let text = fault_line(alloc, fault, text)?;
     Ok(Answer { text, status: 2 })
@@ -182,17 +179,19 @@ fn of_template<'a>(
 ///
 /// # Errors
 ///
-/// An allocation was refused.
+/// `Fault`, the first fault of a text that is read as an outline. `Memory` where an allocation was
+/// refused.
 pub fn expanded<'a>(
     alloc: Global,
     text: &[u8],
     words: &[&'a str],
     is_map: bool,
-) -> Result<Reply<'a>, AllocError>
-    ensures { IfOk result (IsReply is_map text.now (map (λ w. w.now) words.now)) }
+) -> Result<Reply<'a>, InputError>
+    ensures reply { IfOk result (IsReply is_map text.now (map (λ w. w.now) words.now)) }
+    ensures refused { IfErr result (OnFault (IsFaultOfSource text.now)) }
 {
     if is_template(text) {
-        of_template(alloc, text, words, is_map)
+        Ok(of_template(alloc, text, words, is_map)?)
     } else {
         of_outline(alloc, text, words, is_map)
     }

@@ -4,7 +4,7 @@ use og_cond::{Condition, Goal, Hypothesis, Kind, conditions};
 use og_facts::{FactList, FactsError, FactsFault, facts, facts_with};
 use og_linear::{Form, FormError};
 use og_subst::Action;
-use og_test_samples::{SKIP_AND_ASSIGN, TOLD_ADD, TWO_ADD, outline_of};
+use og_test_samples::{AUXILIARY_ADD, SKIP_AND_ASSIGN, TWO_ADD, outline_of};
 use og_typed::{Basic, Outline};
 use std::alloc::{AllocError, Global};
 use std::process::Abort;
@@ -23,19 +23,19 @@ const FIVE_DOUBLINGS: &str =
     "var x; {true} cobegin {true} await true then begin x := 2147483648*x; x := 2147483648*x; x := 2147483648*x; x := 2147483648*x; x := 2147483648*x end {true} coend {true}";
 
 // The facts of a condition, or why there are none.
-fn told(alloc: Global, answer: &Result<FactList, FactsError>) -> Result<String, AllocError> {
+fn text_of(alloc: Global, answer: &Result<FactList, FactsError>) -> Result<String, AllocError> {
     format!(in alloc; "{answer:?}")
 }
 
 // By a map that was prepared from its action, where it has one.
-fn told_by_map(alloc: Global, condition: &Condition) -> Result<Option<String>, AllocError> {
+fn text_by_map(alloc: Global, condition: &Condition) -> Result<Option<String>, AllocError> {
     let Some(action) = &condition.action else {
         return Ok(None);
     };
     let other = match action.prepare(alloc) {
-        Ok(prepared) => told(alloc, &facts_with(alloc, condition, &prepared))?,
+        Ok(prepared) => text_of(alloc, &facts_with(alloc, condition, &prepared))?,
         Err(FormError::Memory) => return Err(AllocError),
-        Err(FormError::Fault(_)) => told(alloc, &Err(FactsError::Fault(FactsFault::TooLarge)))?,
+        Err(FormError::Fault(_)) => text_of(alloc, &Err(FactsError::Fault(FactsFault::TooLarge)))?,
     };
     Ok(Some(other))
 }
@@ -43,8 +43,8 @@ fn told_by_map(alloc: Global, condition: &Condition) -> Result<Option<String>, A
 // A map that was prepared from the action gives the facts that there are without one.
 fn expect_same(rt: &impl Abort, alloc: Global, list: &[Condition]) -> Result<(), Fail> {
     for condition in list {
-        if let Some(other) = told_by_map(alloc, condition)? {
-            let own = told(alloc, &facts(alloc, condition))?;
+        if let Some(other) = text_by_map(alloc, condition)? {
+            let own = text_of(alloc, &facts(alloc, condition))?;
             assert_eq!(rt; other.as_str(), own.as_str());
         }
     }
@@ -53,14 +53,14 @@ fn expect_same(rt: &impl Abort, alloc: Global, list: &[Condition]) -> Result<(),
 
 fn expect_same_of(rt: &impl Abort, alloc: Global, outline: &Outline) -> Result<(), Fail> {
     let list = conditions(alloc, outline)?;
-    let told = expect_same(rt, alloc, &list);
+    let text_of = expect_same(rt, alloc, &list);
     drop(list);
-    told
+    text_of
 }
 
 const WITH_ACTIONS: &[&str] = &[
     TWO_ADD,
-    TOLD_ADD,
+    AUXILIARY_ADD,
     SKIP_AND_ASSIGN,
     AT_THE_END,
     FOUR_DOUBLINGS,
@@ -71,9 +71,9 @@ const WITH_ACTIONS: &[&str] = &[
 fn facts_by_a_prepared_map(rt: HostRuntime) -> Result<(), Fail> {
     for source in WITH_ACTIONS {
         let outline = outline_of(rt.alloc(), source)?;
-        let told = expect_same_of(&rt, rt.alloc(), &outline);
+        let text_of = expect_same_of(&rt, rt.alloc(), &outline);
         drop(outline);
-        told?;
+        text_of?;
     }
     Ok(())
 }
@@ -97,9 +97,9 @@ fn expect_first(rt: &impl Abort, alloc: Global, outline: &Outline) -> Result<(),
 #[test]
 fn numbers_of_facts(rt: HostRuntime) -> Result<(), Fail> {
     let outline = outline_of(rt.alloc(), NOT_EVEN)?;
-    let told = expect_first(&rt, rt.alloc(), &outline);
+    let text_of = expect_first(&rt, rt.alloc(), &outline);
     drop(outline);
-    told
+    text_of
 }
 
 // A condition from this many initial values, two facts each.

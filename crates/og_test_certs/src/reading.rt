@@ -8,7 +8,7 @@ use std::process::Abort;
 use std::test::Fail;
 
 // What becomes of a text.
-fn told(alloc: Global, text: &[u8]) -> Result<String, AllocError> {
+fn text_of(alloc: Global, text: &[u8]) -> Result<String, AllocError> {
     let fault = match read_certs(alloc, text) {
         Ok(_) => return String::from_str(alloc, "read"),
         Err(CertTextError::Memory) => return Err(AllocError),
@@ -23,9 +23,9 @@ fn told(alloc: Global, text: &[u8]) -> Result<String, AllocError> {
 }
 
 // This becomes of the text in which `|` stands for the end of a line.
-fn expect_told(rt: &impl Abort, alloc: Global, text: &str, expected: &str) -> Result<(), Fail> {
+fn expect_text(rt: &impl Abort, alloc: Global, text: &str, expected: &str) -> Result<(), Fail> {
     let lines = with_lines(alloc, text)?;
-    let got = told(alloc, lines.as_bytes())?;
+    let got = text_of(alloc, lines.as_bytes())?;
     assert_eq!(rt; got.as_str(), expected, "{text}");
     Ok(())
 }
@@ -34,9 +34,9 @@ fn expect_told(rt: &impl Abort, alloc: Global, text: &str, expected: &str) -> Re
 #[test]
 fn lengths(rt: HostRuntime) -> Result<(), Fail> {
     let mut long = vec![in rt.alloc(); 32; 67_108_865]?;
-    assert_eq!(rt; told(rt.alloc(), &long)?.as_str(), "23 CertsTooLong");
+    assert_eq!(rt; text_of(rt.alloc(), &long)?.as_str(), "23 CertsTooLong");
     long.truncate(67_108_864);
-    assert_eq!(rt; told(rt.alloc(), &long)?.as_str(), "24 BadVersion");
+    assert_eq!(rt; text_of(rt.alloc(), &long)?.as_str(), "24 BadVersion");
     Ok(())
 }
 
@@ -107,7 +107,7 @@ const TEXTS: &[(&str, &str)] = &[
 #[test]
 fn texts(rt: HostRuntime) -> Result<(), Fail> {
     for (text, expected) in TEXTS {
-        expect_told(&rt, rt.alloc(), text, expected)?;
+        expect_text(&rt, rt.alloc(), text, expected)?;
     }
     Ok(())
 }
@@ -170,11 +170,11 @@ const GOOD: &[&str] = &[
 fn parts_of_lines(rt: HostRuntime) -> Result<(), Fail> {
     for line in BAD {
         let text = format!(in rt.alloc(); "og-cert 1|cond 7|{line}|close 1*1|close 1*1|")?;
-        expect_told(&rt, rt.alloc(), text.as_str(), "20 BadLine at line 3")?;
+        expect_text(&rt, rt.alloc(), text.as_str(), "20 BadLine at line 3")?;
     }
     for lines in GOOD {
         let text = format!(in rt.alloc(); "og-cert 1|cond 7|{lines}|")?;
-        expect_told(&rt, rt.alloc(), text.as_str(), "read")?;
+        expect_text(&rt, rt.alloc(), text.as_str(), "read")?;
     }
     Ok(())
 }
@@ -233,7 +233,7 @@ const LARGE: &[(Parts<'_>, &str)] = &[
 fn large_certificates(rt: HostRuntime) -> Result<(), Fail> {
     for (parts, expected) in LARGE {
         let text = repeated(rt.alloc(), *parts)?;
-        expect_told(&rt, rt.alloc(), text.as_str(), expected)?;
+        expect_text(&rt, rt.alloc(), text.as_str(), expected)?;
     }
     Ok(())
 }
@@ -262,7 +262,7 @@ const IN_VERSION_1: &[&str] = &[
 ];
 
 #[test]
-fn what_is_read_is_written(rt: HostRuntime) -> Result<(), Fail> {
+fn reading_back(rt: HostRuntime) -> Result<(), Fail> {
     for text in IN_VERSION_1 {
         let written = write_certs(rt.alloc(), &file_of(rt.alloc(), text)?)?;
         let wanted = with_lines(rt.alloc(), text)?;
@@ -290,7 +290,7 @@ fn version_2_is_written(rt: HostRuntime) -> Result<(), Fail> {
         let written = write_certs_2(rt.alloc(), &file_of(rt.alloc(), text)?)?;
         let wanted = with_lines(rt.alloc(), expected)?;
         assert_eq!(rt; written.as_slice(), wanted.as_bytes(), "{text}");
-        assert_eq!(rt; told(rt.alloc(), &written)?.as_str(), "read");
+        assert_eq!(rt; text_of(rt.alloc(), &written)?.as_str(), "read");
     }
     Ok(())
 }

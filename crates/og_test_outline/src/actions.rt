@@ -44,10 +44,10 @@ fn expect_both(rt: &impl Abort, alloc: Global, single: &Stmt, whole: &Stmt) -> R
 fn actions_of_statements(rt: HostRuntime) -> Result<(), Fail> {
     let single = Stmt::Assign(X, successor(rt.alloc())?);
     let whole = Stmt::Await(Assert::True, body(rt.alloc())?);
-    let told = expect_both(&rt, rt.alloc(), &single, &whole);
+    let result = expect_both(&rt, rt.alloc(), &single, &whole);
     drop(whole);
     drop(single);
-    told
+    result
 }
 
 #[test]

@@ -26,7 +26,7 @@ fn room_of_a_list(rt: HostRuntime) -> Result<(), Fail> {
         "coend\n{true}\n",
     )?;
     let outline = outline_of(rt.alloc(), source.as_str())?;
-    let told = expect_little_room(&rt, rt.alloc(), &outline);
+    let result = expect_little_room(&rt, rt.alloc(), &outline);
     drop(outline);
-    told
+    result
 }

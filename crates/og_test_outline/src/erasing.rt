@@ -16,9 +16,9 @@ fn printed(alloc: Global, program: &Program) -> Result<Vec<u8>, Fail> {
 
 fn text_of(alloc: Global, outline: &Outline) -> Result<Vec<u8>, Fail> {
     let program = erase(alloc, outline)?;
-    let told = printed(alloc, &program);
+    let result = printed(alloc, &program);
     drop(program);
-    told
+    result
 }
 
 // The text printed of a program as an outline stands for that program again.
@@ -32,9 +32,9 @@ const PRINTED: &str =
 fn program_again(rt: HostRuntime) -> Result<(), Fail> {
     for source in [SOURCE, PRINTED] {
         let outline = outline_of(rt.alloc(), source)?;
-        let told = text_of(rt.alloc(), &outline);
+        let result = text_of(rt.alloc(), &outline);
         drop(outline);
-        assert_eq!(rt; told?.as_slice(), PRINTED.as_bytes());
+        assert_eq!(rt; result?.as_slice(), PRINTED.as_bytes());
     }
     Ok(())
 }

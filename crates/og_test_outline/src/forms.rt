@@ -17,7 +17,7 @@ type Terms<'a> = &'a [(u32, i128)];
 
 // The operations on a form.
 #[derive(Clone, Copy)]
-enum Deed<'a> {
+enum Operation<'a> {
     // This sum is added this many times.
     Add(i128, Sum),
     // This sum stands in place of x.
@@ -50,12 +50,12 @@ fn scaled_sum(alloc: Global, left: Sum, k: i128, right: Sum) -> Result<Form, For
     Ok(sum)
 }
 
-fn done(alloc: Global, sum: Sum, deed: Deed<'_>) -> Result<Form, FormError> {
+fn done(alloc: Global, sum: Sum, deed: Operation<'_>) -> Result<Form, FormError> {
     match deed {
-        Deed::Add(k, other) => scaled_sum(alloc, sum, k, other),
-        Deed::Replace(x) => form(alloc, sum)?.replace(X, &form(alloc, x)?),
-        Deed::Apply(entries) => form(alloc, sum)?.apply(&map_of(alloc, entries)?),
-        Deed::Cut(d) => form(alloc, sum)?.cut(d),
+        Operation::Add(k, other) => scaled_sum(alloc, sum, k, other),
+        Operation::Replace(x) => form(alloc, sum)?.replace(X, &form(alloc, x)?),
+        Operation::Apply(entries) => form(alloc, sum)?.apply(&map_of(alloc, entries)?),
+        Operation::Cut(d) => form(alloc, sum)?.cut(d),
     }
 }
 
@@ -71,81 +71,86 @@ fn expect_form(rt: &impl Abort, form: &Form, terms: Terms<'_>, constant: i128) {
 }
 
 // A form, the operations on it, and the terms and the constant that it has then.
-const DONE: &[(Sum, Deed<'_>, Terms<'_>, i128)] = &[
-    ((1, 0, 0), Deed::Add(3, (1, 0, -1)), &[(X, 4)], -3),
-    ((4, 0, -3), Deed::Add(-4, (1, 0, 0)), &[], -3),
-    ((0, 1, 0), Deed::Add(-1, (1, 0, 0)), &[(X, -1), (Y, 1)], 0),
+const DONE: &[(Sum, Operation<'_>, Terms<'_>, i128)] = &[
+    ((1, 0, 0), Operation::Add(3, (1, 0, -1)), &[(X, 4)], -3),
+    ((4, 0, -3), Operation::Add(-4, (1, 0, 0)), &[], -3),
+    (
+        (0, 1, 0),
+        Operation::Add(-1, (1, 0, 0)),
+        &[(X, -1), (Y, 1)],
+        0,
+    ),
     // The least number of all, as a factor, a product and a sum, in a coefficient and a constant.
     (
         (0, 0, 0),
-        Deed::Add(i128::MIN, (0, 1, 1)),
+        Operation::Add(i128::MIN, (0, 1, 1)),
         &[(Y, i128::MIN)],
         i128::MIN,
     ),
     (
         (0, 0, 0),
-        Deed::Add(1 << 63, (-(1 << 64), 0, 0)),
+        Operation::Add(1 << 63, (-(1 << 64), 0, 0)),
         &[(X, i128::MIN)],
         0,
     ),
     (
         (-(1 << 126), 3, 0),
-        Deed::Add(1, (-(1 << 126), 0, 0)),
+        Operation::Add(1, (-(1 << 126), 0, 0)),
         &[(X, i128::MIN), (Y, 3)],
         0,
     ),
-    ((2, 0, -3), Deed::Replace((0, 1, 1)), &[(Y, 2)], -1),
+    ((2, 0, -3), Operation::Replace((0, 1, 1)), &[(Y, 2)], -1),
     (
         (1 << 31, 0, 0),
-        Deed::Replace((1, 0, 0)),
+        Operation::Replace((1, 0, 0)),
         &[(X, 1 << 31)],
         0,
     ),
     (
         (1 << 31, 0, 0),
-        Deed::Replace((1 << 31, 0, 0)),
+        Operation::Replace((1 << 31, 0, 0)),
         &[(X, 1 << 62)],
         0,
     ),
     (
         (1 << 31, 0, 0),
-        Deed::Replace((1 << 62, 0, 0)),
+        Operation::Replace((1 << 62, 0, 0)),
         &[(X, 1 << 93)],
         0,
     ),
     (
         (1 << 31, 0, 0),
-        Deed::Replace((1 << 93, 0, 0)),
+        Operation::Replace((1 << 93, 0, 0)),
         &[(X, 1 << 124)],
         0,
     ),
-    ((2, 0, -3), Deed::Apply(&[]), &[(X, 2)], -3),
+    ((2, 0, -3), Operation::Apply(&[]), &[(X, 2)], -3),
     (
         (2, 0, -3),
-        Deed::Apply(&[(X, (5, 0, 0)), (X, (0, 1, 1))]),
+        Operation::Apply(&[(X, (5, 0, 0)), (X, (0, 1, 1))]),
         &[(Y, 2)],
         -1,
     ),
     (
         (1, 2, 0),
-        Deed::Apply(&[(X, (5, 0, 0)), (X, (0, 1, 1)), (Y, (1, 0, 0))]),
+        Operation::Apply(&[(X, (5, 0, 0)), (X, (0, 1, 1)), (Y, (1, 0, 0))]),
         &[(X, 2), (Y, 1)],
         1,
     ),
     (
         (1, 2, 0),
-        Deed::Apply(&[(X, (0, 1, 1)), (Y, (5, 0, 0)), (Y, (1, 0, 0))]),
+        Operation::Apply(&[(X, (0, 1, 1)), (Y, (5, 0, 0)), (Y, (1, 0, 0))]),
         &[(X, 2), (Y, 1)],
         1,
     ),
-    ((2, 0, -3), Deed::Cut(2), &[(X, 1)], -1),
-    ((4, 0, 1), Deed::Cut(2), &[(X, 2)], 1),
-    ((2, -2, -1), Deed::Cut(2), &[(X, 1), (Y, -1)], 0),
-    ((-2, 2, 1), Deed::Cut(2), &[(X, -1), (Y, 1)], 1),
+    ((2, 0, -3), Operation::Cut(2), &[(X, 1)], -1),
+    ((4, 0, 1), Operation::Cut(2), &[(X, 2)], 1),
+    ((2, -2, -1), Operation::Cut(2), &[(X, 1), (Y, -1)], 0),
+    ((-2, 2, 1), Operation::Cut(2), &[(X, -1), (Y, 1)], 1),
 ];
 
 #[test]
-fn what_is_done_to_forms(rt: HostRuntime) -> Result<(), Fail> {
+fn operations_on_forms(rt: HostRuntime) -> Result<(), Fail> {
     for (sum, deed, terms, constant) in DONE {
         let form = done(rt.alloc(), *sum, *deed)?;
         expect_form(&rt, &form, terms, *constant);
@@ -154,24 +159,24 @@ fn what_is_done_to_forms(rt: HostRuntime) -> Result<(), Fail> {
 }
 
 // A form, the operations on it, and why it is refused.
-const REFUSED: &[(Sum, Deed<'_>, FormFault)] = &[
-    ((2, 0, 1), Deed::Cut(3), FormFault::NotDivisible),
-    ((2, 0, 1), Deed::Cut(0), FormFault::NotDivisible),
-    ((2, 0, 1), Deed::Cut(-1), FormFault::NotDivisible),
+const REFUSED: &[(Sum, Operation<'_>, FormFault)] = &[
+    ((2, 0, 1), Operation::Cut(3), FormFault::NotDivisible),
+    ((2, 0, 1), Operation::Cut(0), FormFault::NotDivisible),
+    ((2, 0, 1), Operation::Cut(-1), FormFault::NotDivisible),
     // -1 * -2^127
     (
         (0, 0, 0),
-        Deed::Add(-1, (0, i128::MIN, 0)),
+        Operation::Add(-1, (0, i128::MIN, 0)),
         FormFault::TooLarge,
     ),
     (
         (1 << 31, 0, 0),
-        Deed::Replace((1 << 124, 0, 0)),
+        Operation::Replace((1 << 124, 0, 0)),
         FormFault::TooLarge,
     ),
     (
         (1 << 31, 0, 0),
-        Deed::Apply(&[(X, (1 << 124, 0, 0))]),
+        Operation::Apply(&[(X, (1 << 124, 0, 0))]),
         FormFault::TooLarge,
     ),
 ];
@@ -184,7 +189,7 @@ fn expect_fault<T>(rt: &impl Abort, answer: &Result<T, FormError>, fault: FormFa
 }
 
 #[test]
-fn what_is_refused(rt: HostRuntime) {
+fn out_of_range(rt: HostRuntime) {
     for (sum, deed, fault) in REFUSED {
         expect_fault(&rt, &done(rt.alloc(), *sum, *deed), *fault);
     }

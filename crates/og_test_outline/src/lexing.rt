@@ -137,7 +137,7 @@ fn places_offsets(rt: HostRuntime) -> Result<(), Fail> {
 }
 
 #[test]
-fn tells_kinds_apart(rt: HostRuntime) -> Result<(), Fail> {
+fn keeps_kinds_apart(rt: HostRuntime) -> Result<(), Fail> {
     let a = TokenKind::Name(Name::from_slice(rt.alloc(), b"a")?);
     let b = TokenKind::Name(Name::from_slice(rt.alloc(), b"b")?);
     assert!(rt; a.is_like(&b) && !a.is_like(&TokenKind::Var));

@@ -71,9 +71,9 @@ fn expect_index<R: Abort>(rt: &R, alloc: Global, outline: &Outline) -> Result<()
 #[test]
 fn places(rt: HostRuntime) -> Result<(), Fail> {
     let outline = outline_of(rt.alloc(), SOURCE)?;
-    let told = expect_index(&rt, rt.alloc(), &outline);
+    let result = expect_index(&rt, rt.alloc(), &outline);
     drop(outline);
-    told
+    result
 }
 
 // The places of the assertions and of the statements of `NESTED`.
@@ -102,9 +102,9 @@ fn expect_ends<R: Abort>(rt: &R, outline: &Outline, places: (u32, u32, u32)) {
 #[test]
 fn nested_places(rt: HostRuntime) -> Result<(), Fail> {
     let outline = outline_of(rt.alloc(), NESTED)?;
-    let told = expect_nested(&rt, rt.alloc(), &outline);
+    let result = expect_nested(&rt, rt.alloc(), &outline);
     drop(outline);
-    told
+    result
 }
 
 const PARTS: &str =

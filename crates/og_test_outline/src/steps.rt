@@ -47,7 +47,7 @@ fn of_assert(alloc: Global, assertion: &Assert) -> Result<String, AllocError> {
 }
 
 // The current assertions of the process and of the main process, and whether each has ended.
-fn told(alloc: Global, moment: &Moment<'_>) -> Result<String, AllocError> {
+fn result(alloc: Global, moment: &Moment<'_>) -> Result<String, AllocError> {
     let first = of_assert(alloc, moment.current(0))?;
     let main = of_assert(alloc, moment.current(1))?;
     let ended = (moment.is_done(0), moment.is_done(1));
@@ -63,11 +63,11 @@ const MOVES: &[(u32, &str)] = &[
 ];
 
 fn expect_moves<R: Abort>(rt: &R, alloc: Global, moment: &mut Moment<'_>) -> Result<(), Fail> {
-    let before = told(alloc, moment)?;
+    let before = result(alloc, moment)?;
     assert_eq!(rt; before.as_str(), "0 true (false, false)");
     for (process, expected) in MOVES {
         let _turn = moment.step(*process);
-        let got = told(alloc, moment)?;
+        let got = result(alloc, moment)?;
         assert_eq!(rt; got.as_str(), *expected);
     }
     Ok(())
@@ -75,15 +75,15 @@ fn expect_moves<R: Abort>(rt: &R, alloc: Global, moment: &mut Moment<'_>) -> Res
 
 fn expect_moves_of<R: Abort>(rt: &R, alloc: Global, outline: &Outline) -> Result<(), Fail> {
     let mut moment = begun(alloc, outline, [7].as_slice())?;
-    let told = expect_moves(rt, alloc, &mut moment);
+    let result = expect_moves(rt, alloc, &mut moment);
     drop(moment);
-    told
+    result
 }
 
 #[test]
 fn current_assertions(rt: HostRuntime) -> Result<(), Fail> {
     let outline = outline_of(rt.alloc(), WITH_MAIN)?;
-    let told = expect_moves_of(&rt, rt.alloc(), &outline);
+    let result = expect_moves_of(&rt, rt.alloc(), &outline);
     drop(outline);
-    told
+    result
 }

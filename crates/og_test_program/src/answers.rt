@@ -4,11 +4,13 @@ use og_command_check::{
     Answer, EngineFault, FindReply, Options, Wanted, checked, engine, erased, found, migrated,
 };
 use og_io::{Budget, CertVersion, OutputFault, Workers};
-use og_pool::{OpenGate, PoolFault};
+use og_judge::Refusal;
+use og_pool::OpenGate;
 use og_report_conditions::{Form, Listing, Reply, listed};
 use og_test_samples::{
-    ONE_SKIP, ONE_SKIP_CERTS, ONE_SKIP_CERTS_2, TOLD_ADD, TWO_ADD, TWO_ADD_CERTS, alike,
+    AUXILIARY_ADD, ONE_SKIP, ONE_SKIP_CERTS, ONE_SKIP_CERTS_2, TWO_ADD, TWO_ADD_CERTS, alike,
 };
+use og_typed::Source;
 use std::alloc::Global;
 use std::io::{Error, ErrorKind, Write};
 use std::sync::Wait;
@@ -26,13 +28,10 @@ const OPTIONS: Options = Options {
     json: false,
 };
 
-pub(crate) fn is_checked<R: Threads + Wait + Sync>(
-    rt: &R,
-    alloc: Global,
-) -> Result<bool, PoolFault> {
+pub(crate) fn is_checked<R: Threads + Wait + Sync>(rt: &R, alloc: Global) -> Result<bool, Refusal> {
     let (source, certs) = (TWO_ADD.as_bytes(), TWO_ADD_CERTS.as_bytes());
-    let answer = checked(rt, alloc, source, certs, OPTIONS, &OpenGate)?;
-    Ok(is(&answer, REPORT, 0))
+    let checked = checked(rt, alloc, source, certs, OPTIONS, &OpenGate)?;
+    Ok(is(&checked.answer, REPORT, 0))
 }
 
 // Paper of fixed length, which asks for no memory.
@@ -73,18 +72,15 @@ impl<const LENGTH: usize> Write for Sheet<LENGTH> {
 }
 
 // Where there is no answer nothing is written.
-fn of_engine(answer: Result<u8, EngineFault>, written: &[u8]) -> Result<bool, PoolFault> {
+fn of_engine(answer: Result<u8, EngineFault>, written: &[u8]) -> Result<bool, Refusal> {
     match answer {
         Ok(status) => Ok(status == 0 && written == REPORT.as_bytes()),
-        Err(EngineFault::Memory) if written.is_empty() => Err(PoolFault::Memory),
+        Err(EngineFault::Memory) if written.is_empty() => Err(Refusal::Memory),
         Err(_) => Ok(false),
     }
 }
 
-pub(crate) fn is_written<R: Threads + Wait + Sync>(
-    rt: &R,
-    alloc: Global,
-) -> Result<bool, PoolFault> {
+pub(crate) fn is_written<R: Threads + Wait + Sync>(rt: &R, alloc: Global) -> Result<bool, Refusal> {
     let (mut source, mut certs) = (TWO_ADD.as_bytes(), TWO_ADD_CERTS.as_bytes());
     let mut sheet = Sheet::<64>::new();
     let answer = engine(
@@ -116,16 +112,17 @@ fn of_output(
     answer: Result<u8, OutputFault>,
     written: &[u8],
     whole: &[u8],
-) -> Result<bool, PoolFault> {
+) -> Result<bool, Refusal> {
     match answer {
         Ok(status) => Ok(status == 0 && written == whole),
-        Err(OutputFault::Memory) if whole.starts_with(written) => Err(PoolFault::Memory),
+        Err(OutputFault::Memory) if whole.starts_with(written) => Err(Refusal::Memory),
         Err(_) => Ok(false),
     }
 }
 
-pub(crate) fn is_listed(alloc: Global) -> Result<bool, PoolFault> {
-    let Reply::Listing(listing) = listed(alloc, Form::Facts, None, ONE_SKIP.as_bytes())? else {
+pub(crate) fn is_listed(alloc: Global) -> Result<bool, Refusal> {
+    let source = Source::read(alloc, ONE_SKIP.as_bytes())?;
+    let Reply::Listing(listing) = listed(alloc, Form::Facts, None, source)? else {
         return Ok(false);
     };
     let mut sheet = Sheet::<256>::new();
@@ -134,11 +131,11 @@ pub(crate) fn is_listed(alloc: Global) -> Result<bool, PoolFault> {
 }
 
 // A listing that is written in several pieces is compared with the same one, written again.
-fn in_pieces(alloc: Global, listing: &Listing) -> Result<bool, PoolFault> {
+fn in_pieces(alloc: Global, listing: &Listing) -> Result<bool, Refusal> {
     let (mut sheet, mut again) = (Sheet::<16_384>::new(), Sheet::<16_384>::new());
     let answer = listing.write(alloc, &mut sheet);
     if listing.write(alloc, &mut again).is_err() {
-        return Err(PoolFault::Memory);
+        return Err(Refusal::Memory);
     }
     if again.written().len() <= 8_192 {
         return Ok(false);
@@ -146,15 +143,16 @@ fn in_pieces(alloc: Global, listing: &Listing) -> Result<bool, PoolFault> {
     of_output(answer, sheet.written(), again.written())
 }
 
-pub(crate) fn is_listed_in_pieces(alloc: Global) -> Result<bool, PoolFault> {
+pub(crate) fn is_listed_in_pieces(alloc: Global) -> Result<bool, Refusal> {
     let source = alike(alloc, 4, 1, 2)?;
-    match listed(alloc, Form::Triples, None, source.as_bytes())? {
+    let source = Source::read(alloc, source.as_bytes())?;
+    match listed(alloc, Form::Triples, None, source)? {
         Reply::Listing(listing) => in_pieces(alloc, &listing),
         _ => Ok(false),
     }
 }
 
-pub(crate) fn is_found<R: Threads + Wait + Sync>(rt: &R, alloc: Global) -> Result<bool, PoolFault> {
+pub(crate) fn is_found<R: Threads + Wait + Sync>(rt: &R, alloc: Global) -> Result<bool, Refusal> {
     let (Some(budget), Some(workers)) = (Budget::new(100_000), Workers::new(2)) else {
         return Ok(false);
     };
@@ -164,7 +162,8 @@ pub(crate) fn is_found<R: Threads + Wait + Sync>(rt: &R, alloc: Global) -> Resul
         version: CertVersion::ONE,
         limit: ONE_SKIP_CERTS.len(),
     };
-    let reply = found(rt, alloc, ONE_SKIP.as_bytes(), wanted, &OpenGate)?;
+    let source = Source::read(alloc, ONE_SKIP.as_bytes())?;
+    let reply = found(rt, alloc, source.outline(), wanted, &OpenGate)?;
     let FindReply::Found(found) = reply else {
         return Ok(false);
     };
@@ -176,11 +175,12 @@ pub(crate) fn is_found<R: Threads + Wait + Sync>(rt: &R, alloc: Global) -> Resul
 const ERASED: &str =
     "var x;\ncobegin\n  await true then x := x + 1\n//\n  await true then x := x + 1\ncoend\n";
 
-pub(crate) fn is_erased(alloc: Global) -> Result<bool, PoolFault> {
-    Ok(is(&erased(alloc, TOLD_ADD.as_bytes(), false)?, ERASED, 0))
+pub(crate) fn is_erased(alloc: Global) -> Result<bool, Refusal> {
+    let source = Source::read(alloc, AUXILIARY_ADD.as_bytes())?;
+    Ok(is(&erased(alloc, source.outline(), false)?, ERASED, 0))
 }
 
-pub(crate) fn is_migrated(alloc: Global) -> Result<bool, PoolFault> {
+pub(crate) fn is_migrated(alloc: Global) -> Result<bool, Refusal> {
     let migrated = migrated(alloc, ONE_SKIP_CERTS.as_bytes())?;
     Ok(is(&migrated, ONE_SKIP_CERTS_2, 0))
 }

@@ -3,13 +3,15 @@
 use og_command_check::{Answer, CERTS_LIMIT, FindReply, Options, Wanted, checked, found};
 use og_find::Missing;
 use og_io::{Budget, CertVersion, Workers};
+use og_judge::Refusal;
 use og_pool::{Gate, OpenGate};
+use og_test_samples::outline_of;
 use std::alloc::Global;
 use std::sync::Wait;
 use std::test::Fail;
 use std::thread::Threads;
 
-/// The answer of a check.
+/// The answer of a check; none where the source or the certificates are refused.
 pub(crate) fn checked_by<G: Gate, R: Threads + Wait + Sync>(
     rt: &R,
     alloc: Global,
@@ -17,12 +19,15 @@ pub(crate) fn checked_by<G: Gate, R: Threads + Wait + Sync>(
     certs: &[u8],
     workers: u32,
     gate: &G,
-) -> Result<Answer, Fail> {
+) -> Result<Option<Answer>, Fail> {
     let options = Options {
         workers: Workers::new(workers).ok_or("no number of workers")?,
         json: false,
     };
-    Ok(checked(rt, alloc, source.as_bytes(), certs, options, gate)?)
+    match checked(rt, alloc, source.as_bytes(), certs, options, gate) {
+        Err(Refusal::Input(_)) => Ok(None),
+        checked => Ok(Some(checked?.answer)),
+    }
 }
 
 /// The result of a search whose text may have this many bytes.
@@ -40,7 +45,10 @@ pub(crate) fn found_within<R: Threads + Wait + Sync>(
         version,
         limit,
     };
-    Ok(found(rt, alloc, source.as_bytes(), wanted, &OpenGate)?)
+    let outline = outline_of(alloc, source)?;
+    let found = found(rt, alloc, &outline, wanted, &OpenGate);
+    drop(outline);
+    Ok(found?)
 }
 
 /// What a search finds.
@@ -63,7 +71,7 @@ pub(crate) fn certs_by<R: Threads + Wait + Sync>(
     version: CertVersion,
 ) -> Result<(Vec<u8>, u8, Missing), Fail> {
     let FindReply::Found(found) = found_by(rt, alloc, source, workers, version)? else {
-        return Err(Fail::new("the source is refused"));
+        return Err(Fail::new("the text is too long"));
     };
     let mut text = Vec::new(alloc);
     let status = found.write(alloc, &mut text).or(Err("not written"))?;

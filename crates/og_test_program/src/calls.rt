@@ -9,10 +9,10 @@
 use crate::answers::{
     is_checked, is_erased, is_found, is_listed, is_listed_in_pieces, is_migrated, is_written,
 };
-use crate::judged::{is_judged, is_told};
+use crate::judged::{is_judged, is_summed_up};
 use crate::runs::{is_proved_run, is_run, is_run_by_schedule};
 use crate::searched::{are_examined, are_found};
-use og_pool::PoolFault;
+use og_judge::Refusal;
 use std::alloc::Global;
 use std::process::Abort;
 use std::sync::Wait;
@@ -21,7 +21,7 @@ use std::thread::Threads;
 #[derive(Clone, Copy, Debug)]
 enum Call {
     Judge,
-    Tell,
+    SumUp,
     Check,
     Write,
     List,
@@ -37,14 +37,10 @@ enum Call {
 }
 
 // Whether the answer is right.
-fn is_right<R: Threads + Wait + Sync>(
-    rt: &R,
-    alloc: Global,
-    call: Call,
-) -> Result<bool, PoolFault> {
+fn is_right<R: Threads + Wait + Sync>(rt: &R, alloc: Global, call: Call) -> Result<bool, Refusal> {
     match call {
         Call::Judge => is_judged(rt, alloc),
-        Call::Tell => is_told(rt, alloc),
+        Call::SumUp => is_summed_up(rt, alloc),
         Call::Check => is_checked(rt, alloc),
         Call::Write => is_written(rt, alloc),
         Call::List => is_listed(alloc),
@@ -62,11 +58,11 @@ fn is_right<R: Threads + Wait + Sync>(
 
 // The answer is right, the first time or, where memory or a thread was refused, the second.
 fn expect_right<R: Threads + Wait + Sync + Abort>(rt: &R, alloc: Global, call: Call) {
-    let first = is_right(rt, alloc, call);
-    if first.is_err() {
-        assert!(rt; is_right(rt, alloc, call) == Ok(true));
-    } else {
-        assert!(rt; first == Ok(true));
+    match is_right(rt, alloc, call) {
+        Err(Refusal::Memory | Refusal::Spawn) => {
+            assert!(rt; is_right(rt, alloc, call) == Ok(true));
+        }
+        first => assert!(rt; first == Ok(true)),
     }
 }
 
@@ -76,8 +72,8 @@ fn judges(rt: HostRuntime) {
 }
 
 #[test]
-fn tells(rt: HostRuntime) {
-    expect_right(&rt, rt.alloc(), Call::Tell);
+fn sums_up(rt: HostRuntime) {
+    expect_right(&rt, rt.alloc(), Call::SumUp);
 }
 
 #[test]
@@ -121,7 +117,7 @@ fn runs(rt: HostRuntime) {
 }
 
 #[test]
-fn runs_what_is_proved(rt: HostRuntime) {
+fn runs_a_proved_outline(rt: HostRuntime) {
     expect_right(&rt, rt.alloc(), Call::RunProved);
 }
 

@@ -67,55 +67,55 @@ impl Read for Restless {
 
 /// What a writer does in place of its work.
 #[derive(Clone, Copy)]
-pub(crate) enum Lapse {
+pub(crate) enum Failure {
     Fails,
     IsInterrupted,
     TakesNothing,
 }
 
-/// Takes one byte at each write, but for a lapse at the write of this number, counted from 1; or
+/// Takes one byte at each write, but for a failure at the write of this number, counted from 1; or
 /// fails at the flush.
 #[derive(Drop)]
-pub(crate) struct Paper {
+pub(crate) struct Capture {
     pub(crate) bytes: Vec<u8>,
     fails_at: usize,
-    lapse: Lapse,
+    failure: Failure,
     pub(crate) writes: usize,
     pub(crate) fails_flush: bool,
 }
 
-impl Paper {
+impl Capture {
     /// One that lapses at this write; at none where that is 0.
-    pub(crate) fn new(alloc: Global, fails_at: usize, lapse: Lapse) -> Paper {
-        Paper {
+    pub(crate) fn new(alloc: Global, fails_at: usize, failure: Failure) -> Capture {
+        Capture {
             bytes: Vec::new(alloc),
             fails_at,
-            lapse,
+            failure,
             writes: 0,
             fails_flush: false,
         }
     }
 
-    // What the lapse answers.
-    fn lapsed(&self) -> Result<usize, Error>
+    // The answer of the failure.
+    fn failed(&self) -> Result<usize, Error>
         ensures { IfOk result (λ count. count ≡ 0) }
     {
-        match self.lapse {
-            Lapse::Fails => Err(Error::from(ErrorKind::Other)),
-            Lapse::IsInterrupted => Err(Error::from(ErrorKind::Interrupted)),
-            Lapse::TakesNothing => Ok(0),
+        match self.failure {
+            Failure::Fails => Err(Error::from(ErrorKind::Other)),
+            Failure::IsInterrupted => Err(Error::from(ErrorKind::Interrupted)),
+            Failure::TakesNothing => Ok(0),
         }
     }
 }
 
-impl Write for Paper {
+impl Write for Capture {
     fn write(&mut self, buf: &[u8]) -> Result<usize, Error> {
         self.writes = self.writes.saturating_add(1);
         let Some(first) = buf.first() else {
             return Ok(0);
         };
         if self.writes == self.fails_at {
-            return self.lapsed();
+            return self.failed();
         }
         if self.bytes.push(*first).is_err() {
             return Err(Error::from(ErrorKind::Other));

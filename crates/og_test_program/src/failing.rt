@@ -1,6 +1,6 @@
 //! Checks from readers and to writers that fail.
 
-use crate::devices::{Lapse, OneByOne, Paper, Restless, Spaces};
+use crate::devices::{Capture, Failure, OneByOne, Restless, Spaces};
 use og_command_check::{EngineFault, Options, engine, engine_joined};
 use og_io::{Workers, read_up_to};
 use og_pool::OpenGate;
@@ -24,7 +24,7 @@ fn check_from<R: Threads + Wait + Sync, S: Read, C: Read>(
     rt: &R,
     source: &mut S,
     certs: &mut C,
-    paper: &mut Paper,
+    paper: &mut Capture,
 ) -> Result<u8, EngineFault> {
     let alloc = *paper.bytes.allocator();
     engine(rt, alloc, source, certs, paper, OPTIONS, &OpenGate)
@@ -48,7 +48,7 @@ fn expect_reads<R: Threads + Wait + Sync + Abort>(
             at.saturating_sub(of_source),
             kind,
         );
-        let mut paper = Paper::new(alloc, 0, Lapse::Fails);
+        let mut paper = Capture::new(alloc, 0, Failure::Fails);
         let got = check_from(rt, &mut source, &mut certs, &mut paper);
         assert!(rt; got == expected, "at {at}");
         let written = paper.bytes.as_slice();
@@ -66,7 +66,7 @@ fn expect_failed_joined_reads<R: Threads + Wait + Sync + Abort>(
 ) -> Result<(), Fail> {
     let mut input = Vec::from_slice(alloc, ONE_SKIP.as_bytes())?;
     input.extend_from_slice(ONE_SKIP_CERTS.as_bytes())?;
-    let mut paper = Paper::new(alloc, 0, Lapse::Fails);
+    let mut paper = Capture::new(alloc, 0, Failure::Fails);
     for at in 1..input.len() + 2 {
         let mut reader = OneByOne::new(&input, at, ErrorKind::Other);
         let got = engine_joined(rt, alloc, &mut reader, &mut paper, OPTIONS, &OpenGate);
@@ -88,7 +88,7 @@ fn readers(rt: HostRuntime) -> Result<(), Fail> {
 fn expect_given_up<R: Threads + Wait + Sync + Abort>(rt: &R, alloc: Global) {
     let mut source = Restless { reads: 0 };
     let mut certs = OneByOne::new(ONE_SKIP_CERTS.as_bytes(), 0, ErrorKind::Other);
-    let mut paper = Paper::new(alloc, 0, Lapse::Fails);
+    let mut paper = Capture::new(alloc, 0, Failure::Fails);
     let got = check_from(rt, &mut source, &mut certs, &mut paper);
     assert!(rt; got == Err(EngineFault::ReadFailed));
     assert!(rt; source.reads == 100_000_000);
@@ -118,11 +118,11 @@ fn limits(rt: HostRuntime) -> Result<(), Fail> {
 fn expect_writes<R: Threads + Wait + Sync + Abort>(
     rt: &R,
     alloc: Global,
-    lapse: Lapse,
+    failure: Failure,
     expected: Result<u8, EngineFault>,
 ) {
     for at in 1..REPORT.len() + 1 {
-        let mut paper = Paper::new(alloc, at, lapse);
+        let mut paper = Capture::new(alloc, at, failure);
         let (mut source, mut certs) = (ONE_SKIP.as_bytes(), ONE_SKIP_CERTS.as_bytes());
         let got = check_from(rt, &mut source, &mut certs, &mut paper);
         assert!(rt; got == expected, "at {at}");
@@ -142,7 +142,7 @@ fn expect_whole<R: Threads + Wait + Sync + Abort>(
     fails_flush: bool,
     expected: Result<u8, EngineFault>,
 ) {
-    let mut paper = Paper::new(alloc, REPORT.len() + 1, Lapse::Fails);
+    let mut paper = Capture::new(alloc, REPORT.len() + 1, Failure::Fails);
     paper.fails_flush = fails_flush;
     let (mut source, mut certs) = (ONE_SKIP.as_bytes(), ONE_SKIP_CERTS.as_bytes());
     let got = check_from(rt, &mut source, &mut certs, &mut paper);
@@ -154,9 +154,9 @@ fn expect_whole<R: Threads + Wait + Sync + Abort>(
 #[test]
 fn writers(rt: HostRuntime) {
     let (alloc, failed) = (rt.alloc(), Err(EngineFault::WriteFailed));
-    expect_writes(&rt, alloc, Lapse::Fails, failed);
-    expect_writes(&rt, alloc, Lapse::TakesNothing, failed);
-    expect_writes(&rt, alloc, Lapse::IsInterrupted, Ok(0));
+    expect_writes(&rt, alloc, Failure::Fails, failed);
+    expect_writes(&rt, alloc, Failure::TakesNothing, failed);
+    expect_writes(&rt, alloc, Failure::IsInterrupted, Ok(0));
     expect_whole(&rt, alloc, false, Ok(0));
     expect_whole(&rt, alloc, true, failed);
 }
@@ -169,7 +169,7 @@ fn expect_refused<R: Threads + Wait + Sync + Abort, S: Read, C: Read>(
     certs: &mut C,
     line: &[u8],
 ) {
-    let mut paper = Paper::new(alloc, 0, Lapse::Fails);
+    let mut paper = Capture::new(alloc, 0, Failure::Fails);
     let got = check_from(rt, source, certs, &mut paper);
     assert!(rt; got == Ok(2));
     assert!(rt; paper.bytes.as_slice() == line);

@@ -30,7 +30,7 @@ fn expect_found<R: Threads + Wait + Sync + Abort>(
     assert!(rt; certs.starts_with(opening));
     assert_eq!(rt; lacking, missing);
     assert_eq!(rt; status, u8::from(missing.count > 0));
-    let answer = checked_by(rt, alloc, source, &certs, 2, &OpenGate)?;
+    let answer = checked_by(rt, alloc, source, &certs, 2, &OpenGate)?.ok_or("refused")?;
     assert!(rt; answer.text.ends_with(report.as_bytes()));
     Ok(())
 }
@@ -74,6 +74,7 @@ fn expect_proved<R: Threads + Wait + Sync + Abort>(
     assert_eq!(rt; status, 0);
     for workers in [1, 2, 64] {
         let answer = checked_by(rt, alloc, source, &certs, workers, &OpenGate)?;
+        let answer = answer.ok_or("refused")?;
         assert!(rt; answer.text.as_slice() == REPORT, "by {workers} workers");
         assert!(rt; answer.status == 0, "by {workers} workers");
     }

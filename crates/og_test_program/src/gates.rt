@@ -39,7 +39,7 @@ fn three_workers_meet(rt: HostRuntime) -> Result<(), Fail> {
         inside: AtomicU64::new(0),
         missed: AtomicU64::new(0),
     };
-    let answer = checked_by(&rt, rt.alloc(), TWO_ADD, NO_CERTS, 3, &gate)?;
+    let answer = checked_by(&rt, rt.alloc(), TWO_ADD, NO_CERTS, 3, &gate)?.ok_or("refused")?;
     assert_eq!(rt; answer.status, 1);
     assert!(rt; gate.missed.load(Ordering::SeqCst) == 0);
     Ok(())
@@ -64,12 +64,12 @@ impl Gate for Counts {
 
 // A check calls its own gate, once for each condition.
 #[test]
-fn a_check_tells_its_gate(rt: HostRuntime) -> Result<(), Fail> {
+fn a_check_calls_its_gate(rt: HostRuntime) -> Result<(), Fail> {
     let gate = Counts {
         before: AtomicU64::new(0),
         after: AtomicU64::new(0),
     };
-    let answer = checked_by(&rt, rt.alloc(), TWO_ADD, NO_CERTS, 2, &gate)?;
+    let answer = checked_by(&rt, rt.alloc(), TWO_ADD, NO_CERTS, 2, &gate)?.ok_or("refused")?;
     assert_eq!(rt; answer.status, 1);
     assert_eq!(rt; gate.before.load(Ordering::SeqCst), 12);
     assert_eq!(rt; gate.after.load(Ordering::SeqCst), 12);

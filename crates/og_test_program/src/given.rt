@@ -34,7 +34,7 @@ impl<'a> Env for WordList<'a> {
 }
 
 // The words after the name, each with `|` behind it, or their fault.
-fn told<'a>(alloc: Global, words: &'a [&'a [u8]]) -> Result<String, AllocError> {
+fn text_of<'a>(alloc: Global, words: &'a [&'a [u8]]) -> Result<String, AllocError> {
     let given = match given_words(&(WordList { words }, alloc)) {
         Ok(given) => given,
         Err(Usage::Wrong(why)) => return Ok(why),
@@ -61,7 +61,7 @@ const WORDS: &[(&[&[u8]], &str)] = &[
 #[test]
 fn words_that_are_given(rt: HostRuntime) -> Result<(), Fail> {
     for (words, expected) in WORDS {
-        let got = told(rt.alloc(), words)?;
+        let got = text_of(rt.alloc(), words)?;
         assert_eq!(rt; got.as_str(), *expected);
     }
     Ok(())

@@ -1,34 +1,26 @@
 //! Judgements, and their texts.
 
 use og_judge::{Judgement, Refusal, judge};
-use og_pool::{OpenGate, PoolFault};
+use og_pool::OpenGate;
 use og_report::{json, text};
 use og_test_samples::{SKIP_AND_ASSIGN, SKIP_AND_ASSIGN_CERTS, TWO_ADD, TWO_ADD_CERTS};
 use std::alloc::Global;
 use std::sync::Wait;
 use std::thread::Threads;
 
-// A judgement; none where the texts are refused.
+// The judgement of two workers.
 fn judged<R: Threads + Wait + Sync>(
     rt: &R,
     alloc: Global,
     source: &str,
     certs: &str,
-) -> Result<Option<Judgement>, PoolFault> {
-    match judge(rt, alloc, source.as_bytes(), certs.as_bytes(), 2, &OpenGate) {
-        Ok(judgement) => Ok(Some(judgement)),
-        Err(Refusal::Memory) => Err(PoolFault::Memory),
-        Err(Refusal::Spawn) => Err(PoolFault::Spawn),
-        Err(Refusal::Input(_)) => Ok(None),
-    }
+) -> Result<Judgement, Refusal> {
+    judge(rt, alloc, source.as_bytes(), certs.as_bytes(), 2, &OpenGate)
 }
 
-pub(crate) fn is_judged<R: Threads + Wait + Sync>(
-    rt: &R,
-    alloc: Global,
-) -> Result<bool, PoolFault> {
+pub(crate) fn is_judged<R: Threads + Wait + Sync>(rt: &R, alloc: Global) -> Result<bool, Refusal> {
     let judgement = judged(rt, alloc, TWO_ADD, TWO_ADD_CERTS)?;
-    Ok(judgement.is_some_and(|it| it.safe() && it.unblocked() && it.entries().len() == 12))
+    Ok(judgement.safe() && judgement.unblocked() && judgement.entries().len() == 12)
 }
 
 const REPORT: &str = "4:1: condition 6 interfere with 6:8: missing
@@ -45,11 +37,12 @@ const JSON: &str = concat!(
     r#"{"action_column":8,"action_line":6,"column":14,"condition":7,"kind":"interfere","line":4,"status":"missing"}]}"#,
 );
 
-pub(crate) fn is_told<R: Threads + Wait + Sync>(rt: &R, alloc: Global) -> Result<bool, PoolFault> {
+pub(crate) fn is_summed_up<R: Threads + Wait + Sync>(
+    rt: &R,
+    alloc: Global,
+) -> Result<bool, Refusal> {
     let source = SKIP_AND_ASSIGN;
-    let Some(judgement) = judged(rt, alloc, source, SKIP_AND_ASSIGN_CERTS)? else {
-        return Ok(false);
-    };
+    let judgement = judged(rt, alloc, source, SKIP_AND_ASSIGN_CERTS)?;
     let report = text(alloc, &judgement, source.as_bytes())?;
     let members = json(alloc, &judgement, source.as_bytes())?;
     Ok(report.as_slice() == REPORT.as_bytes() && members.as_slice() == JSON.as_bytes())

@@ -167,7 +167,7 @@ fn words_of(alloc: Global, line: &str) -> Result<Vec<String>, AllocError> {
 }
 
 // How the job that the words of a line ask for is written.
-fn told(alloc: Global, line: &str) -> Result<String, Fail> {
+fn text_of(alloc: Global, line: &str) -> Result<String, Fail> {
     let words = words_of(alloc, line)?;
     let job = read_words(alloc, &words).or(Err("no job"))?;
     Ok(format!(in alloc; "{job:?}")?)
@@ -176,7 +176,7 @@ fn told(alloc: Global, line: &str) -> Result<String, Fail> {
 #[test]
 fn jobs(rt: HostRuntime) -> Result<(), Fail> {
     for (line, expected) in JOBS {
-        let got = told(rt.alloc(), line)?;
+        let got = text_of(rt.alloc(), line)?;
         assert!(rt; got.as_str() == *expected, "{got}: {line}");
     }
     Ok(())

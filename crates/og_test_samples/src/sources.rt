@@ -11,7 +11,7 @@ pub const EQUAL_ADD: &str =
     "var x;\n{x = 0}\ncobegin\n{x = 0 or x = 1}\nawait true then x := x + 1\n{x = 1 or x = 2}\n//\n{x = 0 or x = 1}\nawait true then x := x + 1\n{x = 1 or x = 2}\ncoend\n{x = 2}\n";
 
 /// With auxiliaries that record who has added.
-pub const TOLD_ADD: &str =
+pub const AUXILIARY_ADD: &str =
     "var x; aux a = 0, b = 0;\n{x = 0}\ncobegin\n{x = a + b and a = 0 and b <= 1}\nawait true then begin x := x + 1; a := 1 end\n{x = a + b and a = 1 and b <= 1}\n//\n{x = a + b and b = 0 and a <= 1}\nawait true then begin x := x + 1; b := 1 end\n{x = a + b and b = 1 and a <= 1}\ncoend\n{x = 2}\n";
 
 /// A process that skips where y = 0, and one that assigns y.

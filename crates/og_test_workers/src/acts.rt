@@ -3,7 +3,7 @@
 ghost use Rattle.std.specs.Prelude.{◌≡◌, []};
 
 use crate::sources::{ONE_OVERFLOWS, ONE_WAITS, state_of};
-use og_run::{Arena, ArenaName, Blank, Board, RunTurn, Seat};
+use og_run::{Arena, ArenaName, Board, RunTurn, Seat, Unstarted};
 use og_test_samples::{TWO_ADD, WITH_MAIN, outline_of};
 use og_typed::Outline;
 use std::alloc::{AllocError, Global};
@@ -14,7 +14,7 @@ use std::test::Fail;
 
 // What a seat does, and how the board looks then.
 #[derive(Clone, Copy)]
-enum Deed {
+enum Act {
     // Its process acts: the turn, how often the process has moved, and how long the history was.
     Acts(RunTurn, u64, u64),
     // It waits until the history is longer than it knows, or a process has overflowed.
@@ -26,7 +26,7 @@ struct Row<'a> {
     source: &'a str,
     values: &'a [i64],
     // Seats, by the numbers of their processes, with their deeds.
-    deeds: &'a [(u32, Deed)],
+    acts: &'a [(u32, Act)],
     // The state of a board after the same turns.
     history: &'a [u32],
     halted: Option<u32>,
@@ -35,8 +35,8 @@ struct Row<'a> {
 
 // A board answers each turn alike.
 fn expect_turns<R: Abort>(rt: &R, board: &mut Board<'_>, row: &Row<'_>) {
-    for (process, deed) in row.deeds {
-        if let Deed::Acts(turn, _, _) = deed {
+    for (process, act) in row.acts {
+        if let Act::Acts(turn, _, _) = act {
             assert!(rt; board.step(*process) == *turn);
         }
     }
@@ -49,15 +49,15 @@ fn expect_deed<K: ArenaName, R: Wait + Abort>(
     rt: &R,
     arena: &Arena<K, Board<'_>>,
     seat: &mut Seat<K>,
-    deed: &Deed,
+    act: &Act,
 ) {
-    match deed {
-        Deed::Acts(turn, moves, seen) => {
+    match act {
+        Act::Acts(turn, moves, seen) => {
             assert!(rt; arena.act(rt, seat) == *turn);
             assert!(rt; seat.moves() == *moves);
             assert!(rt; seat.seen() == *seen);
         }
-        Deed::Waits => arena.wait_change(rt, seat),
+        Act::Waits => arena.wait_change(rt, seat),
     }
 }
 
@@ -65,13 +65,13 @@ fn expect_deeds<K: ArenaName, R: Wait + Abort>(
     rt: &R,
     arena: &Arena<K, Board<'_>>,
     seats: &mut [Seat<K>],
-    deeds: &[(u32, Deed)],
+    acts: &[(u32, Act)],
 ) {
-    for (process, deed) in deeds {
+    for (process, act) in acts {
         match seats.get_mut(*process as usize) {
             Some(seat) => {
                 assert!(rt; seat.process() == *process);
-                expect_deed(rt, arena, seat, deed);
+                expect_deed(rt, arena, seat, act);
             }
             None => panic!(rt; "no seat of {process}"),
         }
@@ -81,17 +81,17 @@ fn expect_deeds<K: ArenaName, R: Wait + Abort>(
 fn expect_arena<K: ArenaName, R: Wait + Abort>(
     rt: &R,
     alloc: Global,
-    blank: Blank,
+    unstarted: Unstarted,
     board: Board<'_>,
-    deeds: &[(u32, Deed)],
+    acts: &[(u32, Act)],
 ) -> Result<(), AllocError>
-    requires name { blank.table ≡ K.table }
-    requires given { blank.given ≡ board.given }
+    requires name { unstarted.table ≡ K.table }
+    requires given { unstarted.given ≡ board.given }
     requires empty { board.history ≡ [] }
 {
-    let (arena, mut seats) = Arena::<K, Board<'_>>::new(alloc, blank, board)?;
+    let (arena, mut seats) = Arena::<K, Board<'_>>::new(alloc, unstarted, board)?;
     assert!(rt; seats.len() == 2);
-    expect_deeds(rt, &arena, seats.as_mut_slice(), deeds);
+    expect_deeds(rt, &arena, seats.as_mut_slice(), acts);
     Ok(())
 }
 
@@ -102,8 +102,8 @@ fn expect_board<R: Wait + Abort>(
     row: &Row<'_>,
 ) -> Result<(), Fail> {
     let board = Board::begin(alloc, outline, state_of(alloc, row.values)?, 10)?;
-    let blank = Blank::new(alloc, &board)?;
-    Ok(expect_arena::<Brand, _>(rt, alloc, blank, board, row.deeds)?)
+    let unstarted = Unstarted::new(alloc, &board)?;
+    Ok(expect_arena::<Brand, _>(rt, alloc, unstarted, board, row.acts)?)
 }
 
 fn expect_both<R: Wait + Abort>(
@@ -123,12 +123,12 @@ const ROWS: &[Row] = &[
     Row {
         source: ONE_WAITS,
         values: &[0],
-        deeds: &[
-            (0, Deed::Acts(RunTurn::Waits, 0, 0)),
-            (1, Deed::Acts(RunTurn::Moved, 1, 1)),
-            (0, Deed::Acts(RunTurn::Moved, 1, 2)),
-            (0, Deed::Acts(RunTurn::Done, 1, 2)),
-            (1, Deed::Waits),
+        acts: &[
+            (0, Act::Acts(RunTurn::Waits, 0, 0)),
+            (1, Act::Acts(RunTurn::Moved, 1, 1)),
+            (0, Act::Acts(RunTurn::Moved, 1, 2)),
+            (0, Act::Acts(RunTurn::Done, 1, 2)),
+            (1, Act::Waits),
         ],
         history: &[1, 0],
         halted: None,
@@ -139,11 +139,11 @@ const ROWS: &[Row] = &[
     Row {
         source: ONE_OVERFLOWS,
         values: &[i64::MAX],
-        deeds: &[
-            (0, Deed::Acts(RunTurn::Waits, 0, 0)),
-            (1, Deed::Acts(RunTurn::Overflow, 0, 0)),
-            (0, Deed::Waits),
-            (0, Deed::Acts(RunTurn::Overflow, 0, 0)),
+        acts: &[
+            (0, Act::Acts(RunTurn::Waits, 0, 0)),
+            (1, Act::Acts(RunTurn::Overflow, 0, 0)),
+            (0, Act::Waits),
+            (0, Act::Acts(RunTurn::Overflow, 0, 0)),
         ],
         history: &[],
         halted: Some(1),
@@ -152,10 +152,10 @@ const ROWS: &[Row] = &[
     Row {
         source: TWO_ADD,
         values: &[0],
-        deeds: &[
-            (1, Deed::Acts(RunTurn::Moved, 1, 1)),
-            (0, Deed::Acts(RunTurn::Moved, 1, 2)),
-            (0, Deed::Acts(RunTurn::Done, 1, 2)),
+        acts: &[
+            (1, Act::Acts(RunTurn::Moved, 1, 1)),
+            (0, Act::Acts(RunTurn::Moved, 1, 2)),
+            (0, Act::Acts(RunTurn::Done, 1, 2)),
         ],
         history: &[1, 0],
         halted: None,
@@ -165,14 +165,14 @@ const ROWS: &[Row] = &[
     Row {
         source: WITH_MAIN,
         values: &[7],
-        deeds: &[
-            (0, Deed::Acts(RunTurn::Early, 0, 0)),
-            (1, Deed::Acts(RunTurn::Moved, 1, 1)),
-            (1, Deed::Acts(RunTurn::Early, 1, 1)),
-            (0, Deed::Acts(RunTurn::Moved, 1, 2)),
-            (0, Deed::Acts(RunTurn::Done, 1, 2)),
-            (1, Deed::Acts(RunTurn::Moved, 2, 3)),
-            (1, Deed::Acts(RunTurn::Done, 2, 3)),
+        acts: &[
+            (0, Act::Acts(RunTurn::Early, 0, 0)),
+            (1, Act::Acts(RunTurn::Moved, 1, 1)),
+            (1, Act::Acts(RunTurn::Early, 1, 1)),
+            (0, Act::Acts(RunTurn::Moved, 1, 2)),
+            (0, Act::Acts(RunTurn::Done, 1, 2)),
+            (1, Act::Acts(RunTurn::Moved, 2, 3)),
+            (1, Act::Acts(RunTurn::Done, 2, 3)),
         ],
         history: &[1, 0, 1],
         halted: None,
@@ -184,9 +184,9 @@ const ROWS: &[Row] = &[
 fn acts_in_turn(rt: HostRuntime) -> Result<(), Fail> {
     for row in ROWS {
         let outline = outline_of(rt.alloc(), row.source)?;
-        let told = expect_both(&rt, rt.alloc(), &outline, row);
+        let result = expect_both(&rt, rt.alloc(), &outline, row);
         drop(outline);
-        told?;
+        result?;
     }
     Ok(())
 }

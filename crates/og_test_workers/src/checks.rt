@@ -69,7 +69,7 @@ pub(crate) fn expect_each_once<R: Threads + Wait + Sync + Abort>(
 }
 
 #[test]
-fn gates_are_told_once_of_each(rt: HostRuntime) -> Result<(), Fail> {
+fn gates_hear_of_each_once(rt: HostRuntime) -> Result<(), Fail> {
     let source = alike(rt.alloc(), 2, 38, 7)?;
     expect(&rt, rt.alloc(), source.as_str(), &Claim::EachOnce)
 }
@@ -113,7 +113,7 @@ fn expect_report<R: Threads + Wait + Sync + Abort>(
         json: false,
     };
     let (source, certs) = (TWO_ADD.as_bytes(), TWO_ADD_CERTS.as_bytes());
-    let answer = checked(rt, alloc, source, certs, options, &gate)?;
+    let answer = checked(rt, alloc, source, certs, options, &gate)?.answer;
     assert!(rt;
         answer.text.as_slice() == REPORT,
         "{count} workers, condition {held}"
@@ -163,7 +163,7 @@ fn equal_facts_are_replayed_once(rt: HostRuntime) -> Result<(), Fail> {
             json: false,
         };
         let (source, certs) = (source.as_bytes(), certs.as_bytes());
-        let answer = checked(&rt, rt.alloc(), source, certs, options, &OpenGate)?;
+        let answer = checked(&rt, rt.alloc(), source, certs, options, &OpenGate)?.answer;
         assert!(rt; answer.text.as_slice() == ALL_PROVED, "{count} workers");
     }
     Ok(())

@@ -59,9 +59,9 @@ fn expect_outline<R: Threads + Wait + Sync + Abort>(
     claim: &Claim<'_>,
 ) -> Result<(), Fail> {
     let list = conditions(alloc, outline)?;
-    let told = expect_list(rt, alloc, &list, claim);
+    let result = expect_list(rt, alloc, &list, claim);
     drop(list);
-    told
+    result
 }
 
 pub(crate) fn expect<R: Threads + Wait + Sync + Abort>(
@@ -71,7 +71,7 @@ pub(crate) fn expect<R: Threads + Wait + Sync + Abort>(
     claim: &Claim<'_>,
 ) -> Result<(), Fail> {
     let outline = outline_of(alloc, source)?;
-    let told = expect_outline(rt, alloc, &outline, claim);
+    let result = expect_outline(rt, alloc, &outline, claim);
     drop(outline);
-    told
+    result
 }

@@ -10,7 +10,7 @@ use og_cond::Condition;
 use og_find::{Missing, Verdict, examine, find, mark};
 use og_find_all::{FoundText, examine_all, find_all};
 use og_pool::OpenGate;
-use og_test_samples::{EQUAL_ADD, NESTED, TOLD_ADD, TWO_ADD, alike};
+use og_test_samples::{AUXILIARY_ADD, EQUAL_ADD, NESTED, TWO_ADD, alike};
 use std::alloc::{AllocError, Global};
 use std::process::Abort;
 use std::sync::Wait;
@@ -44,7 +44,7 @@ fn letter(verdict: &Verdict) -> u8 {
 }
 
 // Adds the certificate that is found of the condition. Its letter, or `x` where `find` and
-// `examine` tell different things.
+// `examine` say different things.
 fn letter_alone(
     alloc: Global,
     file: &mut CertFile,
@@ -247,7 +247,7 @@ pub(crate) fn expect_other_sign<R: Abort>(
 const VERDICTS: &[(&str, u64, &str, bool)] = &[
     (TWO_ADD, BUDGET, "tttttttttttt", false),
     (EQUAL_ADD, BUDGET, "ttttttftftft", false),
-    (TOLD_ADD, BUDGET, "tttttttttttt", true),
+    (AUXILIARY_ADD, BUDGET, "tttttttttttt", true),
     (NESTED, BUDGET, "tttttttttttffftt", false),
     (NOT_EVEN, BUDGET, "tttt", false),
     (LARGE, BUDGET, "tttfttt", false),

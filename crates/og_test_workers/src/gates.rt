@@ -55,7 +55,7 @@ impl Gate for Holds {
 
 // How often a gate was called for one condition or process.
 #[derive(Drop)]
-struct Told {
+struct Counted {
     before: AtomicU64,
     after: AtomicU64,
 }
@@ -63,31 +63,31 @@ struct Told {
 // Counts how often it is called for each of this many numbers, from 0, and for others.
 #[derive(Drop)]
 pub(crate) struct Counts {
-    told: Vec<Told>,
+    result: Vec<Counted>,
     others: AtomicU64,
 }
 
 impl Counts {
     pub(crate) fn new(alloc: Global, numbers: usize) -> Result<Counts, AllocError> {
-        let mut told = Vec::new(alloc);
+        let mut result = Vec::new(alloc);
         for _ in 0..numbers {
-            told.push(Told {
+            result.push(Counted {
                 before: AtomicU64::new(0),
                 after: AtomicU64::new(0),
             })?;
         }
         Ok(Counts {
-            told,
+            result,
             others: AtomicU64::new(0),
         })
     }
 
     // How often it was called before and after.
     pub(crate) fn of(&self, number: usize) -> (u64, u64) {
-        match self.told.get(number) {
-            Some(told) => (
-                told.before.load(Ordering::SeqCst),
-                told.after.load(Ordering::SeqCst),
+        match self.result.get(number) {
+            Some(result) => (
+                result.before.load(Ordering::SeqCst),
+                result.after.load(Ordering::SeqCst),
             ),
             None => (0, 0),
         }
@@ -100,15 +100,15 @@ impl Counts {
 
 impl Gate for Counts {
     fn before(&self, number: u32) {
-        match self.told.get(number as usize) {
-            Some(told) => told.before.fetch_add(1, Ordering::SeqCst),
+        match self.result.get(number as usize) {
+            Some(result) => result.before.fetch_add(1, Ordering::SeqCst),
             None => self.others.fetch_add(1, Ordering::SeqCst),
         };
     }
 
     fn after(&self, number: u32) {
-        match self.told.get(number as usize) {
-            Some(told) => told.after.fetch_add(1, Ordering::SeqCst),
+        match self.result.get(number as usize) {
+            Some(result) => result.after.fetch_add(1, Ordering::SeqCst),
             None => self.others.fetch_add(1, Ordering::SeqCst),
         };
     }

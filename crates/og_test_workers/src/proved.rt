@@ -27,7 +27,7 @@ fn proved_board_steps(rt: HostRuntime) -> Result<(), Fail> {
     let alloc = rt.alloc();
     let (source, certs) = (TWO_ADD.as_bytes(), TWO_ADD_CERTS.as_bytes());
     let judgement = judge(&rt, alloc, source, certs, 1, &OpenGate)?;
-    let told = expect_board(&rt, alloc, &judgement);
+    let result = expect_board(&rt, alloc, &judgement);
     drop(judgement);
-    told
+    result
 }

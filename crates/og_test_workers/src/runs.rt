@@ -179,7 +179,7 @@ fn threads_really_move(rt: HostRuntime) -> Result<(), Fail> {
 
 // A gate hears of the main process as 0, of each move once, and of at least one act more of each.
 #[test]
-fn gates_are_told_of_each_move(rt: HostRuntime) -> Result<(), Fail> {
+fn gates_hear_of_each_move(rt: HostRuntime) -> Result<(), Fail> {
     let row = Row {
         source: WITH_MAIN,
         values: &[7],

@@ -13,7 +13,7 @@ use Rattle.og_violation.specs.declared.violation.Wrong.{Wrong}
 use Rattle.og_violation.specs.declared.violation.Wrong.TheVariants.{Assertion, Overflow, Post, Stuck}
 use Rattle.og_violation.specs.Violations.{IsWrongAt, IsWrong}
 use Rattle.og_violation.specs.Along.{IsOfAssertion, IsTrueAfter, IsLeast, IsTrueAlong}
-use Rattle.og_violation.specs.Replays.{IsAfterRun, is_mains_turn, IsTrueOf, IsFirstFalse, of_main, IsLeastAt, IsToldAt, IsFirstWrong}
+use Rattle.og_violation.specs.Replays.{IsAfterRun, is_mains_turn, IsTrueOf, IsFirstFalse, of_main, IsLeastAt, IsFindingAt, IsFirstWrong}
 use Rattle.og_violation.proofs.Runs.{run_none, run_append}
 use Rattle.og_violation.proofs.Activity.{by_turn, active_left, active_ended, current_ended, moved_turn, other_turn}
 
@@ -22,8 +22,8 @@ module _ (o : Program) (m : Moment) (shaped : IsShaped o m) where
   n = length o.processes
 
   -- where it is the main process's turn
-  pub told_main : is_finished m ≡ false → is_mains_turn o m ≡ true → IsToldAt o m (of_main o m)
-  told_main left main = go (truth (current o m n) m.state) refl
+  pub main_finding : is_finished m ≡ false → is_mains_turn o m ≡ true → IsFindingAt o m (of_main o m)
+  main_finding left main = go (truth (current o m n) m.state) refl
     where
       is_it : (q : ℕ) → active o m q ≡ (q == n)
       is_it q = active_left o m shaped left q ∙ ap (λ b. by_turn o m shaped b q) main
@@ -36,7 +36,7 @@ module _ (o : Program) (m : Moment) (shaped : IsShaped o m) where
       none holds Post of h = both_ways (is_finished m) left h.0
       none holds Stuck of h = of
 
-      go : (b : Bool) → truth (current o m n) m.state ≡ b → IsToldAt o m (if b then None else Some (Assertion n))
+      go : (b : Bool) → truth (current o m n) m.state ≡ b → IsFindingAt o m (if b then None else Some (Assertion n))
       go true e = none e
       go false e = (
         (is_it n ∙ eq-eqb n n refl, e),
@@ -44,8 +44,8 @@ module _ (o : Program) (m : Moment) (shaped : IsShaped o m) where
       )
 
   -- where it is the others' turn
-  pub told_others : is_finished m ≡ false → is_mains_turn o m ≡ false → (found : Option ℕ) → IfSome found (IsFirstFalse o m) → IfNone found ((q : ℕ) → q < n → IsTrueOf o m q) → IsToldAt o m (option_map Assertion found)
-  told_others left main found some none = go found some none
+  pub others_finding : is_finished m ≡ false → is_mains_turn o m ≡ false → (found : Option ℕ) → IfSome found (IsFirstFalse o m) → IfNone found ((q : ℕ) → q < n → IsTrueOf o m q) → IsFindingAt o m (option_map Assertion found)
+  others_finding left main found some none = go found some none
     where
       is_one : (q : ℕ) → active o m q ≡ nat_lt q n
       is_one q = active_left o m shaped left q ∙ ap (λ b. by_turn o m shaped b q) main
@@ -56,7 +56,7 @@ module _ (o : Program) (m : Moment) (shaped : IsShaped o m) where
       nothing all Post of h = both_ways (is_finished m) left h.0
       nothing all Stuck of h = of
 
-      go : (found : Option ℕ) → IfSome found (IsFirstFalse o m) → IfNone found ((q : ℕ) → q < n → IsTrueOf o m q) → IsToldAt o m (option_map Assertion found)
+      go : (found : Option ℕ) → IfSome found (IsFirstFalse o m) → IfNone found ((q : ℕ) → q < n → IsTrueOf o m q) → IsFindingAt o m (option_map Assertion found)
       go None s all = nothing all
       go (Some p) s all = (
         (is_one p ∙ lt-ltb p n s.0, s.1),
@@ -83,21 +83,21 @@ module _ (o : Program) (m : Moment) (shaped : IsShaped o m) where
       go true e g = inl (eqb-true q n (and_parts (is_some o.prologue || is_some o.epilogue) (q == n) e).1)
       go false e g = inr (ltb-true q n (and_parts (is_process o q) (not (is_some o.epilogue)) g).0)
 
-  pub told_process : is_finished m ≡ true → is_some o.epilogue ≡ false → (p : ℕ) → IsFirstFalse o m p → IsToldAt o m (Some (Assertion p))
-  told_process ended none p s = (
+  pub process_finding : is_finished m ≡ true → is_some o.epilogue ≡ false → (p : ℕ) → IsFirstFalse o m p → IsFindingAt o m (Some (Assertion p))
+  process_finding ended none p s = (
     (process_ended ended none p s.0, s.1),
     λ q lt h. both_ways (truth (current o m q) m.state) h.1 (s.2 q lt),
   )
 
-  pub told_post : is_finished m ≡ true → (is_some o.epilogue ≡ false → (q : ℕ) → q < n → IsTrueOf o m q) → IsWrongAt o m Post → IsToldAt o m (Some Post)
-  told_post ended all wrong = (wrong, λ q lt h. go (is_some o.epilogue) refl q lt h)
+  pub post_finding : is_finished m ≡ true → (is_some o.epilogue ≡ false → (q : ℕ) → q < n → IsTrueOf o m q) → IsWrongAt o m Post → IsFindingAt o m (Some Post)
+  post_finding ended all wrong = (wrong, λ q lt h. go (is_some o.epilogue) refl q lt h)
     where
       go : (b : Bool) → is_some o.epilogue ≡ b → (q : ℕ) → q < n → IsWrongAt o m (Assertion q) → ⊥
       go true e q lt h = process_idle ended e q lt h.0
       go false e q lt h = both_ways (truth (current o m q) m.state) h.1 (all e q lt)
 
-  pub told_nothing : is_finished m ≡ true → (is_some o.epilogue ≡ false → (q : ℕ) → q < n → IsTrueOf o m q) → (IsWrongAt o m Post → ⊥) → IsToldAt o m None
-  told_nothing ended all right = each
+  pub no_finding : is_finished m ≡ true → (is_some o.epilogue ≡ false → (q : ℕ) → q < n → IsTrueOf o m q) → (IsWrongAt o m Post → ⊥) → IsFindingAt o m None
+  no_finding ended all right = each
     where
       go : (b : Bool) → is_some o.epilogue ≡ b → (q : ℕ) → q < n → IsWrongAt o m (Assertion q) → ⊥
       go true e q lt h = process_idle ended e q lt h.0
@@ -150,8 +150,8 @@ module _ (o : Program) (values : List ℤ) (history : List ℕ) where
   pub wrong_after : (at : Progress) (wrong : Wrong) → IsAfterRun o values history at → IsWrongAt o at.moment wrong → IsWrong o values history wrong
   wrong_after at wrong after is = record { begins = after.1; last = at.moment; leads = after.2; there = is }
 
-  pub true_after : (at : Progress) → IsAfterRun o values history at → IsToldAt o at.moment None → IsTrueAfter o values history
-  true_after at after told wrong of is = told wrong of (at_last at wrong after is)
+  pub true_after : (at : Progress) → IsAfterRun o values history at → IsFindingAt o at.moment None → IsTrueAfter o values history
+  true_after at after finding wrong of is = finding wrong of (at_last at wrong after is)
 
   pub least_after : (at : Progress) (wrong : Wrong) → IsAfterRun o values history at → IsLeastAt o at.moment wrong → IsLeast o values history wrong
   least_after at (Assertion p) after least = λ q lt is. least q lt (at_last at (Assertion q) after is)
@@ -174,29 +174,29 @@ module _ (o : Program) (values : List ℤ) (history : List ℕ) where
   abbrev TrueBefore : ℕ → Type 0
   TrueBefore k = (j : ℕ) → j < k → IsTrueAfter o values (take j history)
 
-  pub before_more : (k : ℕ) (at : Progress) → TrueBefore k → IsAfterRun o values (take k history) at → IsToldAt o at.moment None → TrueBefore (k + 1)
-  before_more k at before after told j lt =
+  pub before_more : (k : ℕ) (at : Progress) → TrueBefore k → IsAfterRun o values (take k history) at → IsFindingAt o at.moment None → TrueBefore (k + 1)
+  before_more k at before after finding j lt =
       ⊎_elim (λ less. before j less)
-      (λ more. subst (λ i. IsTrueAfter o values (take i history)) (let e : k ≡ j = omega (arith, lt, more) in e) (true_after o values (take k history) at after told))
+      (λ more. subst (λ i. IsTrueAfter o values (take i history)) (let e : k ≡ j = omega (arith, lt, more) in e) (true_after o values (take k history) at after finding))
       (cases_lt j k)
 
-  pub first_at : (k : ℕ) (at : Progress) (wrong : Wrong) → k ≤ length history → TrueBefore k → IsAfterRun o values (take k history) at → IsToldAt o at.moment (Some wrong) → IsFirstWrong o values history (k, wrong)
-  first_at k at wrong le before after told = (
+  pub first_at : (k : ℕ) (at : Progress) (wrong : Wrong) → k ≤ length history → TrueBefore k → IsAfterRun o values (take k history) at → IsFindingAt o at.moment (Some wrong) → IsFirstWrong o values history (k, wrong)
+  first_at k at wrong le before after finding = (
     le,
-    wrong_after o values (take k history) at wrong after told.0,
-    least_after o values (take k history) at wrong after told.1,
+    wrong_after o values (take k history) at wrong after finding.0,
+    least_after o values (take k history) at wrong after finding.1,
     before,
   )
 
   abbrev After : ℕ → Type 0
   After k = (j : ℕ) → k < j → IsTrueAfter o values (take j history)
 
-  along : (k : ℕ) (at : Progress) → TrueBefore k → IsAfterRun o values (take k history) at → After k → IsToldAt o at.moment None → IsTrueAlong o values history
-  along k at before after beyond told j =
+  along : (k : ℕ) (at : Progress) → TrueBefore k → IsAfterRun o values (take k history) at → After k → IsFindingAt o at.moment None → IsTrueAlong o values history
+  along k at before after beyond finding j =
       ⊎_elim (λ less. before j less)
       (λ more. ⊎_elim
       (λ (less : k < j). beyond j less)
-      (λ (most : j ≤ k). subst (λ i. IsTrueAfter o values (take i history)) (let e : k ≡ j = omega (arith, most, more) in e) (true_after o values (take k history) at after told))
+      (λ (most : j ≤ k). subst (λ i. IsTrueAfter o values (take i history)) (let e : k ≡ j = omega (arith, most, more) in e) (true_after o values (take k history) at after finding))
       (cases_lt k j))
       (cases_lt j k)
 
@@ -204,21 +204,21 @@ module _ (o : Program) (values : List ℤ) (history : List ℕ) where
   abbrev pub IsEnd : Option (ℕ × Wrong) → Type 0
   IsEnd found = IfSome found (IsFirstWrong o values history) × IfNone found (IsTrueAlong o values history)
 
-  end_at : (k : ℕ) (at : Progress) (found : Option Wrong) → k ≤ length history → TrueBefore k → IsAfterRun o values (take k history) at → After k → IsToldAt o at.moment found → IsEnd (option_map (λ wrong. (k, wrong)) found)
-  end_at k at None le before after beyond told = (tt, along k at before after beyond told)
-  end_at k at (Some wrong) le before after beyond told = (first_at k at wrong le before after told, tt)
+  end_at : (k : ℕ) (at : Progress) (found : Option Wrong) → k ≤ length history → TrueBefore k → IsAfterRun o values (take k history) at → After k → IsFindingAt o at.moment found → IsEnd (option_map (λ wrong. (k, wrong)) found)
+  end_at k at None le before after beyond finding = (tt, along k at before after beyond finding)
+  end_at k at (Some wrong) le before after beyond finding = (first_at k at wrong le before after finding, tt)
 
-  pub end_stopped : (k p : ℕ) (at : Progress) (found : Option Wrong) → k < length history → p ≡ get_or history k 0 → TrueBefore k → IsAfterRun o values (take k history) at → next at.moment p ≡ None → IsToldAt o at.moment found → IsEnd (option_map (λ wrong. (k, wrong)) found)
-  end_stopped k p at found lt is before after none told =
+  pub end_stopped : (k p : ℕ) (at : Progress) (found : Option Wrong) → k < length history → p ≡ get_or history k 0 → TrueBefore k → IsAfterRun o values (take k history) at → next at.moment p ≡ None → IsFindingAt o at.moment found → IsEnd (option_map (λ wrong. (k, wrong)) found)
+  end_stopped k p at found lt is before after none finding =
       end_at k at found (omega (arith, lt)) before after
       (λ j less wrong of w. none-some w.last (sym (stops history k j p (Some (start_of o values)) at.moment lt is after.2 none less) ∙ w.leads))
-      told
+      finding
 
-  pub end_whole : (k : ℕ) (at : Progress) (found : Option Wrong) → k ≡ length history → TrueBefore k → IsAfterRun o values (take k history) at → IsToldAt o at.moment found → IsEnd (option_map (λ wrong. (length history, wrong)) found)
-  end_whole k at None e before after told =
-      (tt, λ j. ⊎_elim (λ less. before j less) (λ more. subst (IsTrueAfter o values) (whole k j e more) (true_after o values (take k history) at after told)) (cases_lt j k))
+  pub end_whole : (k : ℕ) (at : Progress) (found : Option Wrong) → k ≡ length history → TrueBefore k → IsAfterRun o values (take k history) at → IsFindingAt o at.moment found → IsEnd (option_map (λ wrong. (length history, wrong)) found)
+  end_whole k at None e before after finding =
+      (tt, λ j. ⊎_elim (λ less. before j less) (λ more. subst (IsTrueAfter o values) (whole k j e more) (true_after o values (take k history) at after finding)) (cases_lt j k))
     where
       whole : (k j : ℕ) → k ≡ length history → k ≤ j → take k history ≡ take j history
       whole k j e le = take_all history k (omega (arith, e)) ∙ sym (take_all history j (omega (arith, e, le)))
-  end_whole k at (Some wrong) e before after told =
-      (subst (λ i. IsFirstWrong o values history (i, wrong)) e (first_at k at wrong (omega (arith, e)) before after told), tt)
+  end_whole k at (Some wrong) e before after finding =
+      (subst (λ i. IsFirstWrong o values history (i, wrong)) e (first_at k at wrong (omega (arith, e)) before after finding), tt)

@@ -48,13 +48,13 @@ IsLeastAt o m Post = (q : ℕ) → q < length o.processes → IsWrongAt o m (Ass
 IsLeastAt o m Stuck = ⊥
 
 -- the first false assertion of the moment, or that there is none
-abbrev pub IsToldAt : Program → Moment → Option Wrong → Type 0
-IsToldAt o m None = (wrong : Wrong) → IsOfAssertion wrong → IsWrongAt o m wrong → ⊥
-IsToldAt o m (Some wrong) = IsWrongAt o m wrong × IsLeastAt o m wrong
+abbrev pub IsFindingAt : Program → Moment → Option Wrong → Type 0
+IsFindingAt o m None = (wrong : Wrong) → IsOfAssertion wrong → IsWrongAt o m wrong → ⊥
+IsFindingAt o m (Some wrong) = IsWrongAt o m wrong × IsLeastAt o m wrong
 
 -- where process p has a step
-abbrev pub IsToldIfMoves : Program → Moment → ℕ → Option Wrong → Type 0
-IsToldIfMoves o m p found = (k : Moment) → next m p ≡ Some k → IsToldAt o m found
+abbrev pub IsFindingIfMoves : Program → Moment → ℕ → Option Wrong → Type 0
+IsFindingIfMoves o m p found = (k : Moment) → next m p ≡ Some k → IsFindingAt o m found
 
 -- it is violated after this many steps of the history, and nothing reported is after fewer
 abbrev pub IsFirstWrong : Program → List ℤ → List ℕ → ℕ × Wrong → Type 0

@@ -3,7 +3,7 @@
 ghost use Rattle.std.specs.Prelude.{◌≡◌, true, option_map, IfOk, IfSome, IfNone};
 ghost use Rattle.og_typed.specs.Machine.{is_finished};
 ghost use Rattle.og_violation.specs.Along.{IsFirst, IsTrueAlong};
-ghost use Rattle.og_violation.specs.Replays.{of_main, IsOf, IsToldAt, IsToldIfMoves, IsFirstWrong};
+ghost use Rattle.og_violation.specs.Replays.{of_main, IsOf, IsFindingAt, IsFindingIfMoves, IsFirstWrong};
 
 use crate::moments::{first_false, is_post_false};
 use crate::replay::{begun, copy_of};
@@ -36,7 +36,7 @@ fn of_process(found: Option<u32>) -> Option<Wrong>
 // The false assertion where process p steps next: of the main process, or of the others.
 fn before_step(outline: &Outline, moment: &Moment, p: u32) -> Option<Wrong>
     requires { IsOf outline.now moment.now }
-    ensures { IsToldIfMoves outline.now moment.now.moment p result }
+    ensures { IsFindingIfMoves outline.now moment.now.moment p result }
 {
     if p == moment.processes() {
         of_main(outline, moment)
@@ -49,7 +49,7 @@ fn before_step(outline: &Outline, moment: &Moment, p: u32) -> Option<Wrong>
 fn at_end(outline: &Outline, moment: &Moment) -> Option<Wrong>
     requires of { IsOf outline.now moment.now }
     requires ended { is_finished moment.now.moment ≡ true }
-    ensures { IsToldAt outline.now moment.now.moment result }
+    ensures { IsFindingAt outline.now moment.now.moment result }
 {
     if outline.epilogue().is_none() {
         if let Some(p) = first_false(outline, moment) {
@@ -66,7 +66,7 @@ fn at_end(outline: &Outline, moment: &Moment) -> Option<Wrong>
 // The false assertion, whoever steps next.
 fn at_last(outline: &Outline, moment: &Moment) -> Option<Wrong>
     requires { IsOf outline.now moment.now }
-    ensures { IsToldAt outline.now moment.now.moment result }
+    ensures { IsFindingAt outline.now moment.now.moment result }
 {
     if moment.is_finished() {
         return at_end(outline, moment);

@@ -6,7 +6,7 @@ use Rattle.std.specs.Str.Parse.{digits_value, without_leading_plus}
 use Rattle.clap.specs.Words.{Row, Text, all_of, first_of, one_of, subcommand_of}
 use Rattle.og_words.specs.CommandLine.{og}
 
--- what is given for each argument of the command that is named, if one is
+-- the value given for each argument of the command that is named, if one is
 abbrev pub rows_below : Option (Text × List Row) → List Row
 rows_below named = unwrap_or (option_map (λ p. p.1) named) []
 

@@ -125,7 +125,7 @@ pub record HoldsExpand (rows : List Row) (expand : Expand) : Type 0 where
 pub record HoldsMigrate (rows : List Row) (migrate : Migrate) : Type 0 where
   pub certs : text_of (codes "CERTS") rows ≡ Some migrate.certs.now
 
--- the job holds what is given for each argument of its command
+-- the job holds the value given for each argument of its command
 abbrev pub Holds : List Row → Job → Type 0
 Holds rows jobs.Joined = ⊤
 Holds rows (jobs.Prove prove) = HoldsProve rows prove
@@ -146,7 +146,7 @@ pub record IsAsked (words : List (List ℕ)) (asked : Result Job Usage) : Type 0
   pub arguments : IfOk asked (λ job. Holds (given words) job)
   pub none : length words ≡ 0 → asked ≡ Ok jobs.Joined
 
--- this text says what is wrong with the words, or there was no memory for it
+-- this text says the fault of the words, or there was no memory for it
 abbrev pub SaysWrong : List ℕ → Usage → Type 0
 SaysWrong text (usages.Asked help) = ⊥
 SaysWrong text (usages.Wrong why) = string_bytes why ≡ text

@@ -407,7 +407,7 @@ fn matches_of<'a>(alloc: Global, words: &'a [String]) -> Result<ArgMatches<'a>, 
 /// The job that the words ask for; they are the words after the program's name. The first names
 /// the command, and without any it is `Joined`.
 ///
-/// `Asked` holds a help text, `Wrong` what is wrong with the words; `Memory` where an allocation
+/// `Asked` holds a help text, `Wrong` the fault of the words; `Memory` where an allocation
 /// was refused.
 pub fn read_words<'a>(alloc: Global, words: &'a [String]) -> Result<Job<'a>, Usage>
     ensures { IsAsked (map (λ w. string_bytes w) words.now) result }

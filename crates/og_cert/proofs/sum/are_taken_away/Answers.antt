@@ -36,17 +36,17 @@ loop-t-preserved c =
     }
 
 none_of : (o : Option (ℕ × ℤ)) (b : Bool) → is_some o ≡ not b → IsTrue b → o ≡ None
-none_of None b e told = refl
-none_of (Some t) true e told = absurd (both_ways true e refl)
-none_of (Some t) false e told = absurd (both_ways false refl told)
+none_of None b e shown = refl
+none_of (Some t) true e shown = absurd (both_ways true e refl)
+none_of (Some t) false e shown = absurd (both_ways false refl shown)
 
 pub returns : goal.returns
-returns c = λ told.
+returns c = λ shown.
     let ts = c.args.terms.now in
     let us = c.args.atom.now.terms in
     let i = c.loop-t.t-index in
     let times = to_z-of_z w128 c.args.k c.ranges.k in
     let all : length ts ≡ i = omega arith in
-    let past = subst (λ vs. slice_get vs c.loop-t.index ≡ None) c.signed-signed.ensures (sym c.term-2.ensures ∙ none_of c.term-2.result c.is_none.result c.is_none.ensures told) in
+    let past = subst (λ vs. slice_get vs c.loop-t.index ≡ None) c.signed-signed.ensures (sym c.term-2.ensures ∙ none_of c.term-2.result c.is_none.result c.is_none.ensures shown) in
     let none = subst (λ n. slice_get us n ≡ None) c.loop-t.invariant.index past in
     taken_end ts us c.args.k i c.requires.0 all none (subst (λ z. TakenAway z (take i ts) (take i us)) times c.loop-t.invariant.away)

@@ -1,6 +1,7 @@
 use Rattle.std.proofs.Common.{ap, ◌∙◌, arith}
 use Rattle.std.proofs.lemmas.Bool.{both_ways}
 use Rattle.og_report_explore.specs.declared.totals.Totals.{Totals}
+use Rattle.og_report_text.specs.Subject.{subject_of}
 use Rattle.og_command_explore.specs.Explored.{printed, status_of}
 use Rattle.og_command_explore.proofs.answering.answer.Goals as goal
 
@@ -10,19 +11,18 @@ returns-then-has_no_start-clause-none c =
 
 pub returns-clause-explored : goal.returns-clause-explored
 returns-clause-explored c =
-    let o = c.args.outline.now in
-    let told = c.in_ok-told.told in
-    let totals : Totals = record { starts = c.from.result; given = c.in_ok-ends.field-0; moments = c.from-2.result; complete = told.complete } in
+    let reported = c.in_ok-reported.reported in
+    let totals : Totals = record { starts = c.from.result; given = c.in_ok-ends.field-0; moments = c.from-2.result; complete = reported.complete } in
     record {
       totals = totals;
-      findings = told.findings.items;
+      findings = reported.findings.items;
       given = c.in_ok-ends.ensures;
-      begins = λ complete zero. both_ways c.has_no_start.result c.if-has_no_start.false (c.has_no_start.ensures.1 ((let from = c.from.ensures in omega (arith, from, zero)), c.in_ok-told.ensures.complete complete));
-      each = c.in_ok-told.ensures.each;
-      safe = λ said. (let parts = c.in_ok-told.ensures.safe said in c.in_ok-found.ensures.sound parts.0 parts.1 parts.2 parts.3);
-      unblocked = λ said. (let parts = c.in_ok-told.ensures.unblocked said in c.in_ok-found.ensures.never_stuck parts.0 parts.1);
-      told = (
-        c.in_ok-printed.ensures ∙ ap (printed c.args.request.json o c.args.source.now totals) c.deref.ensures.value,
+      begins = λ complete zero. both_ways c.has_no_start.result c.if-has_no_start.false (c.has_no_start.ensures.1 ((let from = c.from.ensures in omega (arith, from, zero)), c.in_ok-reported.ensures.complete complete));
+      each = c.in_ok-reported.ensures.each;
+      safe = λ said. (let parts = c.in_ok-reported.ensures.safe said in c.in_ok-found.ensures.sound parts.0 parts.1 parts.2 parts.3);
+      unblocked = λ said. (let parts = c.in_ok-reported.ensures.unblocked said in c.in_ok-found.ensures.never_stuck parts.0 parts.1);
+      reported = (
+        c.in_ok-printed.ensures ∙ ap (printed c.args.request.json (subject_of c.args.subject.now) totals) c.deref.ensures.value,
         c.status_of.ensures ∙ ap (status_of totals) c.deref-2.ensures.value,
       );
     }

@@ -9,15 +9,16 @@ use Rattle.og_command_notes.proofs.notes.put_notes.Goals as goal
 pub returns : goal.returns
 returns c =
     let o = c.args.outline.now in
-    let source = c.args.places.now in
+    let source = c.args.origins.now.source.now in
+    let rows = c.args.origins.now.rows in
     let before = c.args.text.now.items in
     let one = c.put_claims.new.text.items in
     let two = c.put_steps.new.text.items in
     let three = c.put_meaning.new.text.items in
     let after = c.put_auxiliaries.new.text.items in
     let r = c.put_auxiliaries.result in
-    let first = claims_text o source (claims_of c.args.claims.now) in
-    let second = step_lines source o.names (all_steps o) o.vars in
+    let first = claims_text o source rows (claims_of c.args.claims.now) in
+    let second = step_lines source rows o.names (all_steps o) o.vars in
     let third = unblocked_line ++ definitions_line in
     let last = auxiliaries_text o (auxiliaries o) in
     let f : two ≡ one ++ second = search rules in

@@ -1,12 +1,12 @@
 use Rattle.std.proofs.Common.{◌≡◌, ◌∙◌, true, is_some, refl, ap, sym, subst}
 use Rattle.og_cond.specs.Conditions.{conditions}
 use Rattle.og_report_prove.specs.Report.{is_unblocked}
-use Rattle.og_report_prove.specs.Told.{AreTold}
+use Rattle.og_report_prove.specs.Diagnosis.{AreDiagnoses}
 use Rattle.og_command_prove.specs.Answer.{status_of}
-use Rattle.og_command_prove.specs.Found.{told_in}
+use Rattle.og_command_prove.specs.Found.{diagnoses_in}
 use Rattle.og_command_prove.specs.Printed.{IsPrinted, SaysUnblockedIn}
-use Rattle.og_command_prove.specs.Subject.{subject_of}
-use Rattle.og_command_prove.proofs.Rows.{are_told}
+use Rattle.og_report_text.specs.Subject.{subject_of}
+use Rattle.og_command_prove.proofs.Rows.{are_diagnosed}
 use Rattle.og_command_prove.proofs.Tables.{is_table}
 use Rattle.og_command_prove.proofs.answering.answer_of.Goals as goal
 
@@ -15,8 +15,8 @@ status_of-status-requires c =
     let o = c.args.subject.now.outline.now in
     let found = c.requires.found in
     let rows = c.args.findings.rows.items in
-    subst (λ ts. AreTold o (conditions o) ts) (sym (c.deref.ensures.value ∙ c.in_ok-table.ensures.told))
-    (subst (λ cs. AreTold o cs (told_in rows)) found.conditions (are_told o found.lists rows found.each))
+    subst (λ ts. AreDiagnoses o (conditions o) ts) (sym (c.deref.ensures.value ∙ c.in_ok-table.ensures.diagnoses))
+    (subst (λ cs. AreDiagnoses o cs (diagnoses_in rows)) found.conditions (are_diagnosed o found.lists rows found.each))
 
 pub returns : goal.returns
 returns c =
@@ -26,16 +26,16 @@ returns c =
     let e = c.args.findings.explored in
     let text = c.in_ok-text.text.items in
     let table = c.in_ok-table.ensures in
-    let told = c.deref.ensures.value ∙ table.told in
+    let diagnoses = c.deref.ensures.value ∙ table.diagnoses in
     record {
       few = c.requires.few;
       findings = rows;
       explored = e;
       asked = refl;
       found = c.requires.found;
-      printed = subst (λ t. IsPrinted form s t text) (is_table rows e c.in_ok-table.table table.conditions table.told table.runs table.explored) c.in_ok-text.ensures.printed;
-      status = c.status_of-status.ensures.status ∙ ap status_of told;
+      printed = subst (λ t. IsPrinted form s t text) (is_table rows e c.in_ok-table.table table.conditions table.diagnoses table.runs table.explored) c.in_ok-text.ensures.printed;
+      status = c.status_of-status.ensures.status ∙ ap status_of diagnoses;
       sound = c.status_of-status.ensures.sound;
-      unblocked = λ zero yes. c.status_of-status.ensures.unblocked zero (subst (λ ts. is_unblocked ts ≡ true) (sym told) yes);
-      says = λ says. subst (λ ts. is_unblocked ts ≡ true) table.told (c.in_ok-text.ensures.says (subst (λ x. SaysUnblockedIn (is_some x) form text) (sym table.explored) says));
+      unblocked = λ zero yes. c.status_of-status.ensures.unblocked zero (subst (λ ts. is_unblocked ts ≡ true) (sym diagnoses) yes);
+      says = λ says. subst (λ ts. is_unblocked ts ≡ true) table.diagnoses (c.in_ok-text.ensures.says (subst (λ x. SaysUnblockedIn (is_some x) form text) (sym table.explored) says));
     }

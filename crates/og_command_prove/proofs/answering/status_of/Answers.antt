@@ -6,6 +6,6 @@ use Rattle.og_command_prove.proofs.answering.status_of.Goals as goal
 
 pub new-proved-requires : goal.new-proved-requires
 new-proved-requires c =
-    let told = c.args.told.now in
-    let safe : is_safe told ≡ true = search rules in
-    subst (λ (b : Bool). IsProved c.args.outline.now b) (sym c.is_unblocked.ensures) (proved_by c.args.outline.now told c.requires safe)
+    let diagnoses = c.args.diagnoses.now in
+    let safe : is_safe diagnoses ≡ true = search rules in
+    subst (λ (b : Bool). IsProved c.args.outline.now b) (sym c.is_unblocked.ensures) (proved_by c.args.outline.now diagnoses c.requires safe)

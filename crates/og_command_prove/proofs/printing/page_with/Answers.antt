@@ -2,7 +2,7 @@ use Rattle.std.proofs.Common.{◌≡◌, map, subst}
 use Rattle.og_cond.specs.Seen.{seen}
 use Rattle.og_report_html.specs.Page.{page_text}
 use Rattle.og_report_html.specs.Targets.{AreTargets}
-use Rattle.og_command_prove.specs.Subject.{subject_of}
+use Rattle.og_report_text.specs.Subject.{subject_of}
 use Rattle.og_command_prove.proofs.printing.page_with.Goals as goal
 
 pub returns : goal.returns
@@ -21,7 +21,7 @@ returns c =
       places = subst (λ cs. AreTargets s.outline (map seen cs) gs) c.as_slice-conditions.ensures.value c.in_ok-targets.ensures.targets;
       added = c.requires.added;
       page =
-          subst (λ g. text ≡ page_text s.outline s.own before beneath (map seen t.conditions.items) t.told.items g) c.deref.ensures.value
-          (subst (λ ts. text ≡ page_text s.outline s.own before beneath (map seen t.conditions.items) ts placed) c.as_slice-told.ensures.value
-          (subst (λ cs. text ≡ page_text s.outline s.own before beneath (map seen cs) c.as_slice-told.result.now placed) c.as_slice-conditions.ensures.value c.in_ok-text.ensures));
+          subst (λ g. text ≡ page_text s.outline s.own before beneath (map seen t.conditions.items) t.diagnoses.items g) c.deref.ensures.value
+          (subst (λ ts. text ≡ page_text s.outline s.own before beneath (map seen t.conditions.items) ts placed) c.as_slice-diagnoses.ensures.value
+          (subst (λ cs. text ≡ page_text s.outline s.own before beneath (map seen cs) c.as_slice-diagnoses.result.now placed) c.as_slice-conditions.ensures.value c.in_ok-text.ensures));
     }

@@ -1,7 +1,7 @@
 use Rattle.std.proofs.Common.{is_some, subst}
 use Rattle.std.proofs.lemmas.Result.{IfOk-weaker}
 use Rattle.og_command_prove.specs.Printed.{SaysUnblockedIn}
-use Rattle.og_command_prove.specs.Subject.{subject_of}
+use Rattle.og_report_text.specs.Subject.{subject_of}
 use Rattle.og_command_prove.specs.Table.{columns_of}
 use Rattle.og_command_prove.proofs.Texts.{text_says}
 use Rattle.og_command_prove.proofs.printing.printed.Goals as goal

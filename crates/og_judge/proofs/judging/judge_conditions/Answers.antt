@@ -8,7 +8,7 @@ use Rattle.og_cond.specs.declared.condition.Condition.{Condition}
 use Rattle.og_cert_text.specs.Shown.{shown}
 use Rattle.og_pool.specs.Numbered.{status_of}
 use Rattle.og_judge.specs.Entries.{HasNoneAbove}
-use Rattle.og_judge.specs.Parts.{told_from}
+use Rattle.og_judge.specs.Parts.{listed_from}
 use Rattle.og_judge.proofs.Refusing.{conditions_refused, certs_refused, stray_refused}
 use Rattle.og_judge.proofs.Listing.{listed_entries}
 use Rattle.og_judge.proofs.judging.judge_conditions.Goals as goal
@@ -37,7 +37,7 @@ returns-clause-entries g c =
     let counted : vec_len c.in_ok-statuses.statuses ≡ length c.deref-2.result.now = c.in_ok-statuses.ensures.statuses.0 in
     let long : length ss ≡ length conds = search (rules, counted, c.deref-2.ensures.value) in
     let each = subst (λ (cs : List Condition). (i : ℕ) → i < length cs → slice_get ss i ≡ Some (status_of cs file (i + 1))) c.deref-2.ensures.value c.in_ok-statuses.ensures.statuses.1 in
-    let made = c.in_ok-listed.ensures ∙ ap₂ (λ a b. told_from (map seen a) b) c.deref-3.ensures.value c.deref-4.ensures.value in
+    let made = c.in_ok-listed.ensures ∙ ap₂ (λ a b. listed_from (map seen a) b) c.deref-3.ensures.value c.deref-4.ensures.value in
     record {
       few = c.in_ok-conditions.ensures.1;
       file = shown file;

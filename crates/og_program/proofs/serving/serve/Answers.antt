@@ -4,7 +4,7 @@ use Rattle.og_words.specs.declared.job.Usage.{Usage}
 use Rattle.og_program.specs.World.{world_of, trace_of}
 use Rattle.og_program.specs.Sound.{IsProven}
 use Rattle.og_program.specs.Unblocked.{IsNeverStuck}
-use Rattle.og_program.specs.Opened.{opened, lacks}
+use Rattle.og_program.specs.Opened.{opened, LeavesInput, lacks}
 use Rattle.og_program.specs.Served.{Ends, FailsToRead}
 use Rattle.og_program.proofs.Ending.{of_job}
 use Rattle.og_program.proofs.Status.{sound_job, unblocked_job}
@@ -35,3 +35,8 @@ returns-in-Ok-clause-lacking g c =
     let t = trace_of g.O.Write.contents g.E.Write.contents c.args.streams.now c.perform.new.streams c.perform.result in
     of_job (λ job. lacks (g.F.Files.is_missing c.args.program.now.files.now) (opened job) ≡ true → FailsToRead job t)
     c.args.asked c.in-Ok.job c.in-Ok.is c.perform.ensures.lacking
+
+pub returns-in-Ok-clause-kept : goal.returns-in-Ok-clause-kept
+returns-in-Ok-clause-kept g c =
+    of_job (λ job. LeavesInput (opened job) → g.I.Read.remaining c.perform.new.streams.input ≡ g.I.Read.remaining c.args.streams.now.input)
+    c.args.asked c.in-Ok.job c.in-Ok.is c.perform.ensures.kept

@@ -1,8 +1,8 @@
-use Rattle.og_report_conditions.specs.Chosen.{IsReplyToAll}
-use Rattle.og_report_conditions.proofs.Refusing.{of_error}
+use Rattle.std.proofs.lemmas.Result.{err_from_is_err_and}
+use Rattle.og_report_conditions.proofs.Refusing.{too_many}
 use Rattle.og_report_conditions.proofs.choosing.of_all.Goals as goal
 
-pub returns : goal.returns
-returns c =
-    let s = c.args.source in
-    of_error (IsReplyToAll c.args.form s.outline s.bytes) s.bytes c.bytes.result.now s.outline c.outline.result.now c.in-Err.error c.not_listed.result c.bytes.ensures.same c.outline.ensures.same c.in-Err.ensures c.not_listed.ensures (λ answer h. h)
+pub returns-in_err-within_limit-clause-refused : goal.returns-in_err-within_limit-clause-refused
+returns-in_err-within_limit-clause-refused c =
+    let p = err_from_is_err_and c.from_residual.result c.from_residual.ensures.1 in
+    rw p.1 (too_many c.args.source.outline c.outline.result.now c.in_err-within_limit.field-0.0 p.0 c.outline.ensures.same c.in_err-within_limit.ensures p.2)

@@ -10,15 +10,15 @@ loop-index-preserved c =
     let utf8 = c.args.frame.utf8 in
     let page = c.args.frame.page in
     let conditions = c.args.conditions.now in
-    let told = c.args.told.now in
+    let diagnoses = c.args.diagnoses.now in
     let targets = c.args.targets.now in
     let i = c.loop-index.index in
     let condition = c.index-conditions-index.result in
-    let t = c.index-told-index.result in
-    let in_told : i < length told = subst (λ (n : ℕ). i < n) (sym c.requires.each) c.loop-index-test.true in
+    let t = c.index-diagnoses-index.result in
+    let in_told : i < length diagnoses = subst (λ (n : ℕ). i < n) (sym c.requires.each) c.loop-index-test.true in
     let in_targets : i < length targets = subst (λ (n : ℕ). i < n) (sym c.requires.targets) c.loop-index-test.true in
     let first : slice_get (map seen conditions) i ≡ Some (seen condition) =
     slice_get-map seen conditions i ∙ ap (option_map seen) (slice_get_read conditions (length conditions) i condition refl c.loop-index-test.true c.index-conditions-index.is) in
-    let second : slice_get told i ≡ Some t = slice_get_read told (length told) i t refl in_told c.index-told-index.is in
+    let second : slice_get diagnoses i ≡ Some t = slice_get_read diagnoses (length diagnoses) i t refl in_told c.index-diagnoses-index.is in
     so_far_goes utf8 (map (λ t. t.items) c.args.frame.beneath.now) page.names.now page.origins.now.source.now page.origins.now.rows c.args.text.now.items c.loop-index.text.items c.put_article.new.text.items c.loop-index.firsts c.put_article.new.firsts i
-    (map seen conditions) told targets (seen condition) t _ first second (slice_get-get_or targets i _ in_targets) c.in_ok-put_article.ensures.text c.in_ok-put_article.ensures.firsts c.loop-index.invariant
+    (map seen conditions) diagnoses targets (seen condition) t _ first second (slice_get-get_or targets i _ in_targets) c.in_ok-put_article.ensures.text c.in_ok-put_article.ensures.firsts c.loop-index.invariant

@@ -15,8 +15,8 @@ returns c =
     let begun : c.new-begins.result.items ≡ [] = c.new-begins.ensures.items in
     let e1 : c.put_start.new.text.items ≡ begins = c.in_ok-put_start.ensures ∙ ap (λ (l : List ℕ). l ++ begins) begun in
     let e2 : c.deref.result.now ≡ begins = c.deref.ensures.value ∙ e1 in
-    let e3 : c.put_escaped.new.text.items ≡ c.in_ok-told.told.items ++ escaped_text frame.utf8 c.deref.result.now = c.in_ok-put_escaped.ensures in
-    let e4 : c.in_ok-told.told.items ≡ a1 = c.in_ok-told.ensures.items in
-    let told : c.deref-2.result.now ≡ a1 ++ escaped_text frame.utf8 begins =
+    let e3 : c.put_escaped.new.text.items ≡ c.in_ok-line.line.items ++ escaped_text frame.utf8 c.deref.result.now = c.in_ok-put_escaped.ensures in
+    let e4 : c.in_ok-line.line.items ≡ a1 = c.in_ok-line.ensures.items in
+    let line : c.deref-2.result.now ≡ a1 ++ escaped_text frame.utf8 begins =
     c.deref-2.ensures.value ∙ e3 ∙ ap (λ (l : List ℕ). l ++ escaped_text frame.utf8 c.deref.result.now) e4 ∙ ap (λ (l : List ℕ). a1 ++ escaped_text frame.utf8 l) e2 in
-    subst (λ (l : List ℕ). OnOk r (c.put_wide.new.text.items ≡ t0 ++ wide_row (codes "faint") frame.lanes l)) told c.put_wide.ensures
+    subst (λ (l : List ℕ). OnOk r (c.put_wide.new.text.items ≡ t0 ++ wide_row (codes "faint") frame.lanes l)) line c.put_wide.ensures

@@ -19,7 +19,7 @@ returns c =
     let a3 = codes "><td><td colspan=" in
     let a4 = decimal (c.args.lanes + 1) in
     let a5 = codes ">" in
-    let a6 = c.args.told.now in
+    let a6 = c.args.line.now in
     let a7 = codes "</tr>\n" in
     let e1 : t1 ≡ t0 ++ a1 = c.in_ok-extend_from_slice.ensures.items in
     let e2 : t2 ≡ t1 ++ a2 = c.in_ok-extend_from_slice-2.ensures.items in

@@ -5,8 +5,8 @@ use Rattle.og_report_html.proofs.table.put_cells.Goals as goal
 
 pub loop-process-preserved : goal.loop-process-preserved
 loop-process-preserved c =
-    each_goes (cell_text c.args.clashes.wrong.now c.args.clashes.unknown.now) c.loop-process.process c.args.count c.loop-process.text.items c.put_cell.new.text.items (c.args.text.now.items ++ each_text (cell_text c.args.clashes.wrong.now c.args.clashes.unknown.now) 0 c.args.count)
+    each_goes (cell_text c.args.disturbances.wrong.now c.args.disturbances.unknown.now) c.loop-process.process c.args.count c.loop-process.text.items c.put_cell.new.text.items (c.args.text.now.items ++ each_text (cell_text c.args.disturbances.wrong.now c.args.disturbances.unknown.now) 0 c.args.count)
     c.loop-process-test.true c.in_ok-put_cell.ensures c.loop-process.invariant
 
 pub returns : goal.returns
-returns c = each_ends (cell_text c.args.clashes.wrong.now c.args.clashes.unknown.now) c.loop-process.process c.args.count c.loop-process.text.items (c.args.text.now.items ++ each_text (cell_text c.args.clashes.wrong.now c.args.clashes.unknown.now) 0 c.args.count) (search rules) c.loop-process.invariant
+returns c = each_ends (cell_text c.args.disturbances.wrong.now c.args.disturbances.unknown.now) c.loop-process.process c.args.count c.loop-process.text.items (c.args.text.now.items ++ each_text (cell_text c.args.disturbances.wrong.now c.args.disturbances.unknown.now) 0 c.args.count) (search rules) c.loop-process.invariant

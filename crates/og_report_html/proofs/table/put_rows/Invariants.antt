@@ -3,4 +3,4 @@ use Rattle.og_report_html.specs.Table.{each_text, row_text}
 use Rattle.og_report_html.proofs.table.put_rows.Given as goal
 
 abbrev pub invariant-loop-process : goal.invariant-loop-process
-invariant-loop-process l = l.text.items ++ each_text (row_text l.count l.clashes.wrong.now l.clashes.unknown.now) l.process (l.count - l.process) ≡ l.initial.text.items ++ each_text (row_text l.count l.clashes.wrong.now l.clashes.unknown.now) 0 l.count
+invariant-loop-process l = l.text.items ++ each_text (row_text l.count l.disturbances.wrong.now l.disturbances.unknown.now) l.process (l.count - l.process) ≡ l.initial.text.items ++ each_text (row_text l.count l.disturbances.wrong.now l.disturbances.unknown.now) 0 l.count

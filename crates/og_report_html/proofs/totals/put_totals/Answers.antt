@@ -7,7 +7,7 @@ use Rattle.og_report_html.proofs.totals.put_totals.Goals as goal
 
 pub returns : goal.returns
 returns c =
-    let told = c.args.told.now in
+    let diagnoses = c.args.diagnoses.now in
     let r = c.put_answer_item-2.result in
     let t0 = c.args.text.now.items in
     let t1 = c.put_number_item.new.text.items in
@@ -16,17 +16,17 @@ returns c =
     let t4 = c.put_number_item-4.new.text.items in
     let t5 = c.put_answer_item.new.text.items in
     let t6 = c.put_answer_item-2.new.text.items in
-    let a1 = number_item (codes "conditions") (length told) in
-    let a2 = number_item (codes "proved") (count_by is_proved told) in
-    let a3 = number_item (codes "false") (count_by is_false told) in
-    let a4 = number_item (codes "open") (count_by is_open told) in
-    let a5 = answer_item (codes "safe") (is_safe told) in
-    let a6 = answer_item (codes "unblocked") (is_unblocked told) in
-    let n2 : c.of-totals.result.proved ≡ count_by is_proved told = search rules in
-    let n3 : c.of-totals.result.refuted ≡ count_by is_false told = search rules in
-    let n4 : c.of-totals.result.still_open ≡ count_by is_open told = search rules in
-    let n5 : c.is_safe.result ≡ is_safe told = search rules in
-    let n6 : c.is_unblocked.result ≡ is_unblocked told = search rules in
+    let a1 = number_item (codes "conditions") (length diagnoses) in
+    let a2 = number_item (codes "proved") (count_by is_proved diagnoses) in
+    let a3 = number_item (codes "false") (count_by is_false diagnoses) in
+    let a4 = number_item (codes "open") (count_by is_open diagnoses) in
+    let a5 = answer_item (codes "safe") (is_safe diagnoses) in
+    let a6 = answer_item (codes "unblocked") (is_unblocked diagnoses) in
+    let n2 : c.of-totals.result.proved ≡ count_by is_proved diagnoses = search rules in
+    let n3 : c.of-totals.result.refuted ≡ count_by is_false diagnoses = search rules in
+    let n4 : c.of-totals.result.still_open ≡ count_by is_open diagnoses = search rules in
+    let n5 : c.is_safe.result ≡ is_safe diagnoses = search rules in
+    let n6 : c.is_unblocked.result ≡ is_unblocked diagnoses = search rules in
     let e1 : t1 ≡ t0 ++ a1 = c.in_ok-put_number_item.ensures in
     let e2 : t2 ≡ t1 ++ a2 = c.in_ok-put_number_item-2.ensures ∙ ap (λ (n : ℕ). t1 ++ number_item (codes "proved") n) n2 in
     let e3 : t3 ≡ t2 ++ a3 = c.in_ok-put_number_item-3.ensures ∙ ap (λ (n : ℕ). t2 ++ number_item (codes "false") n) n3 in

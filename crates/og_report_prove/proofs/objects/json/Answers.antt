@@ -9,4 +9,4 @@ bytes_of-requires c = no_float_value_of _ _ _ _ _ c.in_ok-value.ensures
 
 pub returns-clause-unblocked : goal.returns-clause-unblocked
 returns-clause-unblocked c =
-    json_says_of (λ t. t.items) c.bytes_of.result c.args.outline.now.names c.args.source.now (map seen c.args.conditions.now) c.args.told.now (search rules)
+    json_says_of (λ t. t.items) c.bytes_of.result c.args.outline.now.names c.args.source.now (map seen c.args.conditions.now) c.args.diagnoses.now (search rules)

@@ -11,15 +11,15 @@ loop-index-preserved c =
     let source = c.args.page.origins.now.source.now in
     let rows = c.args.page.origins.now.rows in
     let conditions = c.args.conditions.now in
-    let mores = c.args.mores.now in
-    let told = c.args.told.now in
+    let repeats = c.args.repeats.now in
+    let diagnoses = c.args.diagnoses.now in
     let i = c.loop-index.index in
     let condition = c.index-conditions-index.result in
-    let in_told : i < length told = subst (λ (n : ℕ). i < n) (sym c.requires.each) c.loop-index-test.true in
-    let in_mores : i < length mores = subst (λ (n : ℕ). i < n) (sym c.requires.mores) c.loop-index-test.true in
+    let in_told : i < length diagnoses = subst (λ (n : ℕ). i < n) (sym c.requires.each) c.loop-index-test.true in
+    let in_repeats : i < length repeats = subst (λ (n : ℕ). i < n) (sym c.requires.repeats) c.loop-index-test.true in
     let first : slice_get (map seen conditions) i ≡ Some (seen condition) =
     slice_get-map seen conditions i ∙ ap (option_map seen) (slice_get_read conditions (length conditions) i condition refl c.loop-index-test.true c.index-conditions-index.is) in
-    let between : slice_get mores i ≡ Some (get_or mores i None) = slice_get-get_or mores i None in_mores in
-    let second : slice_get told i ≡ Some c.index-told-index.result = slice_get_read told (length told) i c.index-told-index.result refl in_told c.index-told-index.is in
-    so_far_goes names source rows c.args.text.now.items c.loop-index.text.items c.put_told.new.text.items c.loop-index.firsts c.put_told.new.firsts i (map seen conditions) mores told (seen condition) (get_or mores i None) c.index-told-index.result
-    first between second c.in_ok-put_told.ensures.text c.in_ok-put_told.ensures.firsts c.loop-index.invariant
+    let between : slice_get repeats i ≡ Some (get_or repeats i None) = slice_get-get_or repeats i None in_repeats in
+    let second : slice_get diagnoses i ≡ Some c.index-diagnoses-index.result = slice_get_read diagnoses (length diagnoses) i c.index-diagnoses-index.result refl in_told c.index-diagnoses-index.is in
+    so_far_goes names source rows c.args.text.now.items c.loop-index.text.items c.put_diagnosis.new.text.items c.loop-index.firsts c.put_diagnosis.new.firsts i (map seen conditions) repeats diagnoses (seen condition) (get_or repeats i None) c.index-diagnoses-index.result
+    first between second c.in_ok-put_diagnosis.ensures.text c.in_ok-put_diagnosis.ensures.firsts c.loop-index.invariant

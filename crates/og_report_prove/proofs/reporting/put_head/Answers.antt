@@ -2,7 +2,7 @@ use Rattle.std.proofs.Common.{◌≡◌, ◌++◌, codes, rules}
 use Rattle.std.specs.Prelude.{OnOk}
 use Rattle.std.specs.Fmt.{decimal}
 use Rattle.og_cond.specs.Names.{name_of_kind}
-use Rattle.og_report_text.specs.Origins.{told_at, with_told}
+use Rattle.og_report_text.specs.Origins.{place_text_at, with_place_text}
 use Rattle.og_report_prove.specs.Together.{more_text}
 use Rattle.og_report_prove.proofs.Joins.{joined}
 use Rattle.og_report_prove.proofs.reporting.put_head.Goals as goal
@@ -21,12 +21,12 @@ returns c =
     let t5 = c.extend_from_slice-3.new.self.items in
     let t6 = c.put_action_place.new.text.items in
     let t7 = c.extend_from_slice-4.new.self.items in
-    let a1 = told_at source rows condition.at in
+    let a1 = place_text_at source rows condition.at in
     let a2 = codes ": condition " in
     let a3 = decimal c.args.number in
     let a4 = codes " " in
     let a5 = name_of_kind condition.kind in
-    let a6 = with_told source rows condition.action_at in
+    let a6 = with_place_text source rows condition.action_at in
     let a7 = codes ": " in
     let a8 = c.args.word.now ++ (more_text c.args.more ++ codes "\n") in
     let e1 : t1 ≡ t0 ++ a1 = search rules in

@@ -6,7 +6,7 @@ use Rattle.og_report_prove.proofs.reporting.put_totals.Goals as goal
 
 pub returns : goal.returns
 returns c =
-    let told = c.args.told.now in
+    let diagnoses = c.args.diagnoses.now in
     let r = c.put_yes_line-2.result in
     let t0 = c.args.text.now.items in
     let t1 = c.put_number_line.new.text.items in
@@ -14,12 +14,12 @@ returns c =
     let t3 = c.put_number_line-3.new.text.items in
     let t4 = c.put_number_line-4.new.text.items in
     let t5 = c.put_yes_line.new.text.items in
-    let a1 = number_line (codes "conditions") (length told) in
-    let a2 = number_line (codes "proved") (count_by is_proved told) in
-    let a3 = number_line (codes "false") (count_by is_false told) in
-    let a4 = number_line (codes "open") (count_by is_open told) in
-    let a5 = yes_line (codes "safe") (is_safe told) in
-    let a6 = yes_line (codes "unblocked") (is_unblocked told) in
+    let a1 = number_line (codes "conditions") (length diagnoses) in
+    let a2 = number_line (codes "proved") (count_by is_proved diagnoses) in
+    let a3 = number_line (codes "false") (count_by is_false diagnoses) in
+    let a4 = number_line (codes "open") (count_by is_open diagnoses) in
+    let a5 = yes_line (codes "safe") (is_safe diagnoses) in
+    let a6 = yes_line (codes "unblocked") (is_unblocked diagnoses) in
     let e1 : t1 ≡ t0 ++ a1 = search rules in
     let e2 : t2 ≡ t1 ++ a2 = search rules in
     let e3 : t3 ≡ t2 ++ a3 = search rules in

@@ -3,4 +3,4 @@ use Rattle.std.specs.Prelude.{replicate}
 use Rattle.og_report_prove.proofs.together.none_more.Given as goal
 
 abbrev pub invariant-loop : goal.invariant-loop
-invariant-loop l = l.mores.items ≡ replicate l.counter (Some 0)
+invariant-loop l = l.repeats.items ≡ replicate l.counter (Some 0)

@@ -6,4 +6,4 @@ use Rattle.og_report_prove.proofs.unproved.unproved_values.Given as goal
 
 abbrev pub invariant-loop-index : goal.invariant-loop-index
 invariant-loop-index l =
-    map view l.values.items ++ unproved_data l.names l.places (l.index + 1) (map seen (drop l.index l.conditions)) (drop l.index l.told) ≡ unproved_data l.names l.places 1 (map seen l.conditions) l.told
+    map view l.values.items ++ unproved_data l.names l.places (l.index + 1) (map seen (drop l.index l.conditions)) (drop l.index l.diagnoses) ≡ unproved_data l.names l.places 1 (map seen l.conditions) l.diagnoses

@@ -14,7 +14,7 @@ returns c =
     record {
       reason = c.reason.result.now;
       one_line = c.reason.ensures;
-      told =
+      written =
           four all c.in_ok-text.text.items c.put_quote.new.text.items (shown_name c.args.name.now) (place_text c.args.source.now (Some c.args.at)) (refusal_text (number_of_fault fault) (name_of_fault fault)) (quote_text c.args.source.now c.args.at)
           c.in_ok-text.ensures c.in_ok-put_quote.ensures rest c.in_ok-put_reason.ensures;
     }

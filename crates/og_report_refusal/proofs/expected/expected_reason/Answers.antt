@@ -28,6 +28,6 @@ returns c =
       may_end = c.in_ok-may_end.may_end;
       exact = subst (λ (ts : List Token). AreThose (GoesOn ts) all_kinds c.in_ok-symbols.symbols.items) same c.in_ok-symbols.ensures;
       ends = subst (λ (ts : List Token). MatchBool c.in_ok-may_end.may_end (IsWhole ts) (IsWhole ts → ⊥)) (c.deref-3.ensures.value ∙ same) c.in_ok-may_end.ensures;
-      told = c.in_ok-text.ensures ∙ ap (λ (f : List ℕ). expected_text f c.deref-5.result.now c.in_ok-may_end.may_end) found
+      written = c.in_ok-text.ensures ∙ ap (λ (f : List ℕ). expected_text f c.deref-5.result.now c.in_ok-may_end.may_end) found
           ∙ ap (λ (ks : List TokenKind). expected_text (found_text source (drop (count_before all c.args.at) all)) ks c.in_ok-may_end.may_end) c.deref-5.ensures.value;
     }

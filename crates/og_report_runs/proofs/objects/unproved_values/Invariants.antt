@@ -6,4 +6,4 @@ use Rattle.og_report_runs.proofs.objects.unproved_values.Given as goal
 
 abbrev pub invariant-loop-index : goal.invariant-loop-index
 invariant-loop-index l =
-    map view l.values.items ++ unproved_data l.outline l.places (l.index + 1) (map seen (drop l.index l.conditions)) (drop l.index l.told) (drop l.index l.runs) ≡ unproved_data l.outline l.places 1 (map seen l.conditions) l.told l.runs
+    map view l.values.items ++ unproved_data l.outline l.places (l.index + 1) (map seen (drop l.index l.conditions)) (drop l.index l.diagnoses) (drop l.index l.runs) ≡ unproved_data l.outline l.places 1 (map seen l.conditions) l.diagnoses l.runs

@@ -1,5 +1,5 @@
 use Rattle.std.proofs.Common.{◌≡◌, ◌+◌, IfSome, length, sym, subst, arith}
-use Rattle.og_report_runs.specs.Told.{StandsAt, AreStandsFrom}
+use Rattle.og_report_runs.specs.RunDiagnosis.{StandsAt, AreStandsFrom}
 use Rattle.og_report_runs.proofs.Placed.{stands_more}
 use Rattle.og_report_runs.proofs.stuck.stands_at.Goals as goal
 

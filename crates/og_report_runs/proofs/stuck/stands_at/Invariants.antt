@@ -1,5 +1,5 @@
 use Rattle.std.proofs.Common.{◌≡◌, length}
-use Rattle.og_report_runs.specs.Told.{AreStandsFrom}
+use Rattle.og_report_runs.specs.RunDiagnosis.{AreStandsFrom}
 use Rattle.og_report_runs.proofs.stuck.stands_at.Given as goal
 
 abbrev pub invariant-loop-p : goal.invariant-loop-p

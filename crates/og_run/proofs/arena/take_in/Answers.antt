@@ -2,7 +2,7 @@ use Rattle.std.proofs.Common.{◌≡◌, true, false, ap, ◌∙◌, subst, arit
 use Rattle.std.specs.Prelude.{slice_get, slice_set}
 use Rattle.og_run.specs.declared.rule.View.{View}
 use Rattle.og_run.specs.Cards.{listed, keeper}
-use Rattle.og_run.proofs.Steps.{takes_keep, tells_keep}
+use Rattle.og_run.proofs.Steps.{takes_keep, confirms_keep}
 use Rattle.og_run.proofs.arena.take_in.Goals as goal
 
 pub join_seat-requires : goal.join_seat-requires
@@ -15,7 +15,7 @@ load-requires c =
     let t = c.requires.table in
     let j = c.join_seat.ensures in
     let me = ap (λ (m : View × List (ℕ × Unit {0})). m.0) j.2 in
-    (j.0 ∙ t.0, omega (arith, t.2), tells_keep _ _ _ _ (ap (λ (v : View). v.keeps) me ∙ c.requires.keeper) (ap (λ (v : View). v.holds) me ∙ c.requires.token.2))
+    (j.0 ∙ t.0, omega (arith, t.2), confirms_keep _ _ _ _ (ap (λ (v : View). v.keeps) me ∙ c.requires.keeper) (ap (λ (v : View). v.holds) me ∙ c.requires.token.2))
 
 pub returns-clause-told : goal.returns-clause-told
 returns-clause-told c =

@@ -15,7 +15,7 @@ loop-seat-preserved g c =
     let i = c.loop-seat.invariant in
     let items = c.in-Some.ensures.items in
     let same = sym c.take.ensures.same in
-    let was = c.loop-seat.desk in
+    let was = c.loop-seat.locked in
     let fit = fits_more (λ s. CardFits was.given was.history was.halted s.process s.card) c.args.seats.items c.loop-seat.seats.items c.pop.new.self.items i.front.0 c.in-Some.seat i.front.1 items c.take.ensures.fits i.fits in record {
       same = c.take.ensures.same ∙ i.same;
       front = (c.in-Some.seat ∷ i.front.0, popped c.args.seats.items c.loop-seat.seats.items c.pop.new.self.items i.front.0 c.in-Some.seat i.front.1 items);
@@ -28,5 +28,5 @@ returns g c = λ k s at.
     let machine = c.into_machine.ensures in
     let fits = c.loop-seat.invariant.fits k s (omega (arith, none.0, c.loop-seat.seats.ok.0)) at in
     let there : Position = record { given = g.B.Machine.given c.into_machine.result; history = g.B.Machine.history c.into_machine.result; halted = g.B.Machine.halted c.into_machine.result } in
-    let same : there ≡ c.loop-seat.desk = (λ j. record { given = machine.0 j; history = machine.1 j; halted = machine.2 j }) in
+    let same : there ≡ c.loop-seat.locked = (λ j. record { given = machine.0 j; history = machine.1 j; halted = machine.2 j }) in
     subst (λ (d : Position). CardFits d.given d.history d.halted s.process s.card) (sym same) fits

@@ -5,9 +5,9 @@ use Rattle.og_run.proofs.threads.settle.Given as goal
 
 abbrev pub invariant-loop-seat : goal.invariant-loop-seat
 invariant-loop-seat g l = record {
-  same : l.desk ≡ l.initial.desk;
+  same : l.locked ≡ l.initial.locked;
   front : (rest : List Place) × (l.fn.seats.items ≡ l.seats.items ++ rest);
-  fits : (k : ℕ) (s : Place) → length l.seats.items ≤ k → slice_get l.fn.seats.items k ≡ Some s → CardFits l.desk.given l.desk.history l.desk.halted s.process s.card;
+  fits : (k : ℕ) (s : Place) → length l.seats.items ≤ k → slice_get l.fn.seats.items k ≡ Some s → CardFits l.locked.given l.locked.history l.locked.halted s.process s.card;
 }
 
 abbrev pub decreases-loop-seat : goal.decreases-loop-seat

@@ -1,7 +1,6 @@
 use mir.Syntax.{w64}
 use mir.Val.{SFits, to_z, of_z}
 use Rattle.std.proofs.Common.{◌≡◌, ◌++◌, map, sym, ap, ◌∙◌, rules}
-use Rattle.std.specs.Prelude.{Ok}
 use Rattle.std.proofs.lemmas.Int.{to_z-of_z}
 use Rattle.og_template_expand.specs.Scope.{Scope, declared_with}
 use Rattle.og_template_expand.specs.Scoped.{meaning_of, names_of}

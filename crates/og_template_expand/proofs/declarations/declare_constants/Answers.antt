@@ -2,7 +2,7 @@ use mir.Syntax.{w64}
 use mir.Val.{SFits, to_z, of_z}
 use Rattle.std.proofs.Common.{map, ◌≡◌, ap, ◌∙◌, sym, rules}
 use Rattle.std.proofs.lemmas.Int.{to_z-of_z}
-use Rattle.og_template_expand.specs.Scope.{Names, Value, declared_with}
+use Rattle.og_template_expand.specs.Scope.{Value, declared_with}
 use Rattle.og_template_expand.specs.Scoped.{binding_of, names_of}
 use Rattle.og_template_expand.specs.WholeOf.{constant_of}
 use Rattle.og_template_expand.proofs.Declared.{constants_turn}

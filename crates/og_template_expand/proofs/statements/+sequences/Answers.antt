@@ -15,7 +15,6 @@ use Rattle.og_template.specs.declared.tree.Statement.TheFolds.{fold_out-Sequence
 use Rattle.og_template_expand.specs.Answer.{Checked, ◌>>=◌}
 use Rattle.og_template_expand.specs.Put.{front_of, onto}
 use Rattle.og_template_expand.specs.Ranges.{instances, instance_of}
-use Rattle.og_template_expand.specs.Scope.{Scope}
 use Rattle.og_template_expand.specs.Scoped.{IsExpanded, FailsAs, scope_of}
 use Rattle.og_template_expand.specs.Statements as meaning
 use Rattle.og_template_expand.specs.Trees.{Statement, Step, Sequence, sequence}

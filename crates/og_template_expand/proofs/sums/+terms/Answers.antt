@@ -1,13 +1,13 @@
 use mir.Syntax.{w64}
 use mir.Val.{SFits, to_z, of_z}
 use Rattle.std.proofs.lemmas.Int.{to_z-of_z}
-use Rattle.std.proofs.Common.{◌≡◌, pos, get_or, map, sym, subst, ap, ◌∙◌, Vec, Global, rules}
+use Rattle.std.proofs.Common.{◌≡◌, ℤ, pos, List, get_or, map, sym, subst, ap, ◌∙◌, Vec, Global, rules}
 use Rattle.std.specs.Prelude.{Ok}
 use Rattle.std.proofs.lemmas.Result.{err_from_is_err_and}
 use Rattle.og_parse.specs.declared.raw.RawTerm.{RawTerm}
 use Rattle.og_template_expand.specs.Answer.{Checked, ◌>>=◌, behind, gathered}
-use Rattle.og_template_expand.specs.Scope.{Range, Scope}
-use Rattle.og_template_expand.specs.Ranges.{instances, instance_of, numbers_of}
+use Rattle.og_template_expand.specs.Scope.{Scope}
+use Rattle.og_template_expand.specs.Ranges.{instances, instance_of}
 use Rattle.og_template_expand.specs.Sums as sums
 use Rattle.og_template_expand.specs.Scoped.{FailsAs, scope_of}
 use Rattle.og_template_expand.specs.TreeOf.{binder_of, signed_of, kind_of, terms_then}
@@ -37,7 +37,7 @@ instances_of-returns-in_err-put_instance t c =
     let fails : FailsAs e (behind c.loop-value.all.items (each (to_z w64 (of_z w64 (get_or values i (pos 0)))))) = c.in_err-put_instance.ensures in
     let p = err_from_is_err_and c.from_residual-in_err-put_instance.result c.from_residual-in_err-put_instance.ensures.1 in
     let all : gathered each values ≡ instances scope binder body =
-    ap (gathered each) (c.deref-value-items.ensures.value ∙ c.in_ok-values.ensures) ∙ ap (λ (r : Checked Range). r >>= λ range. gathered each (numbers_of range)) (sym c.in_ok-range.ensures) in
+    ap (gathered each) c.deref-value-items.ensures.value ∙ ap (λ (r : Checked (List ℤ)). r >>= gathered each) (sym c.in_ok-values.ensures) in
     rw p.1 (failed (λ (v : Vec RawTerm Global). v.items) e p.0 (instances scope binder body) p.2
     (gathered_stops each e c.loop-value.all.items values i (pos 0) (to_z w64 (of_z w64 (get_or values i (pos 0)))) (instances scope binder body) c.loop-value-test.true (to_z-of_z w64 _ fit) fails (c.loop-value.invariant ∙ all)))
 

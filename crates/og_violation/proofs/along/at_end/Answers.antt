@@ -2,7 +2,7 @@ use Rattle.std.proofs.Common.{◌∙◌, ◌≡◌, Option, Some, None, is_some,
 use Rattle.std.proofs.lemmas.Bool.{both_ways}
 use Rattle.og_typed.specs.Plain.{sequence}
 use Rattle.og_violation.proofs.Runs.{reached_shaped}
-use Rattle.og_violation.proofs.Firsts.{told_nothing}
+use Rattle.og_violation.proofs.Firsts.{no_finding}
 use Rattle.og_violation.proofs.along.at_end.Goals as goal
 use Rattle.og_violation.proofs.along.at_end.Goals.{then-is_none+in_default, else-is_none}
 
@@ -14,7 +14,7 @@ pub returns-else-is_post_false : goal.returns-else-is_post_false
 returns-else-is_post_false c =
     let o = c.args.outline.now in
     let m = c.args.moment.now.moment in
-    told_nothing o m (reached_shaped o m c.requires.of.1) c.requires.ended
+    no_finding o m (reached_shaped o m c.requires.of.1) c.requires.ended
     (elim c.if-is_none.branch [
       | then-is_none+in_default w ↦ (λ none. w.in_default.ensures.none)
       | else-is_none w ↦ (λ none. absurd (both_ways (is_some o.epilogue) none

@@ -1,6 +1,6 @@
 use Rattle.std.proofs.Common.{◌≡◌, vec_len, subst, arith}
-use Rattle.og_pool.specs.Telling.{PartDone}
-use Rattle.og_pool.proofs.Telling.{each_gain}
+use Rattle.og_pool.specs.TaskAnswers.{PartDone}
+use Rattle.og_pool.proofs.TaskAnswers.{each_gain}
 use Rattle.og_pool.proofs.workers.Workers.draw_all.Goals as goal
 
 pub together-requires-clause-some : goal.together-requires-clause-some

@@ -1,8 +1,8 @@
 use Rattle.std.proofs.Common.{◌≡◌, ℕ, ◌+◌, ◌-◌, ◌<◌}
 use Rattle.std.specs.List.{All}
 use Rattle.og_pool.specs.Drawing.{past, times}
-use Rattle.og_pool.specs.Telling.{IsRight, Tells}
-use Rattle.og_pool.proofs.Telling.{above}
+use Rattle.og_pool.specs.TaskAnswers.{IsRight, HasAnswer}
+use Rattle.og_pool.proofs.TaskAnswers.{above}
 use Rattle.og_pool.proofs.workers.WorkersJob.work.Given as goal
 
 abbrev pub invariant-loop-number : goal.invariant-loop-number
@@ -10,8 +10,8 @@ invariant-loop-number g l = record {
   source : l.drawer.source ≡ l.self.draws.now;
   workers : l.drawer.workers ≡ l.initial.drawer.workers;
   none : past l.self.draws.now.count l.drawer.drawn ≡ 0;
-  right : All (IsRight (g.N.Numbered.may_answer l.self.tasks.now)) l.told.items;
-  told : (x : ℕ) → 0 < times x l.drawer.drawn → Tells l.told.items (x + 1);
+  right : All (IsRight (g.N.Numbered.may_answer l.self.tasks.now)) l.answered.items;
+  answered : (x : ℕ) → 0 < times x l.drawer.drawn → HasAnswer l.answered.items (x + 1);
   keeps : g.N.Numbered.keeps l.self.tasks.now l.kept;
 }
 

@@ -1,4 +1,0 @@
-use Rattle.og_command_prove.proofs.subject.Subject.of_source.Goals as goal
-
-pub returns-clause-short : goal.returns-clause-short
-returns-clause-short c = (c.bytes-own.ensures.short, c.bytes-own.ensures.short)

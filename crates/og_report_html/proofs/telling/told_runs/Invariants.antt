@@ -1,6 +1,0 @@
-use Rattle.std.proofs.Common.{◌+◌, drop, map}
-use Rattle.og_report_html.proofs.Charts.{MakesAll}
-use Rattle.og_report_html.proofs.telling.told_runs.Given as goal
-
-abbrev pub invariant-loop-index : goal.invariant-loop-index
-invariant-loop-index l = MakesAll l.outline l.source l.explored l.told l.runs (l.index + 1) (drop l.index l.told) (drop l.index l.runs) (map (λ t. t.items) l.texts.items)

@@ -1,0 +1,158 @@
+//! The report of the runs to a false condition.
+
+ghost use Rattle.std.specs.Prelude.{◌≡◌, ◌++◌, nat_lt, length, map, IfOk, OnOk};
+ghost use Rattle.std.specs.Str.{is_utf8};
+ghost use Rattle.og_report_runs.specs.Report.{count_reached};
+ghost use Rattle.og_report_html.specs.Lanes.{IsChartOf, line_text, IsRunText, IsRunPart, AreRunParts, complete_text, followed_text, about_text};
+
+use crate::charting::chart;
+use crate::escapes::{is_utf8, put_escaped};
+use og_report_prove::Diagnosis;
+use og_report_runs::{Explored, Run, count_reached, put_run_line};
+use og_report_text::put_number;
+use og_typed::Outline;
+use std::alloc::{AllocError, Global};
+
+// The chart of a run that gets there.
+fn chart_of(
+    alloc: Global,
+    outline: &Outline,
+    source: &[u8],
+    condition: u128,
+    run: &Run,
+) -> Result<Vec<u8>, AllocError>
+    ensures { IfOk result (λ text. IsChartOf outline.now source.now condition run.now text.items) }
+{
+    match run {
+        Run::Reached(witness) => chart(alloc, outline, source, condition, witness),
+        Run::Never | Run::Open => Ok(Vec::new(alloc)),
+    }
+}
+
+// What `prove --runs` prints.
+fn line_of(
+    alloc: Global,
+    outline: &Outline,
+    source: &[u8],
+    explored: Explored,
+    run: &Run,
+) -> Result<Vec<u8>, AllocError>
+    ensures { IfOk result (λ text. text.items ≡ line_text outline.now source.now explored run.now) }
+{
+    let mut line = Vec::new(alloc);
+    put_run_line(&mut line, outline, explored, run)?;
+    let mut text = Vec::new(alloc);
+    text.extend_from_slice(b"<p class=run>")?;
+    put_escaped(&mut text, is_utf8(source), &line)?;
+    text.extend_from_slice(b"</p>\n")?;
+    Ok(text)
+}
+
+// The line, and the chart.
+fn run_text(
+    alloc: Global,
+    outline: &Outline,
+    source: &[u8],
+    explored: Explored,
+    condition: u128,
+    run: &Run,
+) -> Result<Vec<u8>, AllocError>
+    ensures { IfOk result (λ text.
+        IsRunText outline.now source.now explored condition run.now text.items) }
+{
+    let mut text = line_of(alloc, outline, source, explored, run)?;
+    let chart = chart_of(alloc, outline, source, condition, run)?;
+    text.extend_from_slice(&chart)?;
+    Ok(text)
+}
+
+// Of a false condition alone.
+fn run_part(
+    alloc: Global,
+    outline: &Outline,
+    source: &[u8],
+    explored: Explored,
+    condition: u128,
+    diagnosis: &Diagnosis,
+    run: &Run,
+) -> Result<Vec<u8>, AllocError>
+    ensures { IfOk result (λ text.
+        IsRunPart outline.now source.now explored condition diagnosis.now run.now text.items) }
+{
+    match diagnosis {
+        Diagnosis::False(_) => run_text(alloc, outline, source, explored, condition, run),
+        Diagnosis::Proved | Diagnosis::Open => Ok(Vec::new(alloc)),
+    }
+}
+
+/// The report of the runs to each false condition, as texts of HTML, one for each condition: the
+/// line that `prove --runs` prints, and a chart of a run that gets there.
+///
+/// # Errors
+///
+/// An allocation was refused.
+pub fn run_parts(
+    alloc: Global,
+    outline: &Outline,
+    source: &[u8],
+    explored: Explored,
+    diagnoses: &[Diagnosis],
+    runs: &[Run],
+) -> Result<Vec<Vec<u8>>, AllocError>
+    requires { length runs.now ≡ length diagnoses.now }
+    ensures { IfOk result (λ texts. AreRunParts outline.now source.now explored 1 diagnoses.now runs.now
+        (map (λ t. t.items) texts.items)) }
+{
+    let mut texts = Vec::with_capacity(alloc, diagnoses.len())?;
+    for index in 0..diagnoses.len() {
+        let condition = index as u128 + 1;
+        let text = run_part(
+            alloc,
+            outline,
+            source,
+            explored,
+            condition,
+            &diagnoses[index],
+            &runs[index],
+        )?;
+        texts.push(text)?;
+    }
+    Ok(texts)
+}
+
+fn put_complete(text: &mut Vec<u8>, complete: bool) -> Result<(), AllocError>
+    ensures { OnOk result (text.new.items ≡ text.old.items ++ complete_text complete) }
+{
+    if complete {
+        text.extend_from_slice(b", complete: yes")
+    } else {
+        text.extend_from_slice(b", complete: no")
+    }
+}
+
+// How far the runs were followed.
+fn put_followed(text: &mut Vec<u8>, explored: Explored) -> Result<(), AllocError>
+    ensures { OnOk result (text.new.items ≡ text.old.items ++ followed_text explored) }
+{
+    text.extend_from_slice(b"<p>Runs: starts: ")?;
+    put_number(text, u128::from(explored.starts))?;
+    text.extend_from_slice(b", moments: ")?;
+    put_number(text, u128::from(explored.moments))?;
+    put_complete(text, explored.complete)
+}
+
+/// How far the runs were followed, and to how many false conditions they get, as a text of HTML.
+///
+/// # Errors
+///
+/// An allocation was refused.
+pub fn about(alloc: Global, explored: Explored, runs: &[Run]) -> Result<Vec<u8>, AllocError>
+    ensures { IfOk result (λ text. text.items ≡ about_text explored (count_reached runs.now)) }
+{
+    let mut text = Vec::new(alloc);
+    put_followed(&mut text, explored)?;
+    text.extend_from_slice(b", reached: ")?;
+    put_number(&mut text, count_reached(runs) as u128)?;
+    text.extend_from_slice(b"</p>\n")?;
+    Ok(text)
+}

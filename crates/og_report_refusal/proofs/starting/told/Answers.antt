@@ -1,5 +1,0 @@
-use Rattle.std.proofs.Common.{rules, subst}
-use Rattle.og_report_refusal.proofs.starting.told.Goals as goal
-
-pub returns-in-Ok : goal.returns-in-Ok
-returns-in-Ok c = record { found = c.in-Ok.found; is_false = search rules; told = search rules }

@@ -1,5 +1,0 @@
-use Rattle.og_run.proofs.Steps.{begins}
-use Rattle.og_run.proofs.arena.Blank.new.Goals as goal
-
-pub of_words-requires : goal.of_words-requires
-of_words-requires g c = begins _
