@@ -35,8 +35,8 @@ fn report_of(
 }
 
 /// The refusal of a source and of certificates of these names for a fault that is known of them:
-/// its line, with status 2, and beside it where the fault stands and why. Want of memory or of a
-/// thread is a fault of the job.
+/// its line, with status 2, and beside it where the fault stands and why. Refused memory, or a
+/// thread that could not be started, is a fault of the job.
 pub(crate) fn refuse<'a>(
     alloc: Global,
     names: Names<'_>,
@@ -76,7 +76,7 @@ pub(crate) fn refuse_source<'a>(
     refuse(alloc, names, source, refusal)
 }
 
-/// The refusal of a source of this name that was not read, for its first fault. Want of memory is a
+/// The refusal of a source of this name that was not read, for its first fault. Refused memory is a
 /// fault of the job.
 pub(crate) fn refuse_unread<'a>(
     alloc: Global,
