@@ -4,4 +4,3 @@ pub mod Moments
 pub mod Printed
 pub mod Reply
 pub mod Table
-pub mod Warrants

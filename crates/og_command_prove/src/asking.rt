@@ -1,66 +1,39 @@
-//! From a text and words to a reply.
+//! From an outline and words to a reply.
 
-ghost use Rattle.std.specs.Prelude.{◌≡◌, ◌<◌, ◌≤◌, ◌^◌, is_some, length, true, false, IfOk, IfErr};
-ghost use Rattle.og_template_outline.specs.Expanded.{IsOutlineText};
+ghost use Rattle.std.specs.Prelude.{◌≡◌, ◌<◌, is_some, map, true, false, IfOk, IfErr};
 ghost use Rattle.og_judge.specs.NotJudged.{OnInput};
 ghost use Rattle.og_judge.specs.declared.refusal.Refusal.TheVariants as refusals;
-ghost use Rattle.og_report_text.specs.InputErrors.{IsFaultOfCount, IsFaultOfConditions};
-ghost use Rattle.og_typed.specs.Source.{IsSource};
-ghost use Rattle.og_command_prove.specs.Reply.{bytes_of, IsOfExpansion, IsOfSubject, IsOfSource, IsOfSplit, IsOfTemplate, IsReplyBy, IsReply, IsTooMany, IsFaultOfText};
+ghost use Rattle.og_report_text.specs.InputErrors.{IsFaultOfCount};
 ghost use Rattle.og_report_text.specs.Subject.{subject_of, IsShort};
-ghost use Rattle.og_command_prove.specs.Warrants.{Warrants, WarrantsBy};
-ghost use Rattle.og_template.specs.Front.{is_template};
+ghost use Rattle.og_command_prove.specs.Reply.{IsReply, Warrants};
 
 use crate::form::ReportForm;
 use crate::prover::Prover;
-use crate::reply::Reply;
 use crate::searching::AskedRuns;
-use og_command_explore::{WordsError, given};
+use og_command_explore::{Reply, WordsError, given};
 use og_io::MomentLimit;
 use og_judge::Refusal;
 use og_pool::Gate;
-use og_report_text::{Rows, Subject};
-use og_template::is_template;
-use og_template_outline::{Expansion, expand_template, split_words};
-use og_typed::{Outline, Source};
+use og_report_text::Subject;
 use std::sync::Wait;
 use std::thread::Threads;
 
 impl<'r, G: Gate, H: Threads + Wait + Sync> Prover<'r, G, H> {
-    // The reply for an outline where no runs are asked for; a word has no constant to name.
-    fn without_runs<'a>(
-        &self,
-        subject: &Subject<'_>,
-        words: &[&'a str],
-        form: ReportForm,
-    ) -> Result<Reply<'a>, Refusal>
-        requires { IsShort (subject_of subject.now) }
-        ensures reply { IfOk result
-            (IsOfSubject form false (subject_of subject.now) (bytes_of words.now)) }
-        ensures refused { IfErr result (OnInput (IsFaultOfCount subject.now.outline.now)) }
-        ensures spawn { IfErr result (λ e. e ≡ refusals.Spawn → 1 < self.now.search.workers) }
-    {
-        match words {
-            [] => Ok(Reply::Answer(self.answer(subject, None, form)?)),
-            [word, ..] => Ok(Reply::BadConstant(word)),
-        }
-    }
-
-    // The reply for an outline with the runs from the starts that the words give.
+    // The reply with the runs from the starts that the words give.
     fn with_runs<'a>(
         &self,
         subject: &Subject<'_>,
-        words: &[&'a str],
+        starts: &[&'a str],
         limit: MomentLimit,
         form: ReportForm,
     ) -> Result<Reply<'a>, Refusal>
         requires { IsShort (subject_of subject.now) }
         ensures reply { IfOk result
-            (IsOfSubject form true (subject_of subject.now) (bytes_of words.now)) }
+            (IsReply form true (subject_of subject.now) (map (λ w. w.now) starts.now)) }
         ensures refused { IfErr result (OnInput (IsFaultOfCount subject.now.outline.now)) }
         ensures spawn { IfErr result (λ e. e ≡ refusals.Spawn → 1 < self.now.search.workers) }
     {
-        match given(self.alloc, subject.outline, words) {
+        match given(self.alloc, subject.outline, starts) {
             Ok(given) => {
                 let asked = AskedRuns {
                     given: &given,
@@ -68,189 +41,51 @@ impl<'r, G: Gate, H: Threads + Wait + Sync> Prover<'r, G, H> {
                 };
                 Ok(Reply::Answer(self.answer(subject, Some(&asked), form)?))
             }
-            Err(WordsError::Bad(word)) => {
-                let own = Vec::from_slice(self.alloc, subject.own)?;
-                Ok(Reply::BadStart(word, own))
-            }
+            Err(WordsError::Bad(word)) => Ok(Reply::BadValue(word)),
             Err(WordsError::Memory) => Err(Refusal::Memory),
         }
     }
 
-    // The reply for an outline in its texts.
-    fn of_subject<'a>(
+    /// What searches find of the conditions of an outline in its texts, in a form. A text has
+    /// places of the text that was given, and false conditions of a template that differ in the
+    /// values of the names bound round them alone are reported together; JSON has places of the
+    /// outline's own text, and a page shows that. The texts have at most 1,048,576 bytes.
+    ///
+    /// Where runs are asked for, it is also found of each false condition whether a run gets to a
+    /// state in which it is false. The words in `starts` say where the runs start, each NAME=INT or
+    /// NAME=LO..HI, as in an exploration. Without them the starts are one that a search finds for
+    /// the precondition, and for each false condition two more, up to 64. What is known of the runs
+    /// to conditions that are reported together is the first one's. Where no runs are asked for,
+    /// the words are not read.
+    ///
+    /// The status is 0 where every condition but the last is proved, and 1 where one is not. Status
+    /// 0 says that every run of the outline is as promised, with its auxiliaries and without them;
+    /// and where no runs are asked for, a text or JSON that says then that it is unblocked, that
+    /// none gets stuck. The answer is the same for every number of workers.
+    ///
+    /// `BadValue` holds the first word that gives no variable a range.
+    ///
+    /// # Errors
+    ///
+    /// `Input`: the outline has more than 4,000,000 conditions. `Spawn`, of two workers or more,
+    /// where a thread could not be started. `Memory` where an allocation was refused.
+    pub fn prove<'a>(
         &self,
         subject: &Subject<'_>,
-        words: &[&'a str],
+        starts: &[&'a str],
         form: ReportForm,
     ) -> Result<Reply<'a>, Refusal>
         requires { IsShort (subject_of subject.now) }
-        ensures reply { IfOk result (IsOfSubject form (is_some self.now.search.runs)
-            (subject_of subject.now) (bytes_of words.now)) }
+        ensures reply { IfOk result (IsReply form (is_some self.now.search.runs)
+            (subject_of subject.now) (map (λ w. w.now) starts.now)) }
+        ensures warrants { IfOk result
+            (Warrants form (is_some self.now.search.runs) subject.now.outline.now) }
         ensures refused { IfErr result (OnInput (IsFaultOfCount subject.now.outline.now)) }
         ensures spawn { IfErr result (λ e. e ≡ refusals.Spawn → 1 < self.now.search.workers) }
     {
         match self.search.runs {
-            None => self.without_runs(subject, words, form),
-            Some(limit) => self.with_runs(subject, words, limit, form),
+            None => Ok(Reply::Answer(self.answer(subject, None, form)?)),
+            Some(limit) => self.with_runs(subject, starts, limit, form),
         }
-    }
-
-    // The reply for a text that is no template.
-    fn of_source<'a>(
-        &self,
-        text: &[u8],
-        words: &[&'a str],
-        form: ReportForm,
-    ) -> Result<Reply<'a>, Refusal>
-        ensures reply { IfOk result
-            (IsOfSource form (is_some self.now.search.runs) text.now (bytes_of words.now)) }
-        ensures refused { IfErr result (OnInput (IsFaultOfConditions text.now)) }
-        ensures spawn { IfErr result (λ e. e ≡ refusals.Spawn → 1 < self.now.search.workers) }
-    {
-        let source = Source::read(self.alloc, text)?;
-        let reply = self.of_subject(&Subject::of_source(&source), words, form);
-        drop(source);
-        reply
-    }
-
-    // The reply for the outline that a template means.
-    #[tactic(auto, using(og_template_outline::proofs::ReadAgain::outline_text_short))]
-    fn of_expansion<'a>(
-        &self,
-        template: &[u8],
-        own: &[u8],
-        outline: &Outline,
-        rows: &Rows,
-        starts: &[&'a str],
-        form: ReportForm,
-    ) -> Result<Reply<'a>, Refusal>
-        requires short { length template.now ≤ 2 ^ 20 }
-        requires text { IsOutlineText own.now }
-        requires source { IsSource own.now outline.now }
-        ensures reply { IfOk result
-            (IsOfExpansion form (is_some self.now.search.runs) template.now (bytes_of starts.now)) }
-        ensures refused { IfErr result (OnInput (IsTooMany)) }
-        ensures spawn { IfErr result (λ e. e ≡ refusals.Spawn → 1 < self.now.search.workers) }
-    {
-        let subject = Subject {
-            outline,
-            own,
-            given: template,
-            rows: Some(rows),
-        };
-        self.of_subject(&subject, starts, form)
-    }
-
-    // The reply for a template, by the words that give its constants values and those that give
-    // starts.
-    fn of_split<'a>(
-        &self,
-        text: &[u8],
-        constants: &[&'a str],
-        starts: &[&'a str],
-        form: ReportForm,
-    ) -> Result<Reply<'a>, Refusal>
-        ensures reply { IfOk result (IsOfSplit form (is_some self.now.search.runs) text.now
-            (bytes_of constants.now) (bytes_of starts.now)) }
-        ensures refused { IfErr result (OnInput (IsTooMany)) }
-        ensures spawn { IfErr result (λ e. e ≡ refusals.Spawn → 1 < self.now.search.workers) }
-    {
-        match expand_template(self.alloc, text, constants)? {
-            Expansion::Outline(own, outline, rows) => {
-                let reply = self.of_expansion(text, &own, &outline, &rows, starts, form);
-                drop(outline);
-                reply
-            }
-            Expansion::Refused(answer, fault) => Ok(Reply::Refused(answer, fault)),
-            Expansion::BadValue(word) => Ok(Reply::BadConstant(word)),
-        }
-    }
-
-    // The reply for a template: without runs all words are to name its constants.
-    fn of_template<'a>(
-        &self,
-        text: &[u8],
-        words: &[&'a str],
-        form: ReportForm,
-    ) -> Result<Reply<'a>, Refusal>
-        ensures reply { IfOk result
-            (IsOfTemplate form (is_some self.now.search.runs) text.now (bytes_of words.now)) }
-        ensures refused { IfErr result (OnInput (IsTooMany)) }
-        ensures spawn { IfErr result (λ e. e ≡ refusals.Spawn → 1 < self.now.search.workers) }
-    {
-        match self.search.runs {
-            None => self.of_split(text, words, &[], form),
-            Some(_) => {
-                let split = split_words(self.alloc, text, words)?;
-                self.of_split(text, &split.constants, &split.starts, form)
-            }
-        }
-    }
-
-    /// What searches find of the conditions of an outline, in a form; or, of a text whose first
-    /// word is `template`, of the outline that it means where constants have the values that the
-    /// words give, each NAME=INT. A text has places of the template then, with the values of the
-    /// names that are bound round them, and false conditions that differ in these values alone are
-    /// reported together; JSON has places of the outline as `og_template_outline::expanded` prints
-    /// it, and a page shows that.
-    ///
-    /// Where runs are asked for, it is also found of each false condition whether a run gets to a
-    /// state in which it is false. The words whose NAME is no constant say where the runs start,
-    /// each NAME=INT or NAME=LO..HI, as in an exploration. Without them the starts are one that a
-    /// search finds for the precondition, and for each false condition two more, up to 64. What is
-    /// known of the runs to conditions that are reported together is the first one's.
-    ///
-    /// The status is 0 where every condition but the last is proved, and 1 where one is not. Status
-    /// 0 says that every run of the outline is as promised, with its auxiliaries and without them,
-    /// of a template of the outline that it means; and where no runs are asked for, a text or JSON
-    /// that says then that it is unblocked, that none gets stuck. The answer is the same for every
-    /// number of workers.
-    ///
-    /// `Refused` holds the line of a fault of a template with status 2, and the fault;
-    /// `BadConstant` the first word that gives its constant no value, or a second one, or, where no
-    /// runs are asked for, the first behind an outline, which has no constants; `BadStart` the
-    /// first word that gives no variable a range, with the text of the outline. Both are returned
-    /// once the outline was read.
-    ///
-    /// # Errors
-    ///
-    /// `Input`: of an outline its first fault, or that it has more than 4,000,000 conditions; of a
-    /// template that its outline has. `Spawn`, of two workers or more, where a thread could not be
-    /// started. `Memory` where an allocation was refused.
-    pub fn prove<'a>(
-        &self,
-        text: &[u8],
-        words: &[&'a str],
-        form: ReportForm,
-    ) -> Result<Reply<'a>, Refusal>
-        ensures reply { IfOk result
-            (IsReply form (is_some self.now.search.runs) text.now (bytes_of words.now)) }
-        ensures warrants { IfOk result (Warrants form (is_some self.now.search.runs) text.now) }
-        ensures refused { IfErr result (OnInput (IsFaultOfText text.now)) }
-        ensures spawn { IfErr result (λ e. e ≡ refusals.Spawn → 1 < self.now.search.workers) }
-    {
-        if is_template(text) {
-            self.of_template(text, words, form)
-        } else {
-            self.of_source(text, words, form)
-        }
-    }
-
-    /// The page of what searches find of the conditions of an outline, as by `prove`, with the runs
-    /// from the starts that the words give where runs are asked for. A template is no outline, and
-    /// is refused as a source.
-    ///
-    /// # Errors
-    ///
-    /// As `prove`.
-    pub fn show<'a>(&self, text: &[u8], words: &[&'a str]) -> Result<Reply<'a>, Refusal>
-        ensures reply { IfOk result (IsOfSource ReportForm.Page (is_some self.now.search.runs)
-            text.now (bytes_of words.now)) }
-        ensures warrants { IfOk result
-            (WarrantsBy false ReportForm.Page (is_some self.now.search.runs) text.now) }
-        ensures refused { IfErr result (OnInput (IsFaultOfConditions text.now)) }
-        ensures spawn { IfErr result (λ e. e ≡ refusals.Spawn → 1 < self.now.search.workers) }
-    {
-        self.of_source(text, words, ReportForm::Page)
     }
 }

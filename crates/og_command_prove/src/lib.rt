@@ -1,8 +1,7 @@
 //! The commands `prove` and `show`: a question gives findings, and these are printed in a form.
 //!
-//! A `Prover` is asked by a text and words (asking.rt). That is one outline in its texts
-//! (subject.rt), whose conditions are searched, and followed by runs where some are asked for
-//! (searching.rt, diagnoser.rt). There is one row for each condition (finding.rt), and the rows are
+//! A `Prover` is asked of an outline in its texts (asking.rt). Its conditions are searched, and
+//! followed by runs where some are asked for (searching.rt, diagnoser.rt). There is one row for each condition (finding.rt), and the rows are
 //! printed (printing.rt, answering.rt). specs/Reply.antt says what is promised of a reply.
 #![tactic(auto)]
 
@@ -13,11 +12,9 @@ mod finding;
 mod form;
 mod printing;
 mod prover;
-mod reply;
 mod searching;
 mod starting;
 
 pub use finding::Finding;
 pub use form::ReportForm;
 pub use prover::{Prover, Search};
-pub use reply::Reply;

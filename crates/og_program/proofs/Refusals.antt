@@ -9,7 +9,6 @@ use Rattle.og_typed.specs.Refused.{IsSourceFault, IsNotRead}
 use Rattle.og_typed.specs.declared.source_fault.SourceFault.{SourceFault}
 use Rattle.og_typed.specs.declared.source_fault.SourceError.{SourceError}
 use Rattle.og_typed.specs.declared.source_fault.SourceError.TheVariants as sources
-use Rattle.og_template.specs.Front.{is_template}
 use Rattle.og_report_text.specs.InputErrors.{OnFault, IsFaultOfSource, IsFaultOfCount, IsFaultOfConditions}
 use Rattle.og_report_text.specs.declared.fault.InputFault.{InputFault}
 use Rattle.og_report_text.specs.declared.fault.InputFault.TheVariants as faults
@@ -21,7 +20,6 @@ use Rattle.og_judge.specs.declared.refusal.Refusal.{Refusal}
 use Rattle.og_judge.specs.declared.refusal.Refusal.TheVariants as refusals
 use Rattle.og_report_refusal.specs.Advice.{IsKnown}
 use Rattle.og_command_check.specs.Inputs.{source_of}
-use Rattle.og_command_prove.specs.Reply.{IsFaultBy, IsFaultOfText}
 use Rattle.og_program.specs.World.{World, Text, named, bytes_in, OfSource}
 use Rattle.og_program.specs.Beside.{IsRefused, Refuses}
 use Rattle.og_program.specs.Commands.{OfOutline}
@@ -73,13 +71,9 @@ known P source (refusals.Input (faults.Stray n)) first why = tt
 known P source refusals.Spawn first why = tt
 known P source refusals.Memory first why = tt
 
--- of a template none is that of a source
-fault_by : (template : Bool) (source : List ℕ) (fault : SourceFault) → IsFaultBy template source (faults.Source fault) → IsSourceFault source fault
-fault_by true source fault why = absurd why
-fault_by false source fault why = why
-
-pub fault_of_text : (source : List ℕ) (fault : SourceFault) → IsFaultOfText source (faults.Source fault) → IsSourceFault source fault
-fault_of_text source = fault_by (is_template source) source
+-- nor is that of too many conditions that of a source
+pub count_known : (o : Program) (source : List ℕ) (refusal : Refusal) → OnInput (IsFaultOfCount o) refusal → OnInput (IsKnown source) refusal
+count_known o source refusal why = known (IsFaultOfCount o) source refusal (λ fault no. absurd no) why
 
 -- ---- of an outline
 

@@ -3,10 +3,23 @@ use Rattle.std.proofs.Common.{◌≡◌, inl, inr, ℕ, List, [], Bool, true, fa
 use Rattle.std.specs.Prelude.{⊤, IfSome, IfNone, is_some, codes}
 use Rattle.std.specs.Borrow.{Bor}
 use Rattle.og_typed.specs.Syntax.{Program}
+use Rattle.og_typed.specs.Erase.{erased}
+use Rattle.og_theorem.specs.NeverStuck.{IsNeverStuck as IsNeverStuckOf}
+use Rattle.og_theorem.specs.Sound.{IsSound, IsSoundErased}
+use Rattle.og_report_refusal.specs.Values.{IsValueRemark}
+use Rattle.og_report_refusal.specs.declared.values.Gives.TheVariants as gives
+use Rattle.og_report_text.specs.InputErrors.{IsFaultOfCount}
+use Rattle.og_report_text.specs.Subject.{Subject}
+use Rattle.og_report_text.specs.declared.fault.InputFault.TheVariants as faults
+use Rattle.og_template_outline.specs.Meaning.{MeansBy, Means}
+use Rattle.og_template_outline.specs.declared.fault.MeaningError.TheVariants as errors
+use Rattle.og_template_outline.specs.declared.meaning.Takes.{Takes}
+use Rattle.og_command_explore.specs.declared.exploring.Reply.{Reply}
+use Rattle.og_command_explore.specs.declared.exploring.Reply.TheVariants as replies
+use Rattle.og_command_prove.specs.Reply.{WarrantsAnswer, Warrants}
 use Rattle.og_report_text.specs.Yes.{SaysUnblocked}
 use Rattle.og_report_text.specs.declared.answer.Answer.{Answer}
 use Rattle.og_report_text.specs.declared.fault.InputFault.{InputFault}
-use Rattle.og_report_text.specs.InputErrors.{IsFaultOfConditions}
 use Rattle.og_judge.specs.Proven.{IsProvenSource}
 use Rattle.og_judge.specs.NeverStuck.{IsNeverStuckSource}
 use Rattle.og_judge.specs.Report.{IsRefused as IsRefusedCheck}
@@ -20,12 +33,8 @@ use Rattle.og_command_run.specs.declared.reply.Ran.{Ran}
 use Rattle.og_command_run.specs.declared.reply.Reply.{Reply as Running}
 use Rattle.og_command_run.specs.declared.reply.Reply.TheVariants as runnings
 use Rattle.og_command_prove.specs.Printed.{SaysUnblockedIn}
-use Rattle.og_command_prove.specs.Reply.{IsFaultOfText}
-use Rattle.og_command_prove.specs.Warrants.{WarrantsAnswer, WarrantsBy}
 use Rattle.og_command_prove.specs.declared.form.ReportForm.{ReportForm}
 use Rattle.og_command_prove.specs.declared.form.ReportForm.TheVariants as reports
-use Rattle.og_command_prove.specs.declared.reply.Reply.{Reply as Proving}
-use Rattle.og_command_prove.specs.declared.reply.Reply.TheVariants as provings
 use Rattle.og_words.specs.Jobs.{word_bytes}
 use Rattle.og_words.specs.declared.job.Job.{Job}
 use Rattle.og_words.specs.declared.job.Job.TheVariants as jobs
@@ -36,8 +45,9 @@ use Rattle.og_program.specs.World.{World, Text, Stream, Trace, named, bytes_in}
 use Rattle.og_program.specs.Sound.{IsProven, IsProvenFile, IsProvenText}
 use Rattle.og_program.specs.Unblocked.{PrintsUnblocked, IsNeverStuck}
 use Rattle.og_program.specs.Written.{Gets, SaysWhy, Writes}
-use Rattle.og_program.specs.Beside.{Noted, OnReport, OnBadValue, IsRefusal, Refuses}
-use Rattle.og_program.specs.Commands.{report_form, IsExpansionNote, IsStartRemark, IsCheckReport, IsCheckOutcome, IsRunReport, IsWordRemark, FollowsProving, FollowsRunning, Proves, Shows, RunsBy, IsOutcome}
+use Rattle.og_program.specs.Beside.{OnReport, OnBadValue, IsRefusal, Refuses}
+use Rattle.og_program.specs.Given.{IsTemplateRefusal, HasNoMeaning, OfMeaning}
+use Rattle.og_program.specs.Commands.{report_form, takes_for, IsCheckReport, IsCheckOutcome, IsRunReport, IsWordRemark, FollowsReply, FollowsRunning, ProvesOutline, Proves, Shows, RunsBy, IsOutcome}
 use Rattle.og_program.specs.Served.{EndsJob}
 use Rattle.og_program.specs.declared.ended.Ended.{Ended}
 use Rattle.og_program.specs.declared.outcome.Outcome.{Outcome}
@@ -108,21 +118,42 @@ refused F source certs out o h done =
 -- ---- of a command that proves
 
 -- what an answer to `prove` or `show` warrants
-warranted : (b : Bool) (form : ReportForm) (runs : Bool) (text : List ℕ) (answer : Answer) (out : Stream) → WarrantsAnswer b form runs text answer → IsAnswer out answer
-    → HoldsBy b IsProvenSource text × (Wrote (SaysUnblockedIn runs form) out.before out.after → HoldsBy b IsNeverStuckSource text)
-warranted b form runs text answer out w is =
+warranted : (form : ReportForm) (runs : Bool) (p : Program) (answer : Answer) (out : Stream) → WarrantsAnswer form runs p answer → IsAnswer out answer
+    → (IsSound p × IsSoundErased p) × (Wrote (SaysUnblockedIn runs form) out.before out.after → IsNeverStuckOf p × IsNeverStuckOf (erased p))
+warranted form runs p answer out w is =
     (w.0 is.0, λ wrote. w.1 is.0 (written_text (SaysUnblockedIn runs form) out.before out.after answer.text.items is.1 wrote))
 
-proved : (b : Bool) (form : ReportForm) (runs : Bool) (source : Text) (reply : Proving) (out : Stream) (o : Outcome) → WarrantsBy b form runs source.bytes reply
-    → FollowsProving source reply o → IsDone out o
-    → HoldsBy b IsProvenSource source.bytes × (Wrote (SaysUnblockedIn runs form) out.before out.after → HoldsBy b IsNeverStuckSource source.bytes)
-proved b form runs source (provings.Answer a) out o w follows done =
-    warranted b form runs source.bytes a out w (answered (λ r. r.note ≡ Ok None) a out o follows done)
-proved b form runs source (provings.Refused a fault) out o w follows done =
-    warranted b form runs source.bytes a out w (answered (Noted (IsExpansionNote source fault)) a out o follows done)
-proved b form runs source (provings.BadConstant word) out o w follows done = absurd (no_word (λ _ _. ⊥) word out o follows done)
-proved b form runs source (provings.BadStart word own) out o w follows done =
-    absurd (no_word (IsStartRemark own.items) word out o follows done)
+-- of the outline that a text means
+proven_text : (b : Bool) (text : List ℕ) (s : Subject) → MeansBy b text s → IsSound s.outline × IsSoundErased s.outline → HoldsBy b IsProvenSource text
+proven_text true text s means h = (s.own, means.0, (s.outline, means.1, h.0, h.1))
+proven_text false text s means h = (s.outline, means.0, h.0, h.1)
+
+never_stuck_text : (b : Bool) (text : List ℕ) (s : Subject) → MeansBy b text s → IsNeverStuckOf s.outline × IsNeverStuckOf (erased s.outline) → HoldsBy b IsNeverStuckSource text
+never_stuck_text true text s means h = (s.own, means.0, (s.outline, means.1, h.0, h.1))
+never_stuck_text false text s means h = (s.outline, means.0, h.0, h.1)
+
+proved : (form : ReportForm) (runs : Bool) (text : List ℕ) (s : Subject) (reply : Reply) (out : Stream) (o : Outcome) → Means text s → Warrants form runs s.outline reply
+    → FollowsReply s.outline reply o → IsDone out o
+    → HoldsOf IsProvenSource text × (Wrote (SaysUnblockedIn runs form) out.before out.after → HoldsOf IsNeverStuckSource text)
+proved form runs text s (replies.Answer a) out o means w follows done =
+    let v = warranted form runs s.outline a out w (answered (λ r. r.note ≡ Ok None) a out o follows done) in
+    (proven_text (is_template text) text s means v.0, λ wrote. never_stuck_text (is_template text) text s means (v.1 wrote))
+proved form runs text s (replies.BadValue word) out o means w follows done = absurd (no_word (IsValueRemark gives.Ranges s.outline) word out o follows done)
+
+-- a text that means no outline is refused
+meaningless : (takes : Takes) (text : Text) (words : List (List ℕ)) (out : Stream) (o : Outcome) → HasNoMeaning takes text words o → IsDone out o → ⊥
+meaningless takes text words out o (errors.Memory, why, follows) done = follows
+meaningless takes text words out o (errors.Source fault, why, follows) done =
+    let r = on_report (IsRefusal text [] (faults.Source fault)) out o follows done in
+    let two = r.1.line.1 in
+    let zero = r.2 in
+    omega (arith, two, zero)
+meaningless takes text words out o (errors.Template fault, why, follows) done =
+    let r = on_report (IsTemplateRefusal text fault) out o follows done in
+    let two = r.1.line.1 in
+    let zero = r.2 in
+    omega (arith, two, zero)
+meaningless takes text words out o (errors.BadValue word, why, follows) done = no_word (λ _ _. ⊥) word out o follows done
 
 -- a text or JSON without runs says it as a check does
 says_in : (json : Bool) (before after : Option (List ℕ)) → Wrote (SaysUnblocked json) before after → Wrote (SaysUnblockedIn false (report_form json)) before after
@@ -152,24 +183,27 @@ ran_proved limit source certs p words (runnings.NotMade line) out o is follows d
 
 -- ---- of a job
 
+of_proves : (takes : Takes) (world : World) (name : List ℕ) (words : List (List ℕ)) (form : ReportForm) (runs : Bool) (out : Stream) (o : Outcome)
+    → OfMeaning takes world name words (ProvesOutline form runs) o → IsDone out o
+    → IsProvenText world name × (Wrote (SaysUnblockedIn runs form) out.before out.after → Reads source_of (bytes_in world name) (HoldsOf IsNeverStuckSource))
+of_proves takes world name words form runs out o (text, is, inl (s, starts, means, given, inl (reply, found, warrants, follows))) done =
+    let w = proved form runs text s reply out o means warrants follows done in ((text, is, w.0), λ wrote. (text, is, w.1 wrote))
+of_proves takes world name words form runs out o (text, is, inl (s, starts, means, given, inr refusal)) done =
+    absurd (refused (IsFaultOfCount s.outline) (named name text) [] out o refusal done)
+of_proves takes world name words form runs out o (text, is, inr none) done = absurd (meaningless takes (named name text) words out o none done)
+
 of_prove : (world : World) (out : Stream) (prove : Prove) (o : Outcome) → Proves world prove o → IsDone out o
     → IsProvenText world prove.source.now
     × IfNone prove.runs (PrintsUnblocked prove.json out → Reads source_of (bytes_in world prove.source.now) (HoldsOf IsNeverStuckSource))
-of_prove world out prove o (source, text, inl (reply, is, warrants, follows)) done =
-    let w = proved (is_template source) (report_form prove.json) (is_some prove.runs) (named prove.source.now source) reply out o warrants follows done in (
-      (source, text, w.0),
-      unblocked_by prove.runs prove.json out (Reads source_of (bytes_in world prove.source.now) (HoldsOf IsNeverStuckSource))
-          (λ wrote. (source, text, w.1 wrote)),
-    )
-of_prove world out prove o (source, text, inr refusal) done =
-    absurd (refused (IsFaultOfText source) (named prove.source.now source) [] out o refusal done)
+of_prove world out prove o h done =
+    let runs = is_some prove.runs in
+    let w = of_proves (takes_for runs) world prove.source.now (word_bytes prove.words.items) (report_form prove.json) runs out o h done in
+    (w.0, unblocked_by prove.runs prove.json out (Reads source_of (bytes_in world prove.source.now) (HoldsOf IsNeverStuckSource)) w.1)
 
-of_show : (world : World) (out : Stream) (show : Show) (o : Outcome) → Shows world show o → IsDone out o → IsProvenFile world show.source.now
-of_show world out show o (source, text, inl (reply, is, warrants, follows)) done =
-    let w = proved false reports.Page (is_some show.runs) (named show.source.now source) reply out o warrants follows done in
-    (source, text, w.0)
-of_show world out show o (source, text, inr refusal) done =
-    absurd (refused (IsFaultOfConditions source) (named show.source.now source) [] out o refusal done)
+of_show : (world : World) (out : Stream) (show : Show) (o : Outcome) → Shows world show o → IsDone out o → IsProvenText world show.source.now
+of_show world out show o h done =
+    let runs = is_some show.runs in
+    (of_proves (takes_for runs) world show.source.now (word_bytes show.words.items) reports.Page runs out o h done).0
 
 of_run : (certs schedule : Option (Bor (List ℕ))) (world : World) (out : Stream) (run : Run) (o : Outcome) → RunsBy certs schedule world run o → IsDone out o
     → IfSome certs (λ _. IsProvenFile world run.source.now)

@@ -3,13 +3,9 @@ use Rattle.std.proofs.Common.{◌≡◌, inl, inr, ℕ, List, Option, Some, None
 use Rattle.std.specs.Prelude.{IfSome}
 use Rattle.std.specs.Global.{Global}
 use Rattle.og_typed.specs.Syntax.{Program}
-use Rattle.og_typed.specs.Source.{IsSource}
 use Rattle.og_report_refusal.specs.Values.{schedule_text, reason_line, IsValueRemark}
 use Rattle.og_report_refusal.specs.declared.values.Gives.TheVariants as gives
-use Rattle.og_program.specs.Beside.{OnBadValue}
-use Rattle.og_program.specs.Commands.{IsStartRemark, IsWordRemark}
-use Rattle.og_program.specs.declared.outcome.Outcome.{Outcome}
-use Rattle.og_program.specs.declared.outcome.Outcome.TheVariants as outcomes
+use Rattle.og_program.specs.Commands.{IsWordRemark}
 use denote.Ref.{Bor}
 
 -- it gives no value
@@ -25,17 +21,3 @@ pub of_schedule : (o : Program) (word : List ℕ) (schedule : Bor (List ℕ)) (w
     → IfSome why (λ line. IsWordRemark o (Some schedule) word line.items)
 of_schedule o word schedule None same h = tt
 of_schedule o word schedule (Some line) same h = inr (same, h)
-
--- it gives no start of the outline of a source
-no_start : (own : List ℕ) (o : Program) (word : List ℕ) (why : Option (Vec ℕ Global)) → IsSource own o → IfSome why (λ line. IsValueRemark gives.Ranges o word line.items)
-    → IfSome why (λ line. IsStartRemark own word line.items)
-no_start own o word None is h = tt
-no_start own o word (Some line) is h = (o, is, h)
-
-pub of_start : (own : List ℕ) (o : Program) (word : Bor (List ℕ)) (outcome : Outcome) → IsSource own o → OnBadValue (IsValueRemark gives.Ranges o) word outcome
-    → OnBadValue (IsStartRemark own) word outcome
-of_start own o word (outcomes.Report report) is h = absurd h
-of_start own o word (outcomes.Certificates certs) is h = absurd h
-of_start own o word (outcomes.Listing text) is h = absurd h
-of_start own o word (outcomes.BadValue bad) is h = (h.0, no_start own o word.now bad.why is h.1)
-of_start own o word (outcomes.NotMade line) is h = absurd h

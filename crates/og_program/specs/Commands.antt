@@ -9,7 +9,6 @@ use Rattle.og_typed.specs.Source.{IsSource}
 use Rattle.og_find.specs.declared.counting.Missing.{Missing}
 use Rattle.og_report_text.specs.Answers.{Says}
 use Rattle.og_report_text.specs.declared.answer.Answer.{Answer}
-use Rattle.og_report_refusal.specs.Expansion.{IsExpansionRemark}
 use Rattle.og_report_refusal.specs.Missing.{missing_text, long_text}
 use Rattle.og_report_refusal.specs.Starting as starting
 use Rattle.og_report_refusal.specs.Values.{schedule_text, reason_line, IsValueRemark}
@@ -19,33 +18,30 @@ use Rattle.og_report_conditions.specs.declared.choosing.Reply.{Reply as Listing}
 use Rattle.og_report_conditions.specs.declared.choosing.Reply.TheVariants as listings
 use Rattle.og_report_conditions.specs.declared.form.Form.{Form}
 use Rattle.og_report_conditions.specs.declared.form.Form.TheVariants as forms
-use Rattle.og_template_outline.specs.Expanded as expanding
-use Rattle.og_template_outline.specs.declared.fault.ExpandFault.{ExpandFault}
-use Rattle.og_template_outline.specs.declared.expanding.Reply.{Reply as Expanding}
-use Rattle.og_template_outline.specs.declared.expanding.Reply.TheVariants as expandings
 use Rattle.og_command_check.specs.Answers.{IsReported}
 use Rattle.og_command_check.specs.Commands.{IsErased}
 use Rattle.og_command_check.specs.Inputs.{joined_of, Reads}
 use Rattle.og_command_check.specs.Making.{IsFound, IsMigrated, IsFaultOfCerts}
 use Rattle.og_command_check.specs.declared.answer.CheckReply.{CheckReply}
 use Rattle.og_judge.specs.Report.{IsRefused as IsRefusedCheck}
-use Rattle.og_report_text.specs.InputErrors.{IsFaultOfSource, IsFaultOfConditions}
+use Rattle.og_report_text.specs.InputErrors.{IsFaultOfSource, IsFaultOfCount, IsFaultOfConditions}
 use Rattle.og_report_text.specs.declared.fault.InputFault.{InputFault}
 use Rattle.og_command_check.specs.Warrants.{Warrants}
 use Rattle.og_command_check.specs.declared.making.FindReply.{FindReply}
 use Rattle.og_command_check.specs.declared.making.FindReply.TheVariants as finds
 use Rattle.og_command_check.specs.declared.making.LongText.{LongText}
+use Rattle.og_template.specs.Front.{is_template}
+use Rattle.og_template_outline.specs.Expanded.{IsExpanded}
+use Rattle.og_template_outline.specs.declared.meaning.Takes.{Takes}
+use Rattle.og_template_outline.specs.declared.meaning.Takes.TheVariants as takes
+use Rattle.og_report_text.specs.Subject.{Subject}
 use Rattle.og_command_explore.specs.Explored as exploring
-use Rattle.og_command_explore.specs.declared.exploring.Reply.{Reply as Exploring}
-use Rattle.og_command_explore.specs.declared.exploring.Reply.TheVariants as explorings
+use Rattle.og_command_explore.specs.declared.exploring.Reply.{Reply}
+use Rattle.og_command_explore.specs.declared.exploring.Reply.TheVariants as replies
 use Rattle.og_command_notes.specs.Noted.{IsNotes}
-use Rattle.og_report_text.specs.Subject.{in_own_text}
 use Rattle.og_command_prove.specs.Reply as proving
-use Rattle.og_command_prove.specs.Warrants as warrants
 use Rattle.og_command_prove.specs.declared.form.ReportForm.{ReportForm}
 use Rattle.og_command_prove.specs.declared.form.ReportForm.TheVariants as reports
-use Rattle.og_command_prove.specs.declared.reply.Reply.{Reply as Proving}
-use Rattle.og_command_prove.specs.declared.reply.Reply.TheVariants as provings
 use Rattle.og_command_run.specs.Running.{IsRan, IsRanProved}
 use Rattle.og_command_run.specs.Scheduled.{IsScheduled}
 use Rattle.og_command_run.specs.declared.reply.Ran.{Ran}
@@ -66,6 +62,7 @@ use Rattle.og_words.specs.declared.job.Show.{Show}
 use Rattle.og_words.specs.declared.job.Job.{Job}
 use Rattle.og_words.specs.declared.job.Job.TheVariants as jobs
 use Rattle.og_program.specs.World.{World, Text, named, OfSource, OfCerts, OfBoth}
+use Rattle.og_program.specs.Given.{HasNoMeaning, OfMeaning}
 use Rattle.og_program.specs.Beside.{IsNote, Noted, Remarks, OnReport, OnCertificates, OnBadValue, Answers, Refuses}
 use Rattle.og_program.specs.declared.outcome.Outcome.{Outcome}
 use Rattle.og_program.specs.declared.outcome.Outcome.TheVariants as outcomes
@@ -122,29 +119,17 @@ ChecksInput world outcome =
 
 -- ---- expand
 
--- why nothing is printed of a template
-abbrev pub IsExpansionNote : Text → ExpandFault → Option (List ℕ) → Type 0
-IsExpansionNote template fault None = ⊥
-IsExpansionNote template fault (Some text) =
-    IsExpansionRemark template.name template.bytes fault text
-
--- of a bad word no line says why
-abbrev pub FollowsExpanding : Text → Expanding → Outcome → Type 0
-FollowsExpanding template (expandings.Answer answer) = Answers answer
-FollowsExpanding template (expandings.Refused answer fault) =
-    Remarks (IsExpansionNote template fault) answer
-FollowsExpanding template (expandings.BadValue word) = OnBadValue (λ _ _. ⊥) word
-
+-- what is printed of the outline that a text means; an outline has no constant for a word to name
 abbrev pub ExpandsText : Expand → Text → Outcome → Type 0
-ExpandsText expand template outcome =
-    ((reply : Expanding)
-    × expanding.IsReply expand.as_map template.bytes (word_bytes expand.values.items) reply
-    × FollowsExpanding template reply outcome)
-    ⊎ Refuses (IsFaultOfSource template.bytes) template [] outcome
+ExpandsText expand text outcome =
+    let words = word_bytes expand.values.items in
+    ((answer : Answer) × IsExpanded expand.as_map text.bytes answer
+    × (is_template text.bytes ≡ false → words ≡ []) × Answers answer outcome)
+    ⊎ HasNoMeaning takes.Constants text words outcome
 
 abbrev pub Expands : World → Expand → Outcome → Type 0
 Expands world expand outcome =
-    OfSource world expand.template.now (λ template. ExpandsText expand template outcome)
+    OfSource world expand.template.now (λ text. ExpandsText expand text outcome)
 
 -- ---- prove and show
 
@@ -153,68 +138,53 @@ abbrev pub report_form : Bool → ReportForm
 report_form true = reports.Json
 report_form false = reports.Text
 
--- why a word gives no variable of the outline in a text a range
-abbrev pub IsStartRemark : List ℕ → List ℕ → List ℕ → Type 0
-IsStartRemark own word line = (o : Program) × IsSource own o × IsValueRemark gives.Ranges o word line
+-- what the words may give: starts too where runs are asked for
+abbrev pub takes_for : Bool → Takes
+takes_for true = takes.Starts
+takes_for false = takes.Constants
 
--- of a word that gives no start a line says why by the outline, of one that gives no constant a value
--- no line does
-abbrev pub FollowsProving : Text → Proving → Outcome → Type 0
-FollowsProving source (provings.Answer answer) = Answers answer
-FollowsProving source (provings.Refused answer fault) = Remarks (IsExpansionNote source fault) answer
-FollowsProving source (provings.BadConstant word) = OnBadValue (λ _ _. ⊥) word
-FollowsProving source (provings.BadStart word outline) =
-    OnBadValue (IsStartRemark outline.items) word
+-- of a word that gives no start a line says why by the outline
+abbrev pub FollowsReply : Program → Reply → Outcome → Type 0
+FollowsReply o (replies.Answer answer) = Answers answer
+FollowsReply o (replies.BadValue word) = OnBadValue (IsValueRemark gives.Ranges o) word
 
--- what searches find of each condition of a source or a template, with the runs to false ones where they
--- are asked for, and what that says of its runs
-abbrev pub ProvesText : Prove → Text → Outcome → Type 0
-ProvesText prove source outcome =
-    let form = report_form prove.json in
-    let runs = is_some prove.runs in
-    ((reply : Proving) × proving.IsReply form runs source.bytes (word_bytes prove.words.items) reply
-    × warrants.Warrants form runs source.bytes reply × FollowsProving source reply outcome)
-    ⊎ Refuses (proving.IsFaultOfText source.bytes) source [] outcome
+-- what searches find of each condition of an outline, with the runs to false ones where they are asked
+-- for, and what that says of its runs; or that there are too many conditions
+abbrev pub ProvesOutline : ReportForm → Bool → Text → Subject → List (List ℕ) → Outcome → Type 0
+ProvesOutline form runs text s starts outcome =
+    ((reply : Reply) × proving.IsReply form runs s starts reply
+    × proving.Warrants form runs s.outline reply × FollowsReply s.outline reply outcome)
+    ⊎ Refuses (IsFaultOfCount s.outline) text [] outcome
 
 abbrev pub Proves : World → Prove → Outcome → Type 0
 Proves world prove outcome =
-    OfSource world prove.source.now (λ source. ProvesText prove source outcome)
+    let runs = is_some prove.runs in
+    OfMeaning (takes_for runs) world prove.source.now (word_bytes prove.words.items)
+    (ProvesOutline (report_form prove.json) runs) outcome
 
--- the same of a source, as a page
-abbrev pub ShowsText : Show → Text → Outcome → Type 0
-ShowsText show source outcome =
-    let runs = is_some show.runs in
-    ((reply : Proving)
-    × proving.IsOfSource reports.Page runs source.bytes (word_bytes show.words.items) reply
-    × warrants.WarrantsBy false reports.Page runs source.bytes reply
-    × FollowsProving source reply outcome)
-    ⊎ Refuses (IsFaultOfConditions source.bytes) source [] outcome
-
+-- the same as a page
 abbrev pub Shows : World → Show → Outcome → Type 0
-Shows world show outcome = OfSource world show.source.now (λ source. ShowsText show source outcome)
+Shows world show outcome =
+    let runs = is_some show.runs in
+    OfMeaning (takes_for runs) world show.source.now (word_bytes show.words.items)
+    (ProvesOutline reports.Page runs) outcome
 
--- ---- explore
-
-abbrev pub FollowsExploring : Program → Exploring → Outcome → Type 0
-FollowsExploring o (explorings.Answer answer) = Answers answer
-FollowsExploring o (explorings.BadValue word) = OnBadValue (IsValueRemark gives.Ranges o) word
-
-abbrev pub ExploresOutline : Explore → Text → Program → Outcome → Type 0
-ExploresOutline explore source o outcome =
-    let words = word_bytes explore.ranges.items in
-    (reply : Exploring) × exploring.IsReply explore.json (in_own_text o source.bytes) explore.erased words reply
-    × FollowsExploring o reply outcome
+-- ---- explore and notes
 
 abbrev pub Explores : World → Explore → Outcome → Type 0
 Explores world explore outcome =
-    OfOutline world explore.source.now (ExploresOutline explore) outcome
-
--- ---- notes, erase and migrate
+    OfMeaning takes.Starts world explore.source.now (word_bytes explore.words.items)
+    (λ text s starts outcome. (reply : Reply)
+    × exploring.IsReply explore.json s explore.erased starts reply
+    × FollowsReply s.outline reply outcome) outcome
 
 abbrev pub NotesOn : World → Notes → Outcome → Type 0
 NotesOn world notes outcome =
-    OfOutline world notes.source.now
-    (λ s o outcome. (answer : Answer) × IsNotes (in_own_text o s.bytes) answer × Answers answer outcome) outcome
+    OfMeaning takes.Constants world notes.source.now (word_bytes notes.words.items)
+    (λ text s starts outcome. (answer : Answer) × IsNotes s answer × Answers answer outcome)
+    outcome
+
+-- ---- erase and migrate
 
 abbrev pub Erases : World → Erase → Outcome → Type 0
 Erases world erase outcome =

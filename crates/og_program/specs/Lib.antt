@@ -6,5 +6,6 @@ pub mod Threads
 pub mod Failing
 pub mod Written
 pub mod Beside
+pub mod Given
 pub mod Commands
 pub mod Served

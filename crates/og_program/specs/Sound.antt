@@ -21,6 +21,6 @@ abbrev pub IsProven : World → Job → Type 0
 IsProven world jobs.Joined = Reads joined_of world.input HasProvenSource
 IsProven world (jobs.Prove prove) = IsProvenText world prove.source.now
 IsProven world (jobs.Check check) = IsProvenFile world check.source.now
-IsProven world (jobs.Show show) = IsProvenFile world show.source.now
+IsProven world (jobs.Show show) = IsProvenText world show.source.now
 IsProven world (jobs.Run run) = IfSome run.certs (λ _. IsProvenFile world run.source.now)
 IsProven world _ = ⊤

@@ -6,21 +6,19 @@ ghost use Rattle.og_report_refusal.specs.declared.values.Gives.TheVariants as gi
 ghost use Rattle.og_report_text.specs.Answers.{Says};
 ghost use Rattle.og_words.specs.Jobs.{word_bytes};
 ghost use Rattle.og_program.specs.World.{named};
-ghost use Rattle.og_program.specs.Beside.{IsNote, Noted, OnBadValue};
-ghost use Rattle.og_program.specs.Commands.{IsExpansionNote, NotesCheck, NotesCount, IsLongNote, IsRunReport, IsWordRemark, IsStartRemark, FollowsFinding, FollowsRunning, FollowsExploring, FollowsExpanding, FollowsListing, FollowsProving};
+ghost use Rattle.og_program.specs.Beside.{IsNote};
+ghost use Rattle.og_program.specs.Commands.{NotesCheck, NotesCount, IsLongNote, IsRunReport, IsWordRemark, FollowsFinding, FollowsRunning, FollowsReply, FollowsListing};
 
 use crate::outcome::{BadValue, Certificates, Outcome, Report};
 use og_command_check::{CheckReply, FindReply, FoundCertificates, LongText};
-use og_command_explore::Reply as Explored;
-use og_command_prove::Reply as Proved;
+use og_command_explore::Reply as Started;
 use og_command_run::{Ran, Reply};
 use og_find::Missing;
 use og_report_conditions::Reply as Listed;
 use og_report_refusal::{
-    Gives, expansion_remark, long_line, missing_line, schedule_remark, start_remark, value_remark,
+    Gives, long_line, missing_line, schedule_remark, start_remark, value_remark,
 };
 use og_report_text::Answer;
-use og_template_outline::{ExpandFault, Reply as Expanded};
 use og_typed::{Outline, Source};
 use std::alloc::{AllocError, Global};
 
@@ -200,100 +198,14 @@ pub(crate) fn beside_run<'a>(
     }
 }
 
-// A word that gives no variable a range.
-fn bad_range<'a>(alloc: Global, outline: &Outline, word: &'a str) -> Outcome<'a>
-    ensures { OnBadValue (IsValueRemark gives.Ranges outline.now) word.entry result }
-{
-    Outcome::BadValue(bad_value(alloc, Gives::Ranges, outline, word))
-}
-
-/// The outcome of an exploration of a source.
-pub(crate) fn beside_exploration<'a>(
-    alloc: Global,
-    outline: &Outline,
-    reply: Explored<'a>,
-) -> Outcome<'a>
-    ensures { FollowsExploring outline.now reply.entry result }
+/// The outcome of a reply for an outline and words that give starts.
+pub(crate) fn beside_reply<'a>(alloc: Global, outline: &Outline, reply: Started<'a>) -> Outcome<'a>
+    ensures { FollowsReply outline.now reply.entry result }
 {
     match reply {
-        Explored::Answer(answer) => Outcome::Report(alone(answer)),
-        Explored::BadValue(word) => bad_range(alloc, outline, word),
-    }
-}
-
-// The line of a fault of a template, and why it is one.
-fn beside_fault(
-    alloc: Global,
-    name: &str,
-    template: &[u8],
-    answer: Answer,
-    fault: &ExpandFault,
-) -> Report
-    ensures answer { result.answer ≡ answer }
-    ensures note { Noted (IsExpansionNote (named name.now template.now) fault.now) result }
-{
-    match expansion_remark(alloc, name, template, fault) {
-        Ok(text) => Report {
-            answer,
-            note: Ok(Some(text)),
-        },
-        Err(refused) => Report {
-            answer,
-            note: Err(refused),
-        },
-    }
-}
-
-// A word that gives no constant a value, and no line why.
-fn bad_constant(word: &str) -> Outcome<'_>
-    ensures { OnBadValue (λ _ _. ⊥) word.entry result }
-{
-    Outcome::BadValue(BadValue { word, why: None })
-}
-
-// A word that gives no variable of the outline in a text a range.
-fn bad_start<'a>(alloc: Global, own: &[u8], word: &'a str) -> Outcome<'a>
-    ensures { OnBadValue (IsStartRemark own.now) word.entry result }
-{
-    match Source::read(alloc, own) {
-        Ok(source) => bad_range(alloc, source.outline(), word),
-        Err(_) => Outcome::BadValue(BadValue { word, why: None }),
-    }
-}
-
-/// The outcome of a proof of a source or of a template.
-pub(crate) fn beside_proof<'a>(
-    alloc: Global,
-    name: &str,
-    source: &[u8],
-    reply: Proved<'a>,
-) -> Outcome<'a>
-    ensures { FollowsProving (named name.now source.now) reply.entry result }
-{
-    match reply {
-        Proved::Answer(answer) => Outcome::Report(alone(answer)),
-        Proved::Refused(answer, fault) => {
-            Outcome::Report(beside_fault(alloc, name, source, answer, &fault))
+        Started::Answer(answer) => Outcome::Report(alone(answer)),
+        Started::BadValue(word) => {
+            Outcome::BadValue(bad_value(alloc, Gives::Ranges, outline, word))
         }
-        Proved::BadConstant(word) => bad_constant(word),
-        Proved::BadStart(word, own) => bad_start(alloc, &own, word),
-    }
-}
-
-/// The outcome of an expansion of a template.
-pub(crate) fn beside_expansion<'a>(
-    alloc: Global,
-    name: &str,
-    template: &[u8],
-    reply: Expanded<'a>,
-) -> Outcome<'a>
-    ensures { FollowsExpanding (named name.now template.now) reply.entry result }
-{
-    match reply {
-        Expanded::Answer(answer) => Outcome::Report(alone(answer)),
-        Expanded::Refused(answer, fault) => {
-            Outcome::Report(beside_fault(alloc, name, template, answer, &fault))
-        }
-        Expanded::BadValue(word) => bad_constant(word),
     }
 }

@@ -9,9 +9,10 @@ ghost use Rattle.og_program.specs.Opened.{One, LeavesInput, lacks};
 ghost use Rattle.og_program.specs.Failing.{IsFault, IsUnread};
 ghost use Rattle.og_program.specs.Commands.{form_of, IsListing, NotesOn, Lists, Erases, Explores, Expands, Migrates};
 
-use crate::beside::{alone, beside_expansion, beside_exploration, beside_listing};
+use crate::beside::{alone, beside_listing, beside_reply};
 use crate::fault::Fault;
 use crate::files::Files;
+use crate::given::Given;
 use crate::outcome::Outcome;
 use crate::program::Program;
 use crate::refusing::{refuse, refuse_source, refuse_unread};
@@ -20,8 +21,8 @@ use og_command_explore::{Request, explored};
 use og_command_notes::noted;
 use og_report_conditions::{Form, Reply as Listed, listed};
 use og_report_refusal::Names;
-use og_report_text::{InputError, Subject};
-use og_template_outline::expanded;
+use og_report_text::InputError;
+use og_template_outline::{Takes, expanded};
 use og_typed::Source;
 use og_words::{Conditions, Erase, Expand, Explore, Migrate, Notes};
 use std::alloc::Global;
@@ -56,7 +57,7 @@ fn list<'a>(
 }
 
 impl<'r, F: Files, G, H> Program<'r, F, G, H> {
-    /// What a yes of an outline claims, for a reviewer.
+    /// What a yes of an outline, or of a template's, claims, for a reviewer.
     pub(crate) fn notes<'a, I: Read>(
         &self,
         notes: &Notes<'a>,
@@ -70,13 +71,12 @@ impl<'r, F: Files, G, H> Program<'r, F, G, H> {
         ensures kept { LeavesInput (One notes.now.source.now)
             → I.remaining input.new ≡ I.remaining input.old }
     {
-        let bytes = self.source_bytes(notes.source, input)?;
-        match Source::read(self.alloc, &bytes) {
-            Ok(source) => {
-                let answer = noted(self.alloc, &Subject::of_source(&source), notes.budget)?;
+        match self.given(notes.source, &notes.words, Takes::Constants, input)? {
+            Ok(given) => {
+                let answer = noted(self.alloc, &given.subject(), notes.budget)?;
                 Ok(Outcome::Report(alone(answer)))
             }
-            Err(error) => refuse_unread(self.alloc, notes.source, &bytes, error),
+            Err(outcome) => Ok(outcome),
         }
     }
 
@@ -125,7 +125,8 @@ impl<'r, F: Files, G, H> Program<'r, F, G, H> {
         }
     }
 
-    /// What exploring the program of a source finds, from the starts that the words give.
+    /// What exploring the program of an outline, or of a template's, finds, from the starts that the
+    /// words give.
     pub(crate) fn explore<'a, I: Read>(
         &self,
         explore: &Explore<'a>,
@@ -139,19 +140,18 @@ impl<'r, F: Files, G, H> Program<'r, F, G, H> {
         ensures kept { LeavesInput (One explore.now.source.now)
             → I.remaining input.new ≡ I.remaining input.old }
     {
-        let bytes = self.source_bytes(explore.source, input)?;
         let request = Request {
             limit: explore.limit.moments(),
             erased: explore.erased,
             json: explore.json,
         };
-        match Source::read(self.alloc, &bytes) {
-            Ok(source) => {
-                let subject = Subject::of_source(&source);
-                let reply = explored(self.alloc, &subject, &explore.ranges, request)?;
-                Ok(beside_exploration(self.alloc, source.outline(), reply))
+        match self.given(explore.source, &explore.words, Takes::Starts, input)? {
+            Ok(given) => {
+                let subject = given.subject();
+                let reply = explored(self.alloc, &subject, &given.reading.starts, request)?;
+                Ok(beside_reply(self.alloc, subject.outline, reply))
             }
-            Err(error) => refuse_unread(self.alloc, explore.source, &bytes, error),
+            Err(outcome) => Ok(outcome),
         }
     }
 
@@ -169,10 +169,13 @@ impl<'r, F: Files, G, H> Program<'r, F, G, H> {
         ensures kept { LeavesInput (One expand.now.template.now)
             → I.remaining input.new ≡ I.remaining input.old }
     {
-        let template = self.source_bytes(expand.template, input)?;
-        match expanded(self.alloc, &template, &expand.values, expand.as_map) {
-            Ok(reply) => Ok(beside_expansion(self.alloc, expand.template, &template, reply)),
-            Err(error) => refuse_source(self.alloc, expand.template, &template, error.into()),
+        match self.given(expand.template, &expand.values, Takes::Constants, input)? {
+            Ok(given) => {
+                let Given { text, reading } = given;
+                let answer = expanded(self.alloc, &text, reading.meaning, expand.as_map)?;
+                Ok(Outcome::Report(alone(answer)))
+            }
+            Err(outcome) => Ok(outcome),
         }
     }
 

@@ -7,6 +7,7 @@ mod commands;
 mod ended;
 mod fault;
 mod files;
+mod given;
 mod outcome;
 mod program;
 mod reading;

@@ -1,20 +1,25 @@
 //! Refusals of input: the line that is printed, and the message on standard error beside it.
 
-ghost use Rattle.std.specs.Prelude.{◌≡◌, [], IfOk, IfErr};
+ghost use Rattle.std.specs.Prelude.{◌≡◌, ◌≤◌, ◌^◌, ℕ, List, [], length, IfOk, IfErr, IsSome};
 ghost use Rattle.og_typed.specs.Refused.{IsNotRead};
 ghost use Rattle.og_report_text.specs.InputErrors.{IsFaultOfSource};
 ghost use Rattle.og_judge.specs.NotJudged.{OnInput};
 ghost use Rattle.og_judge.specs.declared.refusal.Refusal.TheVariants as refusals;
 ghost use Rattle.og_report_refusal.specs.Advice.{IsKnown};
+ghost use Rattle.og_template_outline.specs.Faults.{place_of_fault};
+ghost use Rattle.og_template_outline.specs.Meaning.{IsNotMeant};
+ghost use Rattle.og_template_outline.specs.declared.meaning.Takes.{Takes};
 ghost use Rattle.og_program.specs.World.{named};
 ghost use Rattle.og_program.specs.Failing.{IsWant};
 ghost use Rattle.og_program.specs.Beside.{IsRefusal, IsRefused, Refuses};
+ghost use Rattle.og_program.specs.Given.{IsTemplateRefusal, FollowsError};
 
 use crate::fault::Fault;
-use crate::outcome::{Outcome, Report};
+use crate::outcome::{BadValue, Outcome, Report};
 use og_judge::Refusal;
-use og_report_refusal::{Names, advise};
+use og_report_refusal::{Names, advise, expansion_remark};
 use og_report_text::{Answer, InputFault};
+use og_template_outline::{ExpandFault, MeaningError};
 use og_typed::SourceError;
 use std::alloc::{AllocError, Global};
 
@@ -90,4 +95,43 @@ pub(crate) fn refuse_unread<'a>(
     ensures want { IfErr result (IsWant ⊥) }
 {
     refuse_source(alloc, name, source, error.into())
+}
+
+// The report of the fault of a template: its line, with status 2, and beside it why it is one.
+fn report_of_template(
+    alloc: Global,
+    name: &str,
+    template: &[u8],
+    fault: &ExpandFault,
+) -> Result<Report, AllocError>
+    requires { IsSome (place_of_fault fault.now) → length template.now ≤ 2 ^ 20 }
+    ensures { IfOk result (IsTemplateRefusal (named name.now template.now) fault.now) }
+{
+    let answer = fault.answer(alloc, template)?;
+    let note = expansion_remark(alloc, name, template, fault).map(Some);
+    Ok(Report { answer, note })
+}
+
+/// The outcome of a text of this name that means no outline. Refused memory is a fault of the job.
+pub(crate) fn refuse_meaning<'a>(
+    alloc: Global,
+    name: &str,
+    text: &[u8],
+    error: MeaningError<'a>,
+) -> Result<Outcome<'a>, Fault<'a>>
+    requires { (takes : Takes) × (words : List (List ℕ)) × IsNotMeant takes text.now words error }
+    ensures outcome { IfOk result (FollowsError (named name.now text.now) error) }
+    ensures want { IfErr result (IsWant ⊥) }
+{
+    match error {
+        MeaningError::Memory => Err(Fault::Memory),
+        MeaningError::Source(fault) => {
+            refuse_source(alloc, name, text, Refusal::Input(InputFault::Source(fault)))
+        }
+        MeaningError::Template(fault) => {
+            let report = report_of_template(alloc, name, text, &fault)?;
+            Ok(Outcome::Report(report))
+        }
+        MeaningError::BadValue(word) => Ok(Outcome::BadValue(BadValue { word, why: None })),
+    }
 }

@@ -1,27 +1,33 @@
 //! Commands that search, by threads.
 
-ghost use Rattle.std.specs.Prelude.{◌≡◌, ◌<◌, true, IfErr, IfOk};
+ghost use Rattle.std.specs.Prelude.{◌≡◌, ◌<◌, is_some, true, IfErr, IfOk};
 ghost use Rattle.og_typed.specs.Syntax as syntax;
 ghost use Rattle.og_typed.specs.Source.{IsSource};
 ghost use Rattle.og_judge.specs.NotJudged.{OnInput};
 ghost use Rattle.og_judge.specs.declared.refusal.Refusal.TheVariants as refusals;
 ghost use Rattle.og_report_text.specs.InputErrors.{IsFaultOfConditions};
 ghost use Rattle.og_command_check.specs.Making.{IsFound};
-ghost use Rattle.og_program.specs.World.{world_of};
+ghost use Rattle.og_report_text.specs.Subject.{Subject};
+ghost use Rattle.og_template_outline.specs.Meaning.{Means, IsMeaning};
+ghost use Rattle.og_words.specs.Jobs.{word_bytes};
+ghost use Rattle.og_program.specs.World.{named, world_of};
 ghost use Rattle.og_program.specs.Opened.{One, LeavesInput, lacks};
-ghost use Rattle.og_program.specs.Failing.{IsFault, IsUnread};
-ghost use Rattle.og_program.specs.Commands.{report_form, Finds, Proves, Shows};
+ghost use Rattle.og_program.specs.Failing.{IsFault, IsUnread, IsWant};
+ghost use Rattle.og_program.specs.Commands.{report_form, takes_for, Finds, ProvesOutline, Proves, Shows};
 
-use crate::beside::{beside_found, beside_proof};
+use crate::beside::{beside_found, beside_reply};
 use crate::fault::Fault;
 use crate::files::Files;
+use crate::given::Given;
 use crate::outcome::Outcome;
 use crate::program::Program;
 use crate::refusing::refuse_source;
 use og_command_check::{CERTS_LIMIT, FindReply, Wanted, found};
 use og_command_prove::{Prover, ReportForm, Search};
+use og_io::MomentLimit;
 use og_judge::Refusal;
 use og_pool::Gate;
+use og_template_outline::Takes;
 use og_typed::Source;
 use og_words::{Find, Prove, Show};
 use std::io::Read;
@@ -39,6 +45,16 @@ fn report_form(json: bool) -> ReportForm
     }
 }
 
+// What the words may give: starts too where runs are asked for.
+fn takes(runs: Option<MomentLimit>) -> Takes
+    ensures { result ≡ takes_for (is_some runs) }
+{
+    match runs {
+        Some(_) => Takes::Starts,
+        None => Takes::Constants,
+    }
+}
+
 impl<'r, F: Files, G: Gate, H: Threads + Wait + Sync> Program<'r, F, G, H> {
     // A prover that searches so.
     fn prover(&self, search: Search) -> Prover<'r, G, H>
@@ -49,6 +65,30 @@ impl<'r, F: Files, G: Gate, H: Threads + Wait + Sync> Program<'r, F, G, H> {
             alloc: self.alloc,
             gate: self.gate,
             search,
+        }
+    }
+
+    // What searches find of the conditions of an outline that a text of this name means, in a form.
+    fn proved<'a>(
+        &self,
+        name: &str,
+        given: &Given<'a>,
+        search: Search,
+        form: ReportForm,
+    ) -> Result<Outcome<'a>, Fault<'a>>
+        requires { IsMeaning given.now.text.items given.now.reading.meaning }
+        ensures outcome { IfOk result (λ outcome. (s : Subject) × Means given.now.text.items s
+            × ProvesOutline form (is_some search.runs) (named name.now given.now.text.items) s
+            (word_bytes given.now.reading.starts.items) outcome) }
+        ensures want { IfErr result (IsWant (1 < search.workers)) }
+    {
+        let subject = given.subject();
+        match self
+            .prover(search)
+            .prove(&subject, &given.reading.starts, form)
+        {
+            Ok(reply) => Ok(beside_reply(self.alloc, subject.outline, reply)),
+            Err(refusal) => refuse_source(self.alloc, name, &given.text, refusal),
         }
     }
 
@@ -67,21 +107,18 @@ impl<'r, F: Files, G: Gate, H: Threads + Wait + Sync> Program<'r, F, G, H> {
         ensures kept { LeavesInput (One prove.now.source.now)
             → I.remaining input.new ≡ I.remaining input.old }
     {
-        let bytes = self.source_bytes(prove.source, input)?;
         let search = Search {
             budget: prove.budget,
             workers: prove.workers,
             runs: prove.runs,
         };
-        let form = report_form(prove.json);
-        match self.prover(search).prove(&bytes, &prove.words, form) {
-            Ok(reply) => Ok(beside_proof(self.alloc, prove.source, &bytes, reply)),
-            Err(refusal) => refuse_source(self.alloc, prove.source, &bytes, refusal),
+        match self.given(prove.source, &prove.words, takes(prove.runs), input)? {
+            Ok(given) => self.proved(prove.source, &given, search, report_form(prove.json)),
+            Err(outcome) => Ok(outcome),
         }
     }
 
-    /// A page of what searches find of the conditions of a source, and of runs where they are to be
-    /// looked for.
+    /// The same as a page.
     pub(crate) fn show<'a, I: Read>(
         &self,
         show: &Show<'a>,
@@ -95,15 +132,14 @@ impl<'r, F: Files, G: Gate, H: Threads + Wait + Sync> Program<'r, F, G, H> {
         ensures kept { LeavesInput (One show.now.source.now)
             → I.remaining input.new ≡ I.remaining input.old }
     {
-        let bytes = self.source_bytes(show.source, input)?;
         let search = Search {
             budget: show.budget,
             workers: show.workers,
             runs: show.runs,
         };
-        match self.prover(search).show(&bytes, &show.words) {
-            Ok(reply) => Ok(beside_proof(self.alloc, show.source, &bytes, reply)),
-            Err(refusal) => refuse_source(self.alloc, show.source, &bytes, refusal),
+        match self.given(show.source, &show.words, takes(show.runs), input)? {
+            Ok(given) => self.proved(show.source, &given, search, ReportForm::Page),
+            Err(outcome) => Ok(outcome),
         }
     }
 

@@ -9,6 +9,7 @@ use crate::hint::Hint;
 use crate::quotes::put_quote;
 use crate::reasons::reason;
 use og_report_text::InputFault;
+use og_template::is_template;
 use std::alloc::{AllocError, Global};
 
 /// How a source and its certificates are named.
@@ -65,6 +66,14 @@ fn line_of(hint: Option<Hint>) -> Option<&'static str>
     }
 }
 
+// Advice where a template stands in the place of an outline.
+fn template_hint(fault: &InputFault, source: &[u8]) -> Option<Hint> {
+    match fault {
+        InputFault::Source(_) if is_template(source) => Some(Hint::ExpandTemplate),
+        _ => None,
+    }
+}
+
 /// The message about a refusal: the file with the place, and the refusal's number and name; the
 /// line of the source with a mark below it, and why; and a line of advice, where there is some.
 /// Where another symbol is expected, all that may stand there are listed, and no other.
@@ -86,6 +95,7 @@ pub fn advise(
     put_head(&mut text, names, fault, source)?;
     put_front(&mut text, source, fault)?;
     let (reason, hint) = reason(alloc, names, fault, source)?;
+    let hint = template_hint(fault, source).or(hint);
     text.extend_from_slice(&reason)?;
     text.extend_from_slice(b"\n")?;
     put_hint(&mut text, line_of(hint))?;

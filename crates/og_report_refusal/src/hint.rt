@@ -40,6 +40,8 @@ pub(crate) enum Hint {
     LineEnds,
     CertificatesBehind,
     TwoFiles,
+    NoCertificates,
+    ExpandTemplate,
 }
 
 impl Hint {
@@ -89,6 +91,9 @@ impl Hint {
                 "without a word, 'og' reads a source and then its certificates, from a line 'og-cert 1' on",
             Hint::TwoFiles =>
                 "'og check SOURCE CERTS' takes two files; 'og prove SOURCE' takes none",
+            Hint::NoCertificates =>
+                "'og find SOURCE' prints certificates; of a template 'og expand' makes a source",
+            Hint::ExpandTemplate => "this is a template: 'og expand' makes an outline of it",
         }
     }
 }

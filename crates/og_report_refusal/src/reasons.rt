@@ -196,7 +196,7 @@ fn source_reason(alloc: Global, fault: &SourceFault, source: &[u8]) -> Result<Re
 // Advice on a text that is none of certificates: read behind its source, beside it or alone.
 fn certs_hint(names: Names<'_>) -> Option<Hint> {
     if names.source.is_empty() {
-        None
+        Some(Hint::NoCertificates)
     } else if names.source == names.certs {
         Some(Hint::CertificatesBehind)
     } else {

@@ -1,5 +1,5 @@
 -- The promise of an answer.
-use Rattle.std.specs.Prelude.{◌≡◌, ℕ, ◌≤◌, ◌^◌, length, List, [], Bool, true, false, ◌++◌, Some, Contains, codes, if◌then◌else◌}
+use Rattle.std.specs.Prelude.{◌≡◌, ℕ, ◌≤◌, List, [], Bool, true, false, ◌++◌, Some, codes, if◌then◌else◌}
 use Rattle.og_text.specs.declared.token.Token.{Token}
 use Rattle.og_parse.specs.Trees.{Outline}
 use Rattle.og_parse.specs.Grammar.{IsOutline}
@@ -18,10 +18,6 @@ use Rattle.og_template.specs.Front.{is_template}
 use Rattle.og_template_outline.specs.Faults.{number_of_fault, name_of_fault}
 use Rattle.og_template_outline.specs.declared.fault.ExpandFault.{ExpandFault}
 use Rattle.og_template_outline.specs.declared.fault.ExpandFault.TheVariants as faults
-use Rattle.og_template_outline.specs.declared.expanding.Expansion.{Expansion}
-use Rattle.og_template_outline.specs.declared.expanding.Expansion.TheVariants as expansions
-use Rattle.og_template_outline.specs.declared.expanding.Reply.{Reply}
-use Rattle.og_template_outline.specs.declared.expanding.Reply.TheVariants as replies
 
 -- the tokens stand for a tree, which is this one apart from its places
 pub record IsAgain (tree : Outline) (tokens : List Token) (again : Outline) : Type 0 where
@@ -60,36 +56,18 @@ fault_line source faults.NotReadBack = unplaced_line (number_of_fault faults.Not
 abbrev pub IsFaultAnswer : List ℕ → ExpandFault → Answer → Type 0
 IsFaultAnswer source fault a = Says (fault_line source fault) 2 a
 
--- what a template of at most 2^20 bytes means: the text of an outline, and the outline; or the line of a fault
-abbrev pub IsExpansion : List ℕ → List (List ℕ) → Expansion → Type 0
-IsExpansion text words (expansions.Outline printed o rows) = (length text ≤ 2 ^ 20) × IsOutlineText printed.items × IsSource printed.items o
-IsExpansion text words (expansions.Refused a fault) = IsFaultAnswer text fault a
-IsExpansion text words (expansions.BadValue word) = Contains words word.now
-
 pub record HasOutline (text : List ℕ) : Type 0 where
   pub outline : Program
   pub source : IsSource text outline
 
--- of an outline: its bytes; a word has no constant to name
-abbrev pub IsOfOutline : Bool → List ℕ → List (List ℕ) → Reply → Type 0
-IsOfOutline is_map text words (replies.Answer a) =
-    (words ≡ []) × HasOutline text × Says (if is_map then [] else text) 0 a
-IsOfOutline is_map text words (replies.Refused a fault) = ⊥
-IsOfOutline is_map text words (replies.BadValue word) = Contains words word.now
-
--- of a template: the line of a fault, or the text printed of it
-abbrev pub IsOfTemplate : Bool → List ℕ → List (List ℕ) → Reply → Type 0
-IsOfTemplate is_map text words (replies.Answer a) = IsPrinted is_map a.text.items × (a.status ≡ 0)
-IsOfTemplate is_map text words (replies.Refused a fault) = IsFaultAnswer text fault a
-IsOfTemplate is_map text words (replies.BadValue word) = Contains words word.now
-
-abbrev pub IsReplyBy : Bool → Bool → List ℕ → List (List ℕ) → Reply → Type 0
-IsReplyBy true = IsOfTemplate
-IsReplyBy false = IsOfOutline
+-- of a template: the text printed of it; of an outline: its bytes, or no map
+abbrev pub IsExpandedBy : Bool → Bool → List ℕ → Answer → Type 0
+IsExpandedBy true is_map text a = IsPrinted is_map a.text.items × (a.status ≡ 0)
+IsExpandedBy false is_map text a = HasOutline text × Says (if is_map then [] else text) 0 a
 
 -- by the first word of the text
-abbrev pub IsReply : Bool → List ℕ → List (List ℕ) → Reply → Type 0
-IsReply is_map text words reply = IsReplyBy (is_template text) is_map text words reply
+abbrev pub IsExpanded : Bool → List ℕ → Answer → Type 0
+IsExpanded is_map text a = IsExpandedBy (is_template text) is_map text a
 
 -- ---- about a text
 

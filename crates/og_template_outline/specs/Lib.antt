@@ -1,3 +1,5 @@
+pub mod Errors
 pub mod Expanded
-pub mod Words
 pub mod Faults
+pub mod Meaning
+pub mod Words

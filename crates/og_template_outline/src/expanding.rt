@@ -1,42 +1,15 @@
 //! The answers of `expand`.
 
-ghost use Rattle.std.specs.Prelude.{◌≤◌, ◌^◌, [], length, map, IfOk, IfErr, if◌then◌else◌};
-ghost use Rattle.og_template.specs.Front.{is_template};
-ghost use Rattle.og_report_text.specs.InputErrors.{OnFault, IsFaultOfSource};
+ghost use Rattle.std.specs.Prelude.{◌≡◌, ◌≤◌, ◌^◌, [], length, IfOk, if◌then◌else◌};
 ghost use Rattle.og_report_text.specs.Answers.{Says};
-ghost use Rattle.og_template_outline.specs.Expanded.{HasOutline, IsExpansion, IsOutlineText, IsPrinted, IsFaultAnswer, IsOfOutline, IsOfTemplate, IsReply};
+ghost use Rattle.og_template_outline.specs.Expanded.{IsOutlineText, IsPrinted, IsExpanded};
+ghost use Rattle.og_template_outline.specs.Meaning.{IsMeaning};
 
-use crate::fault::{ExpandError, ExpandFault, Refusal};
-use crate::line::fault_line;
+use crate::meaning::Meaning;
+use crate::printing::Expansion;
 use crate::rows::rows_text;
-use crate::template::of_text;
-use og_report_text::{Answer, InputError, Rows};
-use og_template::is_template;
-use og_text::{LexFault, SOURCE_LIMIT};
-use og_typed::{Outline, Source};
+use og_report_text::Answer;
 use std::alloc::{AllocError, Global};
-
-/// What comes of expanding a text.
-#[derive(Debug, Drop)]
-pub enum Reply<'a> {
-    /// The printed text, and the status.
-    Answer(Answer),
-    /// The line of this fault of a template, and the status.
-    Refused(Answer, ExpandFault),
-    /// The first word that gives no constant a value.
-    BadValue(&'a str),
-}
-
-/// What a template means.
-#[derive(Debug, Drop)]
-pub enum Expansion<'a> {
-    /// The text of its outline, the outline, and where the parts of that come from.
-    Outline(Vec<u8>, Outline, Rows),
-    /// The line of this fault of the template, with status 2.
-    Refused(Answer, ExpandFault),
-    /// The first word that gives no constant a value.
-    BadValue(&'a str),
-}
 
 // The bytes of an outline, or no row of a map.
 fn as_it_is(alloc: Global, text: &[u8], is_map: bool) -> Result<Answer, AllocError>
@@ -52,147 +25,55 @@ fn as_it_is(alloc: Global, text: &[u8], is_map: bool) -> Result<Answer, AllocErr
     })
 }
 
-// The reply for a text that has an outline.
-fn of_read<'a>(
-    alloc: Global,
-    text: &[u8],
-    words: &[&'a str],
-    is_map: bool,
-) -> Result<Reply<'a>, AllocError>
-    requires { HasOutline text.now }
-    ensures { IfOk result (IsOfOutline is_map text.now (map (λ w. w.now) words.now)) }
-{
-    match words {
-        [word, ..] => Ok(Reply::BadValue(word)),
-        [] => Ok(Reply::Answer(as_it_is(alloc, text, is_map)?)),
-    }
-}
-
-// The reply for an outline.
-#[tactic(auto, using(crate::proofs::ReadAgain::has_outline))]
-fn of_outline<'a>(
-    alloc: Global,
-    text: &[u8],
-    words: &[&'a str],
-    is_map: bool,
-) -> Result<Reply<'a>, InputError>
-    ensures reply { IfOk result (IsOfOutline is_map text.now (map (λ w. w.now) words.now)) }
-    ensures refused { IfErr result (OnFault (IsFaultOfSource text.now)) }
-{
-    drop(Source::read(alloc, text)?);
-    Ok(of_read(alloc, text, words, is_map)?)
-}
-
-// The answer to a fault.
-fn refused(alloc: Global, fault: &ExpandFault, text: &[u8]) -> Result<Answer, AllocError>
-    requires { length text.now ≤ 2 ^ 20 }
-    ensures { IfOk result (IsFaultAnswer text.now fault.now) }
-{
-    let text = fault_line(alloc, fault, text)?;
-    Ok(Answer { text, status: 2 })
-}
-
-// The refusal of a text that is too long.
-fn too_long<'a>(alloc: Global, text: &[u8], words: &[&'a str]) -> Result<Expansion<'a>, AllocError>
-    ensures { IfOk result (IsExpansion text.now (map (λ w. w.now) words.now)) }
-{
-    let fault = ExpandFault::Words(LexFault::SourceTooLong);
-    let answer = refused(alloc, &fault, &[])?;
-    Ok(Expansion::Refused(answer, fault))
-}
-
-/// The outline that a template means, where constants have the values that the words give, each
-/// NAME=INT, with its text, and where its notes and statements come from. `Refused` holds the line
-/// of a fault with status 2, and the fault; `BadValue` the first word that gives no constant a
-/// value.
-///
-/// # Errors
-///
-/// An allocation was refused.
-pub fn expand_template<'a>(
-    alloc: Global,
-    text: &[u8],
-    words: &[&'a str],
-) -> Result<Expansion<'a>, AllocError>
-    ensures { IfOk result (IsExpansion text.now (map (λ w. w.now) words.now)) }
-{
-    if SOURCE_LIMIT < text.len() {
-        return too_long(alloc, text, words);
-    }
-    match of_text(alloc, text, words) {
-        Ok(printed) => Ok(Expansion::Outline(printed.text, printed.outline, printed.rows)),
-        Err(Refusal::BadValue(word)) => Ok(Expansion::BadValue(word)),
-        Err(Refusal::Failed(ExpandError::Fault(fault))) => {
-            let answer = refused(alloc, &fault, text)?;
-            Ok(Expansion::Refused(answer, fault))
-        }
-        Err(Refusal::Failed(ExpandError::Memory)) => Err(AllocError),
-    }
-}
-
-// The text of the outline, or the map.
+// The text of the outline of a template, or the map.
 #[tactic(auto, using(crate::proofs::ReadAgain::outline_text_short))]
-fn shown(
+fn printed(
     alloc: Global,
-    source: &[u8],
-    text: Vec<u8>,
-    rows: &Rows,
+    template: &[u8],
+    expansion: Expansion,
     is_map: bool,
 ) -> Result<Vec<u8>, AllocError>
-    requires short { length source.now ≤ 2 ^ 20 }
-    requires outline { IsOutlineText text.items }
-    ensures { IfOk result (λ shown. IsPrinted is_map shown.items) }
+    requires short { length template.now ≤ 2 ^ 20 }
+    requires outline { IsOutlineText expansion.text.items }
+    ensures { IfOk result (λ text. IsPrinted is_map text.items) }
 {
+    let Expansion {
+        text,
+        outline,
+        rows,
+    } = expansion;
+    drop(outline);
     if is_map {
-        return rows_text(alloc, source, &text, rows);
+        return rows_text(alloc, template, &text, &rows);
     }
     Ok(text)
 }
 
-// The reply for a template.
-fn of_template<'a>(
-    alloc: Global,
-    text: &[u8],
-    words: &[&'a str],
-    is_map: bool,
-) -> Result<Reply<'a>, AllocError>
-    ensures { IfOk result (IsOfTemplate is_map text.now (map (λ w. w.now) words.now)) }
-{
-    match expand_template(alloc, text, words)? {
-        Expansion::Outline(printed, outline, rows) => {
-            drop(outline);
-            let text = shown(alloc, text, printed, &rows, is_map)?;
-            Ok(Reply::Answer(Answer { text, status: 0 }))
-        }
-        Expansion::Refused(answer, fault) => Ok(Reply::Refused(answer, fault)),
-        Expansion::BadValue(word) => Ok(Reply::BadValue(word)),
-    }
-}
-
-/// Expands a text, where constants have the values that the words give, each NAME=INT.
-///
-/// Of a text whose first word is `template` the answer is the text of its outline, or with `is_map`
-/// the places of its notes and statements, each with its place in the template and the values of
-/// the bound names round it, with status 0; or `Refused`, the line of a fault with status 2, and
-/// the fault. `BadValue` holds the first word that gives no constant a value. Any other text is
-/// read as an outline, and then is printed as it is, or with `is_map` nothing; it has no constants.
+/// What is printed of an outline that a text means: of a template the text of the outline, or with
+/// `is_map` the places of its notes and statements, each with its place in the template and the
+/// values of the bound names round it; of a source its bytes, or with `is_map` nothing. The status
+/// is 0.
 ///
 /// # Errors
 ///
-/// `Fault`, the first fault of a text that is read as an outline. `Memory` where an allocation was
-/// refused.
-pub fn expanded<'a>(
+/// An allocation was refused.
+pub fn expanded(
     alloc: Global,
     text: &[u8],
-    words: &[&'a str],
+    meaning: Meaning,
     is_map: bool,
-) -> Result<Reply<'a>, InputError>
-    ensures reply { IfOk result (IsReply is_map text.now (map (λ w. w.now) words.now)) }
-    ensures refused { IfErr result (OnFault (IsFaultOfSource text.now)) }
+) -> Result<Answer, AllocError>
+    requires { IsMeaning text.now meaning }
+    ensures { IfOk result (IsExpanded is_map text.now) }
 {
-    if is_template(text) {
-        Ok(of_template(alloc, text, words, is_map)?)
-    } else {
-        of_outline(alloc, text, words, is_map)
+    match meaning {
+        Meaning::Source(outline) => {
+            drop(outline);
+            as_it_is(alloc, text, is_map)
+        }
+        Meaning::Template(expansion) => {
+            let text = printed(alloc, text, expansion, is_map)?;
+            Ok(Answer { text, status: 0 })
+        }
     }
 }

@@ -5,7 +5,7 @@ ghost use Rattle.og_template_outline.specs.Faults.{number_of_fault, name_of_faul
 
 use og_template::{TemplateError, TemplateFault};
 use og_text::{LexError, LexFault};
-use og_typed::{SourceFault, TypeError, TypeFault};
+use og_typed::{SourceError, SourceFault, TypeError, TypeFault};
 use std::alloc::{AllocError, AllocFailed};
 
 /// The fault of a template or its outline.
@@ -73,13 +73,17 @@ pub(crate) enum ExpandError {
     Fault(ExpandFault),
 }
 
-/// Why nothing is printed of a template under values that words give.
-#[derive(Drop)]
-pub(crate) enum Refusal<'a> {
-    /// This word gives no constant a value.
+/// Why a text means no outline, with the words behind it.
+#[derive(Clone, Copy, Debug, Drop, PartialEq, Eq)]
+pub enum MeaningError<'a> {
+    /// An allocation was refused.
+    Memory,
+    /// The first fault of a text that is read as an outline.
+    Source(SourceFault),
+    /// A fault of a template.
+    Template(ExpandFault),
+    /// The first word that gives no constant a value.
     BadValue(&'a str),
-    /// This is why.
-    Failed(ExpandError),
 }
 
 /// Why a text is not read again.
@@ -136,24 +140,49 @@ impl From<Unread> for ExpandError {
     }
 }
 
-impl<'a> From<ExpandError> for Refusal<'a> {
-    ghost use Rattle.og_template_outline.specs.declared.fault.Refusal.TheVariants.{Failed};
+impl<'a> From<ExpandError> for MeaningError<'a> {
+    ghost use Rattle.og_template_outline.specs.Errors.{of_template};
 
-    ghost from_gives = { λ error e. e ≡ Failed error };
+    ghost from_gives = { λ error e. e ≡ of_template error };
 
-    fn from(error: ExpandError) -> Refusal<'a> {
-        Refusal::Failed(error)
+    fn from(error: ExpandError) -> MeaningError<'a> {
+        match error {
+            ExpandError::Memory => MeaningError::Memory,
+            ExpandError::Fault(fault) => MeaningError::Template(fault),
+        }
     }
 }
 
-impl<'a, T: Drop> From<AllocFailed<T>> for Refusal<'a> {
-    ghost use Rattle.og_template_outline.specs.declared.fault.ExpandError.TheVariants.{Memory};
-    ghost use Rattle.og_template_outline.specs.declared.fault.Refusal.TheVariants.{Failed};
+impl<'a> From<SourceError> for MeaningError<'a> {
+    ghost use Rattle.og_template_outline.specs.Errors.{of_source};
 
-    ghost from_gives = { λ _ e. e ≡ Failed Memory };
+    ghost from_gives = { λ error e. e ≡ of_source error };
 
-    fn from(_: AllocFailed<T>) -> Refusal<'a> {
-        Refusal::Failed(ExpandError::Memory)
+    fn from(error: SourceError) -> MeaningError<'a> {
+        match error {
+            SourceError::Memory => MeaningError::Memory,
+            SourceError::Fault(fault) => MeaningError::Source(fault),
+        }
+    }
+}
+
+impl<'a> From<AllocError> for MeaningError<'a> {
+    ghost use Rattle.og_template_outline.specs.declared.fault.MeaningError.TheVariants.{Memory};
+
+    ghost from_gives = { λ _ e. e ≡ Memory };
+
+    fn from(_: AllocError) -> MeaningError<'a> {
+        MeaningError::Memory
+    }
+}
+
+impl<'a, T: Drop> From<AllocFailed<T>> for MeaningError<'a> {
+    ghost use Rattle.og_template_outline.specs.declared.fault.MeaningError.TheVariants.{Memory};
+
+    ghost from_gives = { λ _ e. e ≡ Memory };
+
+    fn from(_: AllocFailed<T>) -> MeaningError<'a> {
+        MeaningError::Memory
     }
 }
 

@@ -1,8 +1,8 @@
 //! From a template to the outline that it stands for.
 //!
 //! [`check_names`] finds the first use of a name without its declaration, or of the wrong kind.
-//! specs/Expanded.antt has the promise of an answer, specs/Words.antt of the words behind a
-//! template.
+//! [`read_text`] says what a text means, source or template, and which words behind it give starts
+//! (specs/Meaning.antt). specs/Expanded.antt has the promise of `expand`.
 #![tactic(auto)]
 
 mod again;
@@ -11,6 +11,7 @@ mod expanding;
 mod exprs;
 mod fault;
 mod line;
+mod meaning;
 mod numbering;
 mod places;
 mod printing;
@@ -20,8 +21,8 @@ mod statements;
 mod template;
 mod words;
 
-pub use expanding::{Expansion, Reply, expand_template, expanded};
-pub use fault::ExpandFault;
+pub use expanding::expanded;
+pub use fault::{ExpandFault, MeaningError};
+pub use meaning::{Meaning, Reading, Takes, read_text};
 pub use numbering::check_names;
-pub use template::split_words;
-pub use words::SplitWords;
+pub use printing::Expansion;

@@ -14,16 +14,19 @@ use og_template_expand::Expanded;
 use og_typed::{Outline, resolve};
 use std::alloc::Global;
 
-/// An outline with its text, and where its notes and statements come from.
-#[derive(Drop)]
-pub(crate) struct Printed {
-    pub(crate) text: Vec<u8>,
-    pub(crate) outline: Outline,
-    pub(crate) rows: Rows,
+/// The outline that a template means.
+#[derive(Debug, Drop)]
+pub struct Expansion {
+    /// The outline's own text.
+    pub text: Vec<u8>,
+    /// The outline.
+    pub outline: Outline,
+    /// Where its notes and statements come from.
+    pub rows: Rows,
 }
 
 /// The outline of an expanded tree, which is that of its text.
-pub(crate) fn print(alloc: Global, expanded: Expanded<'_>) -> Result<Printed, ExpandError>
+pub(crate) fn print(alloc: Global, expanded: Expanded<'_>) -> Result<Expansion, ExpandError>
     ensures text { IfOk result (λ p. IsOutlineText p.text.items) }
     ensures outline { IfOk result (λ p. IsSource p.text.items p.outline) }
 {
@@ -34,7 +37,7 @@ pub(crate) fn print(alloc: Global, expanded: Expanded<'_>) -> Result<Printed, Ex
     drop(resolve(alloc, raw)?);
     let again = again?;
     let rows = rows(alloc, &again.parts, &mut parts, &origins)?;
-    Ok(Printed {
+    Ok(Expansion {
         text,
         outline: again.outline,
         rows,

@@ -3,7 +3,7 @@
 ghost use Rattle.std.specs.Prelude.{◌≡◌, map, IfErr, IfOk};
 ghost use Rattle.og_template_outline.specs.Words.{IsOneOrOther, is_one, names_one, IsSplitBy};
 
-use crate::fault::Refusal;
+use crate::fault::MeaningError;
 use og_template::{Constant, Template};
 use og_template_expand::Binding;
 use std::alloc::{AllocError, Global};
@@ -42,16 +42,16 @@ pub(crate) fn given<'a>(
     alloc: Global,
     template: &Template,
     words: &[&'a str],
-) -> Result<Vec<Binding<'a>>, Refusal<'a>>
+) -> Result<Vec<Binding<'a>>, MeaningError<'a>>
     ensures { IfErr result (IsOneOrOther (map (λ w. w.now) words.now)) }
 {
     let mut given = Vec::new(alloc);
     for word in words {
         let Some(binding) = said(word) else {
-            return Err(Refusal::BadValue(word));
+            return Err(MeaningError::BadValue(word));
         };
         if !is_constant(&template.constants, binding.name) || is_given(&given, binding.name) {
-            return Err(Refusal::BadValue(word));
+            return Err(MeaningError::BadValue(word));
         }
         given.push(binding)?;
     }
@@ -69,12 +69,12 @@ fn names_constant(constants: &[Constant], word: &str) -> bool
 }
 
 /// The words behind a template, in their order.
-#[derive(Debug, Drop)]
-pub struct SplitWords<'a> {
+#[derive(Drop)]
+pub(crate) struct SplitWords<'a> {
     /// Those NAME=.. whose NAME is a constant of the template.
-    pub constants: Vec<&'a str>,
+    pub(crate) constants: Vec<&'a str>,
     /// The others.
-    pub starts: Vec<&'a str>,
+    pub(crate) starts: Vec<&'a str>,
 }
 
 /// The words by whether they name one of these constants.

@@ -83,10 +83,6 @@ moments = number (codes "limit") (codes "100000") (Signed (pos 1) (pos 1000000))
 abbrev pub run_moments : Rule
 run_moments = record moments { is_free = false }
 
--- words that go with `--runs` alone
-abbrev pub run_ranges : Rule
-run_ranges = record ranges { is_free = false }
-
 -- a command with these arguments
 abbrev pub command : Text → List Rule → Shape
 command name rules = record (new_shape name) { rules = rules }
@@ -100,12 +96,12 @@ abbrev pub check : Shape
 check = command (codes "check") (source ∷ certs ∷ workers ∷ flag (codes "json") ∷ [])
 
 abbrev pub notes : Shape
-notes = command (codes "notes") (source ∷ budget ∷ [])
+notes = command (codes "notes") (source ∷ budget ∷ values ∷ [])
 
 abbrev pub show : Shape
 show =
     command (codes "show")
-    (source ∷ budget ∷ workers ∷ flag (codes "runs") ∷ run_moments ∷ run_ranges ∷ [])
+    (source ∷ budget ∷ workers ∷ flag (codes "runs") ∷ run_moments ∷ ranges ∷ [])
 
 abbrev pub conditions : Shape
 conditions =

@@ -1,5 +1,5 @@
 -- Which job words ask for.
-use Rattle.std.specs.Prelude.{◌≡◌, ℕ, List, length, map, Option, None, Some, option_map, Result, Ok, IfOk, slice_get, codes, string_bytes, true, false, ⊤}
+use Rattle.std.specs.Prelude.{◌≡◌, ℕ, List, length, map, Option, None, Some, IfSome, option_map, Result, Ok, IfOk, slice_get, codes, string_bytes, true, false, ⊤}
 use Rattle.std.specs.Borrow.{Bor}
 use Rattle.clap.specs.Words.{Row, Text}
 use Rattle.og_words.specs.Given.{given, text_of, number_of, is_given, texts_of}
@@ -33,6 +33,24 @@ verb_name verbs.Run = codes "run"
 verb_name verbs.Explore = codes "explore"
 verb_name verbs.Expand = codes "expand"
 verb_name verbs.Migrate = codes "migrate"
+
+-- how the words behind a source are named, of a command that takes some
+abbrev pub words_form : Verb → Option (List ℕ)
+words_form verbs.Prove = Some (codes "NAME=INT|LO..HI")
+words_form verbs.Check = None
+words_form verbs.Notes = Some (codes "NAME=INT")
+words_form verbs.Show = Some (codes "NAME=INT|LO..HI")
+words_form verbs.Conditions = None
+words_form verbs.Find = None
+words_form verbs.Erase = None
+words_form verbs.Run = Some (codes "NAME=INT")
+words_form verbs.Explore = Some (codes "NAME=INT|LO..HI")
+words_form verbs.Expand = Some (codes "NAME=INT")
+words_form verbs.Migrate = None
+
+-- the words for an argument of this name, where there is one
+abbrev pub HasWords : List Row → Option (List ℕ) → List Text → Type 0
+HasWords rows form words = IfSome form (λ name. words ≡ texts_of name rows)
 
 -- the word that names a job's command; the joined run has none
 abbrev pub command_of : Job → Option (List ℕ)
@@ -78,6 +96,7 @@ pub record HoldsCheck (rows : List Row) (check : Check) : Type 0 where
 pub record HoldsNotes (rows : List Row) (notes : Notes) : Type 0 where
   pub source : text_of (codes "SOURCE") rows ≡ Some notes.source.now
   pub budget : number_of (codes "budget") rows ≡ Some notes.budget
+  pub words : word_bytes notes.words.items ≡ texts_of (codes "NAME=INT") rows
 
 pub record HoldsShow (rows : List Row) (show : Show) : Type 0 where
   pub source : text_of (codes "SOURCE") rows ≡ Some show.source.now
@@ -115,7 +134,7 @@ pub record HoldsExplore (rows : List Row) (explore : Explore) : Type 0 where
   pub limit : number_of (codes "limit") rows ≡ Some explore.limit
   pub erased : explore.erased ≡ is_given (codes "erased") rows
   pub json : explore.json ≡ is_given (codes "json") rows
-  pub ranges : word_bytes explore.ranges.items ≡ texts_of (codes "NAME=INT|LO..HI") rows
+  pub words : word_bytes explore.words.items ≡ texts_of (codes "NAME=INT|LO..HI") rows
 
 pub record HoldsExpand (rows : List Row) (expand : Expand) : Type 0 where
   pub template : text_of (codes "TEMPLATE") rows ≡ Some expand.template.now

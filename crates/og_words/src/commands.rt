@@ -177,18 +177,26 @@ fn run_moments_arg<'a>(alloc: Global) -> Result<Arg<'a>, AllocError>
     beside(moments_arg(alloc, help), "runs")
 }
 
-fn run_ranges_arg<'a>(alloc: Global) -> Result<Arg<'a>, AllocError>
-    ensures { IfOk result (IsArg line.run_ranges) }
+// The words behind an outline or a template whose runs may be looked for.
+fn start_words_arg<'a>(alloc: Global) -> Arg<'a>
+    ensures { IsArg line.ranges result }
 {
-    let help = "With --runs: a variable's value at the start, or its values";
-    beside(ranges_arg(alloc, help), "runs")
+    ranges_arg(
+        alloc,
+        "A constant's value, where SOURCE is a template; with --runs a variable's value at the start, or its values",
+    )
+}
+
+// Words that give variables or constants a value each; the help text says which.
+fn values_arg<'a>(alloc: Global, help: &'a str) -> Arg<'a>
+    ensures { IsArg line.values result }
+{
+    words_arg(alloc, "NAME=INT", help)
 }
 
 fn prove_command<'a>(alloc: Global) -> Result<Command<'a>, AllocError>
     ensures { IfOk result (IsCommand line.prover) }
 {
-    let help =
-        "A constant's value, where SOURCE is a template; with --runs a variable's value at the start, or its values";
     let about = "Prove an outline, or say what is wrong with it";
     let workers = workers_arg(alloc, "How many threads work, 1 to 64");
     let prove = with_arg(Ok(command(alloc, "prove", about)), Ok(source_arg(alloc)));
@@ -197,7 +205,7 @@ fn prove_command<'a>(alloc: Global) -> Result<Command<'a>, AllocError>
     let prove = with_arg(prove, Ok(json_arg(alloc)));
     let prove = with_arg(prove, Ok(runs_arg(alloc)));
     let prove = with_arg(prove, run_moments_arg(alloc));
-    with_arg(prove, Ok(ranges_arg(alloc, help)))
+    with_arg(prove, Ok(start_words_arg(alloc)))
 }
 
 fn check_command<'a>(alloc: Global) -> Result<Command<'a>, AllocError>
@@ -217,7 +225,9 @@ fn notes_command<'a>(alloc: Global) -> Result<Command<'a>, AllocError>
     let help = "How many steps a search may make for each assertion, 1 to 1000000000";
     let about = "Tell what a yes of an outline claims and what it does not";
     let notes = with_arg(Ok(command(alloc, "notes", about)), Ok(source_arg(alloc)));
-    with_arg(notes, Ok(budget_arg(alloc, help)))
+    let notes = with_arg(notes, Ok(budget_arg(alloc, help)));
+    let words = "A constant's value, where SOURCE is a template";
+    with_arg(notes, Ok(values_arg(alloc, words)))
 }
 
 fn show_command<'a>(alloc: Global) -> Result<Command<'a>, AllocError>
@@ -230,7 +240,7 @@ fn show_command<'a>(alloc: Global) -> Result<Command<'a>, AllocError>
     let show = with_arg(show, Ok(workers));
     let show = with_arg(show, Ok(runs_arg(alloc)));
     let show = with_arg(show, run_moments_arg(alloc));
-    with_arg(show, run_ranges_arg(alloc))
+    with_arg(show, Ok(start_words_arg(alloc)))
 }
 
 fn smt2_arg<'a>(alloc: Global) -> Result<Arg<'a>, AllocError>
@@ -311,7 +321,7 @@ fn run_command<'a>(alloc: Global) -> Result<Command<'a>, AllocError>
 {
     let about = "Run the processes in threads, or step by step";
     let erased = flag_arg(alloc, "erased", "Run the erased program");
-    let values = words_arg(alloc, "NAME=INT", "A variable's value at the start");
+    let values = values_arg(alloc, "A variable's value at the start");
     let run = with_arg(Ok(command(alloc, "run", about)), Ok(source_arg(alloc)));
     let run = with_arg(run, Ok(limit_arg(alloc)));
     let run = with_arg(run, Ok(erased));
@@ -326,12 +336,13 @@ fn explore_command<'a>(alloc: Global) -> Result<Command<'a>, AllocError>
     let about = "Look through every run for what goes wrong";
     let moments = moments_arg(alloc, "How many moments may be looked at, 1 to 1000000");
     let erased = flag_arg(alloc, "erased", "Explore the erased program");
-    let ranges = ranges_arg(alloc, "A variable's value at the start, or its values");
+    let help =
+        "A constant's value, where SOURCE is a template; or a variable's value at the start, or its values";
     let explore = with_arg(Ok(command(alloc, "explore", about)), Ok(source_arg(alloc)));
     let explore = with_arg(explore, Ok(moments));
     let explore = with_arg(explore, Ok(erased));
     let explore = with_arg(explore, Ok(json_arg(alloc)));
-    with_arg(explore, Ok(ranges))
+    with_arg(explore, Ok(ranges_arg(alloc, help)))
 }
 
 fn expand_command<'a>(alloc: Global) -> Result<Command<'a>, AllocError>
@@ -340,7 +351,7 @@ fn expand_command<'a>(alloc: Global) -> Result<Command<'a>, AllocError>
     let about = "Print the outline that a template means";
     let template = word_arg(alloc, "TEMPLATE", "The template, or - for standard input");
     let help = "Print where each assertion and statement comes from";
-    let values = words_arg(alloc, "NAME=INT", "A constant's value");
+    let values = values_arg(alloc, "A constant's value");
     let expand = with_arg(Ok(command(alloc, "expand", about)), Ok(template));
     let expand = with_arg(expand, Ok(flag_arg(alloc, "map", help)));
     with_arg(expand, Ok(values))

@@ -32,9 +32,9 @@ pub enum Job<'a> {
     Prove(Prove<'a>),
     /// Check an outline by its certificates.
     Check(Check<'a>),
-    /// Print what a yes of an outline claims and what it does not.
+    /// Print what a yes of an outline, or of a template's, claims and what it does not.
     Notes(Notes<'a>),
-    /// Search as to prove an outline, and print a page that shows it.
+    /// Search as to prove an outline, or a template's, and print a page that shows it.
     Show(Show<'a>),
     /// Print conditions, with their facts where nothing else is asked for.
     Conditions(Conditions<'a>),
@@ -44,7 +44,7 @@ pub enum Job<'a> {
     Erase(Erase<'a>),
     /// Run the processes in threads, or by a schedule.
     Run(Run<'a>),
-    /// Look through the moments of all runs.
+    /// Look through the moments of all runs of an outline, or of a template's.
     Explore(Explore<'a>),
     /// Print the outline that a template means.
     Expand(Expand<'a>),
@@ -87,23 +87,25 @@ pub struct Check<'a> {
 /// The arguments of `notes`.
 #[derive(Debug, Drop)]
 pub struct Notes<'a> {
-    /// The file of the outline; `-` is standard input.
+    /// The file of the outline or the template; `-` is standard input.
     pub source: &'a str,
     /// How many steps each search may make.
     pub budget: Budget,
+    /// Words that give a template's constants their values.
+    pub words: Vec<&'a str>,
 }
 
 /// The arguments of `show`.
 #[derive(Debug, Drop)]
 pub struct Show<'a> {
-    /// The file of the outline; `-` is standard input.
+    /// The file of the outline or the template; `-` is standard input.
     pub source: &'a str,
     /// How many steps each search may make.
     pub budget: Budget,
     /// How many threads work.
     pub workers: Workers,
-    /// Where runs are looked for, words that give variables their values, or ranges of them, at the
-    /// start.
+    /// Words that give a template's constants their values and, where runs are looked for,
+    /// variables their values, or ranges of them, at the start.
     pub words: Vec<&'a str>,
     /// Where runs are to be looked for that get to states in which conditions are false: how many
     /// moments may be looked at.
@@ -165,7 +167,7 @@ pub struct Run<'a> {
 /// The arguments of `explore`.
 #[derive(Debug, Drop)]
 pub struct Explore<'a> {
-    /// The file of the outline; `-` is standard input.
+    /// The file of the outline or the template; `-` is standard input.
     pub source: &'a str,
     /// How many moments may be looked at.
     pub limit: MomentLimit,
@@ -173,8 +175,9 @@ pub struct Explore<'a> {
     pub erased: bool,
     /// Whether the report is to be JSON.
     pub json: bool,
-    /// Words that give variables their values, or ranges of them, at the start.
-    pub ranges: Vec<&'a str>,
+    /// Words that give a template's constants their values, and variables their values, or ranges
+    /// of them, at the start.
+    pub words: Vec<&'a str>,
 }
 
 /// The arguments of `expand`.

@@ -4,7 +4,7 @@ ghost use Rattle.std.specs.Prelude.{◌≡◌, IfOk, IfSome, Some, true, false, 
 ghost use Rattle.clap.specs.Words.{found_of, rows_of, subcommand_of, subcommand_rows_of};
 ghost use Rattle.og_words.specs.CommandLine.{og};
 ghost use Rattle.og_words.specs.Given.{rows_below, text_of, number_of, is_given, texts_of};
-ghost use Rattle.og_words.specs.Jobs.{verb_name, command_of, word_bytes, HoldsRuns, Holds, IsAsked};
+ghost use Rattle.og_words.specs.Jobs.{verb_name, words_form, command_of, word_bytes, HasWords, HoldsRuns, Holds, IsAsked};
 
 use crate::commands::program;
 use crate::job::{
@@ -103,13 +103,18 @@ fn check_job<'a>(m: &ArgMatches<'a>) -> Option<Job<'a>>
     }))
 }
 
-fn notes_job<'a>(m: &ArgMatches<'a>) -> Option<Job<'a>>
+fn notes_job<'a>(m: &ArgMatches<'a>, words: Vec<&'a str>) -> Option<Job<'a>>
+    requires { word_bytes words.items ≡ texts_of (codes "NAME=INT") (rows_of (found_of m.now)) }
     ensures command { IfSome result (λ job. command_of job ≡ Some (verb_name Verb.Notes)) }
     ensures holds { IfSome result (Holds (rows_of (found_of m.now))) }
 {
     let source = text_of(m, "SOURCE")?;
     let budget = budget_of(m)?;
-    Some(Job::Notes(Notes { source, budget }))
+    Some(Job::Notes(Notes {
+        source,
+        budget,
+        words,
+    }))
 }
 
 fn conditions_job<'a>(m: &ArgMatches<'a>) -> Option<Job<'a>>
@@ -169,8 +174,7 @@ fn texts_of<'a>(alloc: Global, m: &ArgMatches<'a>, name: &str) -> Result<Vec<&'a
     Ok(texts)
 }
 
-// The job of `prove` with the words that stand behind its source.
-fn prove_with<'a>(m: &ArgMatches<'a>, words: Vec<&'a str>) -> Option<Job<'a>>
+fn prove_job<'a>(m: &ArgMatches<'a>, words: Vec<&'a str>) -> Option<Job<'a>>
     requires { word_bytes words.items ≡ texts_of (codes "NAME=INT|LO..HI")
         (rows_of (found_of m.now)) }
     ensures command { IfSome result (λ job. command_of job ≡ Some (verb_name Verb.Prove)) }
@@ -189,16 +193,7 @@ fn prove_with<'a>(m: &ArgMatches<'a>, words: Vec<&'a str>) -> Option<Job<'a>>
     }))
 }
 
-fn prove_job<'a>(alloc: Global, m: &ArgMatches<'a>) -> Result<Option<Job<'a>>, AllocError>
-    ensures command { IfOk result
-        (λ r. IfSome r (λ job. command_of job ≡ Some (verb_name Verb.Prove))) }
-    ensures holds { IfOk result (λ r. IfSome r (Holds (rows_of (found_of m.now)))) }
-{
-    Ok(prove_with(m, texts_of(alloc, m, "NAME=INT|LO..HI")?))
-}
-
-// The job of `show` with the words that stand behind its source.
-fn show_with<'a>(m: &ArgMatches<'a>, words: Vec<&'a str>) -> Option<Job<'a>>
+fn show_job<'a>(m: &ArgMatches<'a>, words: Vec<&'a str>) -> Option<Job<'a>>
     requires { word_bytes words.items ≡ texts_of (codes "NAME=INT|LO..HI")
         (rows_of (found_of m.now)) }
     ensures command { IfSome result (λ job. command_of job ≡ Some (verb_name Verb.Show)) }
@@ -213,16 +208,7 @@ fn show_with<'a>(m: &ArgMatches<'a>, words: Vec<&'a str>) -> Option<Job<'a>>
     }))
 }
 
-fn show_job<'a>(alloc: Global, m: &ArgMatches<'a>) -> Result<Option<Job<'a>>, AllocError>
-    ensures command { IfOk result
-        (λ r. IfSome r (λ job. command_of job ≡ Some (verb_name Verb.Show))) }
-    ensures holds { IfOk result (λ r. IfSome r (Holds (rows_of (found_of m.now)))) }
-{
-    Ok(show_with(m, texts_of(alloc, m, "NAME=INT|LO..HI")?))
-}
-
-// The job of `run` with the words that stand behind its source.
-fn run_with<'a>(m: &ArgMatches<'a>, values: Vec<&'a str>) -> Option<Job<'a>>
+fn run_job<'a>(m: &ArgMatches<'a>, values: Vec<&'a str>) -> Option<Job<'a>>
     requires { word_bytes values.items ≡ texts_of (codes "NAME=INT") (rows_of (found_of m.now)) }
     ensures command { IfSome result (λ job. command_of job ≡ Some (verb_name Verb.Run)) }
     ensures holds { IfSome result (Holds (rows_of (found_of m.now))) }
@@ -237,17 +223,8 @@ fn run_with<'a>(m: &ArgMatches<'a>, values: Vec<&'a str>) -> Option<Job<'a>>
     }))
 }
 
-fn run_job<'a>(alloc: Global, m: &ArgMatches<'a>) -> Result<Option<Job<'a>>, AllocError>
-    ensures command { IfOk result
-        (λ r. IfSome r (λ job. command_of job ≡ Some (verb_name Verb.Run))) }
-    ensures holds { IfOk result (λ r. IfSome r (Holds (rows_of (found_of m.now)))) }
-{
-    Ok(run_with(m, texts_of(alloc, m, "NAME=INT")?))
-}
-
-// The job of `explore` with the words that stand behind its source.
-fn explore_with<'a>(m: &ArgMatches<'a>, ranges: Vec<&'a str>) -> Option<Job<'a>>
-    requires { word_bytes ranges.items ≡ texts_of (codes "NAME=INT|LO..HI")
+fn explore_job<'a>(m: &ArgMatches<'a>, words: Vec<&'a str>) -> Option<Job<'a>>
+    requires { word_bytes words.items ≡ texts_of (codes "NAME=INT|LO..HI")
         (rows_of (found_of m.now)) }
     ensures command { IfSome result (λ job. command_of job ≡ Some (verb_name Verb.Explore)) }
     ensures holds { IfSome result (Holds (rows_of (found_of m.now))) }
@@ -259,20 +236,11 @@ fn explore_with<'a>(m: &ArgMatches<'a>, ranges: Vec<&'a str>) -> Option<Job<'a>>
         limit,
         erased,
         json,
-        ranges,
+        words,
     }))
 }
 
-fn explore_job<'a>(alloc: Global, m: &ArgMatches<'a>) -> Result<Option<Job<'a>>, AllocError>
-    ensures command { IfOk result
-        (λ r. IfSome r (λ job. command_of job ≡ Some (verb_name Verb.Explore))) }
-    ensures holds { IfOk result (λ r. IfSome r (Holds (rows_of (found_of m.now)))) }
-{
-    Ok(explore_with(m, texts_of(alloc, m, "NAME=INT|LO..HI")?))
-}
-
-// The job of `expand` with the words that stand behind its source.
-fn expand_with<'a>(m: &ArgMatches<'a>, values: Vec<&'a str>) -> Option<Job<'a>>
+fn expand_job<'a>(m: &ArgMatches<'a>, values: Vec<&'a str>) -> Option<Job<'a>>
     requires { word_bytes values.items ≡ texts_of (codes "NAME=INT") (rows_of (found_of m.now)) }
     ensures command { IfSome result (λ job. command_of job ≡ Some (verb_name Verb.Expand)) }
     ensures holds { IfSome result (Holds (rows_of (found_of m.now))) }
@@ -286,12 +254,47 @@ fn expand_with<'a>(m: &ArgMatches<'a>, values: Vec<&'a str>) -> Option<Job<'a>>
     }))
 }
 
-fn expand_job<'a>(alloc: Global, m: &ArgMatches<'a>) -> Result<Option<Job<'a>>, AllocError>
-    ensures command { IfOk result
-        (λ r. IfSome r (λ job. command_of job ≡ Some (verb_name Verb.Expand))) }
-    ensures holds { IfOk result (λ r. IfSome r (Holds (rows_of (found_of m.now)))) }
+// How the words behind a source are named, of a command that takes some.
+fn words_form(verb: Verb) -> Option<&'static str>
+    ensures { option_map (λ form. form.now) result ≡ words_form verb }
 {
-    Ok(expand_with(m, texts_of(alloc, m, "NAME=INT")?))
+    match verb {
+        Verb::Notes | Verb::Run | Verb::Expand => Some("NAME=INT"),
+        Verb::Prove | Verb::Show | Verb::Explore => Some("NAME=INT|LO..HI"),
+        Verb::Check | Verb::Conditions | Verb::Find | Verb::Erase | Verb::Migrate => None,
+    }
+}
+
+// The words behind a source.
+fn words_of<'a>(alloc: Global, verb: Verb, m: &ArgMatches<'a>) -> Result<Vec<&'a str>, AllocError>
+    ensures { IfOk result (λ words. HasWords (rows_of (found_of m.now)) (words_form verb)
+        (word_bytes words.items)) }
+{
+    match words_form(verb) {
+        Some(form) => texts_of(alloc, m, form),
+        None => Ok(Vec::new(alloc)),
+    }
+}
+
+// The job of a command with the words behind its source.
+fn job_with<'a>(verb: Verb, m: &ArgMatches<'a>, words: Vec<&'a str>) -> Option<Job<'a>>
+    requires { HasWords (rows_of (found_of m.now)) (words_form verb) (word_bytes words.items) }
+    ensures command { IfSome result (λ job. command_of job ≡ Some (verb_name verb)) }
+    ensures holds { IfSome result (Holds (rows_of (found_of m.now))) }
+{
+    match verb {
+        Verb::Prove => prove_job(m, words),
+        Verb::Check => check_job(m),
+        Verb::Notes => notes_job(m, words),
+        Verb::Show => show_job(m, words),
+        Verb::Conditions => conditions_job(m),
+        Verb::Find => find_job(m),
+        Verb::Erase => erase_job(m),
+        Verb::Run => run_job(m, words),
+        Verb::Explore => explore_job(m, words),
+        Verb::Expand => expand_job(m, words),
+        Verb::Migrate => migrate_job(m),
+    }
 }
 
 // The job of a command.
@@ -299,19 +302,7 @@ fn job_of<'a>(alloc: Global, verb: Verb, m: &ArgMatches<'a>) -> Result<Option<Jo
     ensures command { IfOk result (λ r. IfSome r (λ job. command_of job ≡ Some (verb_name verb))) }
     ensures holds { IfOk result (λ r. IfSome r (Holds (rows_of (found_of m.now)))) }
 {
-    match verb {
-        Verb::Prove => prove_job(alloc, m),
-        Verb::Check => Ok(check_job(m)),
-        Verb::Notes => Ok(notes_job(m)),
-        Verb::Show => show_job(alloc, m),
-        Verb::Conditions => Ok(conditions_job(m)),
-        Verb::Find => Ok(find_job(m)),
-        Verb::Erase => Ok(erase_job(m)),
-        Verb::Run => run_job(alloc, m),
-        Verb::Explore => explore_job(alloc, m),
-        Verb::Expand => expand_job(alloc, m),
-        Verb::Migrate => Ok(migrate_job(m)),
-    }
+    Ok(job_with(verb, m, words_of(alloc, verb, m)?))
 }
 
 // The job of a command's name.

@@ -6,4 +6,4 @@ pub returns : goal.returns
 returns c =
     let one = c.with_arg-expand.ensures _ line.template c.command.ensures c.word_arg-template.ensures in
     let two = c.with_arg-expand-2.ensures _ (line.flag (codes "map")) one c.flag_arg.ensures in
-    c.with_arg.ensures _ line.values two c.words_arg-values.ensures
+    c.with_arg.ensures _ line.values two c.values_arg-values.ensures

@@ -8,4 +8,4 @@ returns c =
     let two = c.with_arg-explore-2.ensures _ line.moments one c.moments_arg-moments.ensures in
     let three = c.with_arg-explore-3.ensures _ (line.flag (codes "erased")) two c.flag_arg-erased.ensures in
     let four = c.with_arg-explore-4.ensures _ (line.flag (codes "json")) three c.json_arg.ensures in
-    c.with_arg.ensures _ line.ranges four c.ranges_arg-ranges.ensures
+    c.with_arg.ensures _ line.ranges four c.ranges_arg.ensures

@@ -10,4 +10,4 @@ returns c =
     let four = c.with_arg-prove-4.ensures _ (line.flag (codes "json")) three c.json_arg.ensures in
     let five = c.with_arg-prove-5.ensures _ (line.flag (codes "runs")) four c.runs_arg.ensures in
     let six = c.with_arg-prove-6.ensures _ line.run_moments five c.run_moments_arg.ensures in
-    c.with_arg.ensures _ line.ranges six c.ranges_arg.ensures
+    c.with_arg.ensures _ line.ranges six c.start_words_arg.ensures

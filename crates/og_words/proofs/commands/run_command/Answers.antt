@@ -9,4 +9,4 @@ returns c =
     let three = c.with_arg-run-3.ensures _ (line.flag (codes "erased")) two c.flag_arg-erased.ensures in
     let four = c.with_arg-run-4.ensures _ line.certs_option three c.run_certs_arg.ensures in
     let five = c.with_arg-run-5.ensures _ line.schedule_option four c.schedule_arg.ensures in
-    c.with_arg.ensures _ line.values five c.words_arg-values.ensures
+    c.with_arg.ensures _ line.values five c.values_arg-values.ensures

@@ -9,4 +9,4 @@ returns c =
     let three = c.with_arg-show-3.ensures _ line.workers two c.workers_arg-workers.ensures in
     let four = c.with_arg-show-4.ensures _ (line.flag (codes "runs")) three c.runs_arg.ensures in
     let five = c.with_arg-show-5.ensures _ line.run_moments four c.run_moments_arg.ensures in
-    c.with_arg.ensures _ line.run_ranges five c.run_ranges_arg.ensures
+    c.with_arg.ensures _ line.ranges five c.start_words_arg.ensures

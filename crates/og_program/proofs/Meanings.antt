@@ -1,0 +1,30 @@
+-- From what was read of a text to what a command says of it.
+use Rattle.std.proofs.Common.{◌≡◌, inl, inr, ℕ, List, Result, IfOk, map}
+use Rattle.std.proofs.lemmas.Result.{IfOk-weaker}
+use Rattle.og_report_text.specs.Subject.{Subject}
+use Rattle.og_template_outline.specs.Meaning.{Means}
+use Rattle.og_template_outline.specs.declared.meaning.Takes.{Takes}
+use Rattle.og_program.specs.World.{World, Text, named}
+use Rattle.og_program.specs.Given.{IsGiven, MeansNone, OfMeaning}
+use Rattle.og_program.specs.declared.given.Given.{Given}
+use Rattle.og_program.specs.declared.fault.Fault.{Fault}
+use Rattle.og_program.specs.declared.outcome.Outcome.{Outcome}
+
+pub on_meaning : (takes : Takes) (world : World) (name : List ℕ) (words : List (List ℕ)) (P : Text → Subject → List (List ℕ) → Outcome → Type 0) (given : Given) (s : Subject) (outcome : Outcome)
+    → IsGiven takes world name words given → Means given.text.items s
+    → P (named name given.text.items) s (map (λ w. w.now) given.reading.starts.items) outcome → OfMeaning takes world name words P outcome
+on_meaning takes world name words P given s outcome is means h =
+    (given.text.items, is.0, inl (s, map (λ w. w.now) given.reading.starts.items, means, is.1.1, h))
+
+-- the same of a result
+pub on_result : (takes : Takes) (world : World) (name : List ℕ) (words : List (List ℕ)) (P : Text → Subject → List (List ℕ) → Outcome → Type 0) (given : Given) (r : Result Outcome Fault)
+    → IsGiven takes world name words given
+    → IfOk r (λ outcome. (s : Subject) × Means given.text.items s × P (named name given.text.items) s (map (λ w. w.now) given.reading.starts.items) outcome)
+    → IfOk r (OfMeaning takes world name words P)
+on_result takes world name words P given r is =
+    IfOk-weaker r (λ outcome. (s : Subject) × Means given.text.items s × P (named name given.text.items) s (map (λ w. w.now) given.reading.starts.items) outcome) (OfMeaning takes world name words P)
+    (λ outcome h. on_meaning takes world name words P given h.0 outcome is h.1 h.2)
+
+pub no_meaning : (takes : Takes) (world : World) (name : List ℕ) (words : List (List ℕ)) (P : Text → Subject → List (List ℕ) → Outcome → Type 0) (outcome : Outcome)
+    → MeansNone takes world name words outcome → OfMeaning takes world name words P outcome
+no_meaning takes world name words P outcome none = (none.0, none.1, inr none.2)

@@ -1,6 +1,0 @@
-use Rattle.std.proofs.lemmas.Result.{IfOk-weaker}
-use Rattle.og_words.specs.CommandLine as line
-use Rattle.og_words.proofs.commands.run_ranges_arg.Goals as goal
-
-pub returns : goal.returns
-returns c = IfOk-weaker c.beside.result _ _ (λ r h. h line.ranges c.ranges_arg.ensures) c.beside.ensures
