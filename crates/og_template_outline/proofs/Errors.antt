@@ -1,12 +1,11 @@
 -- From the errors of the parts to the error of a text.
 use Rattle.std.proofs.Common.{◌≡◌, ◌≤◌, ◌^◌, sym, subst, ℕ, List, Bool, true, false, length}
-use Rattle.std.specs.Prelude.{Contains, IsSome}
 use Rattle.og_typed.specs.Refused.{IsNotRead}
 use Rattle.og_typed.specs.declared.source_fault.SourceError.{SourceError}
 use Rattle.og_typed.specs.declared.source_fault.SourceError.TheVariants as sources
 use Rattle.og_template.specs.declared.tree.Constant.{Constant}
 use Rattle.og_template_outline.specs.Errors.{of_template, of_source}
-use Rattle.og_template_outline.specs.Meaning.{IsBadWord, IsRefused, IsNotMeantBy}
+use Rattle.og_template_outline.specs.Meaning.{IsRefused, IsNotMeantBy}
 use Rattle.og_template_outline.specs.Words.{IsOneOrOther, IsTaken}
 use Rattle.og_template_outline.specs.declared.fault.ExpandError.{ExpandError}
 use Rattle.og_template_outline.specs.declared.fault.ExpandError.TheVariants as expanding

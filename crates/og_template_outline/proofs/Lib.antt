@@ -1,2 +1,4 @@
 pub mod Errors
+pub mod Meanings
 pub mod ReadAgain
+pub mod Taken

@@ -14,7 +14,6 @@ use Rattle.og_template_outline.specs.declared.meaning.Meaning.{Meaning}
 use Rattle.og_template_outline.specs.declared.meaning.Meaning.TheVariants as meanings
 use Rattle.og_template_outline.specs.declared.meaning.Reading.{Reading}
 use Rattle.og_template_outline.specs.declared.meaning.Takes.{Takes}
-use denote.Ref.{Bor}
 
 -- ---- the outline
 

@@ -135,15 +135,18 @@ fn read_source<'a>(
     ensures refused { IfErr result
         (IsNotMeantBy false takes text.now (map (λ w. w.now) words.now)) }
 {
-    let outline = Source::read(alloc, text)?.into_outline();
     let split = taken(alloc, takes, &[], words)?;
-    if let Some(word) = split.constants.first() {
-        return Err(MeaningError::BadValue(word));
+    let outline = Source::read(alloc, text)?.into_outline();
+    match split.constants.as_slice() {
+        [word, ..] => {
+            drop(outline);
+            Err(MeaningError::BadValue(word))
+        }
+        [] => Ok(Reading {
+            meaning: Meaning::Source(outline),
+            starts: split.starts,
+        }),
     }
-    Ok(Reading {
-        meaning: Meaning::Source(outline),
-        starts: split.starts,
-    })
 }
 
 /// What a text means, and which of the words behind it give starts. A text whose first word is
