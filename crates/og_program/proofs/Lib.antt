@@ -2,6 +2,7 @@ pub mod Faults
 pub mod Along
 pub mod Ending
 pub mod Meanings
+pub mod Meant
 pub mod Refusals
 pub mod Status
 pub mod Words

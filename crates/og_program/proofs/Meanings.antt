@@ -1,8 +1,9 @@
 -- From what was read of a text to what a command says of it.
-use Rattle.std.proofs.Common.{◌≡◌, inl, inr, ℕ, List, Result, IfOk, map}
+use Rattle.std.proofs.Common.{◌≡◌, inl, inr, sym, ℕ, List, [], Bool, true, false, Result, IfOk, map}
 use Rattle.std.proofs.lemmas.Result.{IfOk-weaker}
 use Rattle.og_report_text.specs.Subject.{Subject}
-use Rattle.og_template_outline.specs.Meaning.{Means}
+use Rattle.og_template_outline.specs.Meaning.{Means, GivesStartsBy}
+use Rattle.og_template_outline.specs.declared.meaning.Takes.TheVariants.{Constants}
 use Rattle.og_template_outline.specs.declared.meaning.Takes.{Takes}
 use Rattle.og_program.specs.World.{World, Text, named}
 use Rattle.og_program.specs.Given.{IsGiven, MeansNone, OfMeaning}
@@ -28,3 +29,8 @@ on_result takes world name words P given r is =
 pub no_meaning : (takes : Takes) (world : World) (name : List ℕ) (words : List (List ℕ)) (P : Text → Subject → List (List ℕ) → Outcome → Type 0) (outcome : Outcome)
     → MeansNone takes world name words outcome → OfMeaning takes world name words P outcome
 no_meaning takes world name words P outcome none = (none.0, none.1, inr none.2)
+
+-- an outline has no constant, so no word is to name one
+pub names_none : (b : Bool) (words starts : List (List ℕ)) → GivesStartsBy b Constants words starts → b ≡ false → words ≡ []
+names_none true words starts gives no = absurd (cc)
+names_none false words starts gives no = sym gives.0
