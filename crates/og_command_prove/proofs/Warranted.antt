@@ -1,15 +1,11 @@
 -- From the reply for an outline to what it says of the runs.
-use Rattle.std.proofs.Common.{◌≡◌, ℕ, Bool, List, Result, IfOk}
+use Rattle.std.proofs.Common.{ℕ, Bool, List, Result, IfOk}
 use Rattle.std.proofs.lemmas.Result.{IfOk-weaker}
-use Rattle.og_typed.specs.Erase.{erased}
 use Rattle.og_report_text.specs.Subject.{Subject}
 use Rattle.og_report_text.specs.declared.answer.Answer.{Answer}
-use Rattle.og_theorem.specs.NeverStuck.{IsNeverStuck}
-use Rattle.og_theorem.specs.Sound.{IsSound, IsSoundErased}
 use Rattle.og_command_explore.specs.declared.exploring.Reply.{Reply}
 use Rattle.og_command_explore.specs.declared.exploring.Reply.TheVariants as replies
 use Rattle.og_command_prove.specs.Answer.{IsReported}
-use Rattle.og_command_prove.specs.Printed.{SaysUnblockedIn}
 use Rattle.og_command_prove.specs.Reply.{IsReply, WarrantsAnswer, Warrants}
 use Rattle.og_command_prove.specs.declared.form.ReportForm.{ReportForm}
 
