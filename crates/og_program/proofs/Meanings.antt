@@ -1,5 +1,5 @@
 -- From what was read of a text to what a command says of it.
-use Rattle.std.proofs.Common.{◌≡◌, inl, inr, sym, ℕ, List, [], Bool, true, false, Result, IfOk, map}
+use Rattle.std.proofs.Common.{◌≡◌, inl, inr, sym, ℕ, List, [], Bool, true, false, Result, Ok, Err, IfOk, IfErr, subst, map}
 use Rattle.std.proofs.lemmas.Result.{IfOk-weaker}
 use Rattle.og_report_text.specs.Subject.{Subject}
 use Rattle.og_template_outline.specs.Meaning.{Means, GivesStartsBy}
@@ -32,5 +32,13 @@ no_meaning takes world name words P outcome none = (none.0, none.1, inr none.2)
 
 -- an outline has no constant, so no word is to name one
 pub names_none : (b : Bool) (words starts : List (List ℕ)) → GivesStartsBy b Constants words starts → b ≡ false → words ≡ []
-names_none true words starts gives no = absurd (cc)
-names_none false words starts gives no = sym gives.0
+names_none true words starts gives e = absurd (cc)
+names_none false words starts gives e = sym gives.0
+
+-- ---- of a result, by which of both it is
+
+pub ok_of : {A E : Type 0} (P : A → Type 0) (r : Result A E) (a : A) → r ≡ Ok a → IfOk r P → P a
+ok_of P r a is h = subst (λ q. IfOk q P) is h
+
+pub err_of : {A E : Type 0} (P : E → Type 0) (r : Result A E) (e : E) → r ≡ Err e → IfErr r P → P e
+err_of P r e is h = subst (λ q. IfErr q P) is h

@@ -1,5 +1,5 @@
 -- From why a command has no answer to the refusal of its input.
-use Rattle.std.proofs.Common.{◌≡◌, ◌⊎◌, ◌∙◌, sym, subst, inl, inr, ℕ, List, [], Bool, true, false, Result, IfOk}
+use Rattle.std.proofs.Common.{◌≡◌, ◌⊎◌, ◌∙◌, sym, subst, inl, inr, ℕ, List, [], Result, IfOk}
 use Rattle.std.specs.Prelude.{IfSome}
 use Rattle.std.proofs.lemmas.Result.{IfOk-weaker}
 use Rattle.og_typed.specs.Syntax.{Program}

@@ -1,5 +1,5 @@
 -- What goes to standard error beside an answer or certificates, and which outcome a reply has.
-use Rattle.std.specs.Prelude.{◌≡◌, ◌≢◌, ℕ, List, Option, option_map, None, Some, IfSome, Result, Ok, IfOk, Vec}
+use Rattle.std.specs.Prelude.{◌≡◌, ℕ, List, Option, option_map, None, Some, IfSome, Result, Ok, IfOk, Vec}
 use Rattle.std.specs.Borrow.{Bor}
 use Rattle.std.specs.Global.{Global}
 use Rattle.std.specs.declared.alloc.AllocError.{AllocError}

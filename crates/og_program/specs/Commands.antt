@@ -25,7 +25,6 @@ use Rattle.og_command_check.specs.Making.{IsFound, IsMigrated, IsFaultOfCerts}
 use Rattle.og_command_check.specs.declared.answer.CheckReply.{CheckReply}
 use Rattle.og_judge.specs.Report.{IsRefused as IsRefusedCheck}
 use Rattle.og_report_text.specs.InputErrors.{IsFaultOfSource, IsFaultOfCount, IsFaultOfConditions}
-use Rattle.og_report_text.specs.declared.fault.InputFault.{InputFault}
 use Rattle.og_command_check.specs.Warrants.{Warrants}
 use Rattle.og_command_check.specs.declared.making.FindReply.{FindReply}
 use Rattle.og_command_check.specs.declared.making.FindReply.TheVariants as finds
@@ -63,7 +62,7 @@ use Rattle.og_words.specs.declared.job.Job.{Job}
 use Rattle.og_words.specs.declared.job.Job.TheVariants as jobs
 use Rattle.og_program.specs.World.{World, Text, named, OfSource, OfCerts, OfBoth}
 use Rattle.og_program.specs.Given.{HasNoMeaning, OfMeaning}
-use Rattle.og_program.specs.Beside.{IsNote, Noted, Remarks, OnReport, OnCertificates, OnBadValue, Answers, Refuses}
+use Rattle.og_program.specs.Beside.{IsNote, Noted, OnReport, OnCertificates, OnBadValue, Answers, Refuses}
 use Rattle.og_program.specs.declared.outcome.Outcome.{Outcome}
 use Rattle.og_program.specs.declared.outcome.Outcome.TheVariants as outcomes
 use Rattle.og_program.specs.declared.outcome.Report.{Report}

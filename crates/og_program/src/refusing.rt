@@ -120,7 +120,7 @@ pub(crate) fn refuse_meaning<'a>(
     error: MeaningError<'a>,
 ) -> Result<Outcome<'a>, Fault<'a>>
     requires { (takes : Takes) × (words : List (List ℕ)) × IsNotMeant takes text.now words error }
-    ensures outcome { IfOk result (FollowsError (named name.now text.now) error) }
+    ensures outcome { IfOk result (FollowsError (named name.now text.now) error.entry) }
     ensures want { IfErr result (IsWant ⊥) }
 {
     match error {

@@ -76,7 +76,7 @@ impl<'r, F: Files, G: Gate, H: Threads + Wait + Sync> Program<'r, F, G, H> {
         search: Search,
         form: ReportForm,
     ) -> Result<Outcome<'a>, Fault<'a>>
-        requires { IsMeaning given.now.text.items given.now.reading.meaning }
+        requires meaning { IsMeaning given.now.text.items given.now.reading.meaning }
         ensures outcome { IfOk result (λ outcome. (s : Subject) × Means given.now.text.items s
             × ProvesOutline form (is_some search.runs) (named name.now given.now.text.items) s
             (word_bytes given.now.reading.starts.items) outcome) }

@@ -1,5 +1,3 @@
-use Rattle.std.proofs.Common.{◌≡◌}
-use Rattle.og_judge.specs.declared.refusal.Refusal.TheVariants as refusals
 use Rattle.og_template.specs.Front.{is_template}
 use Rattle.og_program.specs.World.{named}
 use Rattle.og_program.proofs.Faults.{wants_else}

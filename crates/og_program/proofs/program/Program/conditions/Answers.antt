@@ -1,7 +1,6 @@
 use Rattle.std.proofs.Common.{◌≡◌, ◌∙◌, sym, inl, ℕ, List, subst}
 use Rattle.og_typed.specs.Syntax.{Program}
 use Rattle.og_typed.specs.Source.{IsSource}
-use Rattle.og_judge.specs.NotJudged.{OnInput}
 use Rattle.og_judge.specs.declared.refusal.Refusal.TheVariants as refusals
 use Rattle.og_report_text.specs.InputErrors.{OnFault, IsFaultOfConditions}
 use Rattle.og_report_conditions.specs.declared.choosing.Reply.{Reply}

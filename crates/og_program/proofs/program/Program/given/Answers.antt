@@ -13,13 +13,13 @@ pub refuse_meaning-requires : goal.refuse_meaning-requires
 refuse_meaning-requires g c =
     (c.args.takes, word_bytes c.args.words.now, subst (λ (t : List ℕ). IsNotMeant c.args.takes t (word_bytes c.args.words.now) c.in-Err.error) (c.deref.ensures.value ∙ sym c.deref-in-Err.ensures.value) c.in-Err.ensures.refused)
 
-pub returns-in-Err-clause-none : goal.returns-in-Err-clause-none
-returns-in-Err-clause-none g c = (
+pub returns-clause-none : goal.returns-clause-none
+returns-clause-none g c = (
   c.in_ok-text.text.items,
   c.in_ok-text.ensures.text,
   (
     c.in-Err.error,
     subst (λ (t : List ℕ). IsNotMeant c.args.takes t (word_bytes c.args.words.now) c.in-Err.error) c.deref.ensures.value c.in-Err.ensures.refused,
-    subst (λ (t : List ℕ). FollowsError (named c.args.name.now t) c.in-Err.error c.in_ok-refuse_meaning.field-0) c.deref-in-Err.ensures.value c.in_ok-refuse_meaning.ensures.outcome,
+    subst (λ (t : List ℕ). FollowsError (named c.args.name.now t) c.in-Err.error c.in_ok-refuse_meaning-in-Err.field-0) c.deref-in-Err.ensures.value c.in_ok-refuse_meaning-in-Err.ensures.outcome,
   ),
 )

@@ -1,6 +1,5 @@
 use Rattle.std.proofs.Common.{◌≡◌, inl, inr, ℕ, List, [], subst}
 use Rattle.std.proofs.lemmas.Result.{IfOk-weaker}
-use Rattle.og_judge.specs.NotJudged.{OnInput}
 use Rattle.og_judge.specs.declared.refusal.Refusal.TheVariants as refusals
 use Rattle.og_command_check.specs.Making.{IsMigrated, IsFaultOfCerts}
 use Rattle.og_program.specs.World.{named, world_of}

@@ -1,7 +1,6 @@
-use Rattle.std.proofs.Common.{◌≡◌, ◌<◌, ap, inl, inr, sym, subst, is_some, ℕ, List, [], Bool, IfOk}
+use Rattle.std.proofs.Common.{◌≡◌, ◌<◌, ap, inl, inr, subst, is_some, ℕ, List, [], Bool, IfOk}
 use Rattle.std.proofs.lemmas.Result.{IfOk-weaker}
 use Rattle.std.specs.Borrow.{Bor}
-use Rattle.og_judge.specs.NotJudged.{OnInput}
 use Rattle.og_judge.specs.declared.refusal.Refusal.TheVariants as refusals
 use Rattle.og_report_text.specs.InputErrors.{IsFaultOfCount}
 use Rattle.og_report_text.specs.Subject.{Subject, subject_of}

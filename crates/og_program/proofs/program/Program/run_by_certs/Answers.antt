@@ -1,9 +1,8 @@
-use Rattle.std.proofs.Common.{◌≡◌, ◌∙◌, sym, ℕ, List, None, subst}
+use Rattle.std.proofs.Common.{◌∙◌, sym, ℕ, List, None, subst}
 use Rattle.std.proofs.lemmas.Result.{err_from_is_err_and}
 use Rattle.std.specs.Borrow.{Bor}
 use Rattle.og_judge.specs.NotJudged.{IsNotJudged}
 use Rattle.og_judge.specs.declared.refusal.Refusal.{Refusal}
-use Rattle.og_judge.specs.declared.refusal.Refusal.TheVariants as refusals
 use Rattle.og_command_run.specs.Running.{IsRanProved}
 use Rattle.og_command_run.specs.Starts.{HasProvedStart}
 use Rattle.og_words.specs.Jobs.{word_bytes}

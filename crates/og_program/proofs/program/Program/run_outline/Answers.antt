@@ -1,4 +1,4 @@
-use Rattle.std.proofs.Common.{◌≡◌, sym, ℕ, List, None, subst}
+use Rattle.std.proofs.Common.{sym, ℕ, List, None, subst}
 use Rattle.std.proofs.lemmas.Result.{err_from_is_err_and}
 use Rattle.std.specs.Borrow.{Bor}
 use Rattle.og_command_run.specs.Running.{IsRan}
