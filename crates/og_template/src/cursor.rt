@@ -4,7 +4,7 @@ ghost use Rattle.std.specs.Prelude.{◌≡◌, ◌<◌, ◌≤◌, drop, length,
 ghost use Rattle.std.specs.Bool.{MatchBool};
 
 use crate::{Special, Word, WordKind};
-use og_parse::{FaultKind, RawName, Refusal, Relation, Sign};
+use og_parse::{FaultKind, RawName, Refusal, Relation, Sign, relation_of};
 use og_text::{Name, Span, TokenKind};
 use std::alloc::Global;
 use std::marker::Model;
@@ -199,15 +199,7 @@ impl<'a> Cursor<'a> {
     pub(crate) fn relation(&mut self) -> Option<Relation>
         ensures less { length self.new ≤ length self.old }
     {
-        let relation = match self.lexeme() {
-            Some(TokenKind::LessEqual) => Relation::LessEqual,
-            Some(TokenKind::Less) => Relation::Less,
-            Some(TokenKind::GreaterEqual) => Relation::GreaterEqual,
-            Some(TokenKind::Greater) => Relation::Greater,
-            Some(TokenKind::Equal) => Relation::Equal,
-            Some(TokenKind::NotEqual) => Relation::NotEqual,
-            _ => return None,
-        };
+        let relation = relation_of(self.lexeme()?)?;
         self.advance();
         Some(relation)
     }

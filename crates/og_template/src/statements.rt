@@ -11,7 +11,7 @@ use crate::limits::Limits;
 use crate::lists::{Listed, list};
 use crate::sums::sum;
 use crate::tree::{Assertion, Basic, Binder, Element, Sequence, Statement, Step};
-use og_parse::Refusal;
+use og_parse::{Refusal, begins_statement};
 use og_text::TokenKind;
 
 fn basic(depth: u32, cursor: &mut Cursor) -> Result<Basic, Refusal>
@@ -184,17 +184,10 @@ fn step(limits: Limits, cursor: &mut Cursor) -> Result<Step, Refusal>
 
 // Whether the next word begins a step.
 fn is_at_step(cursor: &Cursor) -> bool {
-    cursor.is_at_special(Special::For)
-        || matches!(
-            cursor.lexeme(),
-            Some(
-                TokenKind::Name(_)
-                    | TokenKind::Skip
-                    | TokenKind::If
-                    | TokenKind::While
-                    | TokenKind::Await
-            )
-        )
+    match cursor.lexeme() {
+        Some(kind) => begins_statement(kind),
+        None => cursor.is_at_special(Special::For),
+    }
 }
 
 #[cycle(statements)]
