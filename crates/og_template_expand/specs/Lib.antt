@@ -12,3 +12,4 @@ pub mod Put
 pub mod Statements
 pub mod WholeOf
 pub mod Outline
+pub mod Declaring
