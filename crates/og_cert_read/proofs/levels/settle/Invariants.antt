@@ -2,7 +2,7 @@ use Rattle.std.proofs.Common.{◌≤◌, List, Option, vec_len}
 use Rattle.og_cert_text.specs.declared.cert.Cert.{Cert}
 use Rattle.og_cert_read.specs.declared.levels.Level.{Level}
 use Rattle.og_cert_read.specs.Levels.{IsSettled}
-use Rattle.og_cert_read.proofs.levels.settle_each.Given as goal
+use Rattle.og_cert_read.proofs.levels.settle.Given as goal
 
 -- what the levels and the certificate now settle to is what those at the start settle to
 abbrev pub invariant-loop-level : goal.invariant-loop-level
