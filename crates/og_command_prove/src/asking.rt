@@ -26,47 +26,34 @@ use og_typed::{Outline, Source};
 use std::sync::Wait;
 use std::thread::Threads;
 
-impl<'r, G: Gate, H: Threads + Wait + Sync> Prover<'r, G, H> {
-    // The reply for an outline where no runs are asked for; a word has no constant to name.
-    fn without_runs<'a>(
-        &self,
-        subject: &Subject<'_>,
-        words: &[&'a str],
-        form: ReportForm,
-    ) -> Result<Reply<'a>, Refusal>
-        requires { IsShort (subject_of subject.now) }
-        ensures reply { IfOk result
-            (IsOfSubject form false (subject_of subject.now) (bytes_of words.now)) }
-        ensures refused { IfErr result (OnInput (IsFaultOfCount subject.now.outline.now)) }
-        ensures spawn { IfErr result (λ e. e ≡ refusals.Spawn → 1 < self.now.search.workers) }
-    {
-        match words {
-            [] => Ok(Reply::Answer(self.answer(subject, None, form)?)),
-            [word, ..] => Ok(Reply::BadConstant(word)),
-        }
-    }
+// What is asked of a text: by which words, and in which form.
+#[derive(Clone, Copy)]
+struct Request<'w, 'a> {
+    words: &'w [&'a str],
+    form: ReportForm,
+}
 
+impl<'r, G: Gate, H: Threads + Wait + Sync> Prover<'r, G, H> {
     // The reply for an outline with the runs from the starts that the words give.
     fn with_runs<'a>(
         &self,
         subject: &Subject<'_>,
-        words: &[&'a str],
+        request: Request<'_, 'a>,
         limit: MomentLimit,
-        form: ReportForm,
     ) -> Result<Reply<'a>, Refusal>
         requires { IsShort (subject_of subject.now) }
         ensures reply { IfOk result
-            (IsOfSubject form true (subject_of subject.now) (bytes_of words.now)) }
+            (IsOfSubject request.entry.form true (subject_of subject.now) (bytes_of request.entry.words.now)) }
         ensures refused { IfErr result (OnInput (IsFaultOfCount subject.now.outline.now)) }
         ensures spawn { IfErr result (λ e. e ≡ refusals.Spawn → 1 < self.now.search.workers) }
     {
-        match given(self.alloc, subject.outline, words) {
+        match given(self.alloc, subject.outline, request.words) {
             Ok(given) => {
                 let asked = AskedRuns {
                     given: &given,
                     limit,
                 };
-                Ok(Reply::Answer(self.answer(subject, Some(&asked), form)?))
+                Ok(Reply::Answer(self.answer(subject, Some(&asked), request.form)?))
             }
             Err(WordsError::Bad(word)) => {
                 let own = Vec::from_slice(self.alloc, subject.own)?;
@@ -76,39 +63,37 @@ impl<'r, G: Gate, H: Threads + Wait + Sync> Prover<'r, G, H> {
         }
     }
 
-    // The reply for an outline in its texts.
+    // The reply for an outline in its texts. Where no runs are asked for, a word has no constant to
+    // name.
     fn of_subject<'a>(
         &self,
         subject: &Subject<'_>,
-        words: &[&'a str],
-        form: ReportForm,
+        request: Request<'_, 'a>,
     ) -> Result<Reply<'a>, Refusal>
         requires { IsShort (subject_of subject.now) }
-        ensures reply { IfOk result (IsOfSubject form (is_some self.now.search.runs)
-            (subject_of subject.now) (bytes_of words.now)) }
+        ensures reply { IfOk result (IsOfSubject request.entry.form (is_some self.now.search.runs)
+            (subject_of subject.now) (bytes_of request.entry.words.now)) }
         ensures refused { IfErr result (OnInput (IsFaultOfCount subject.now.outline.now)) }
         ensures spawn { IfErr result (λ e. e ≡ refusals.Spawn → 1 < self.now.search.workers) }
     {
-        match self.search.runs {
-            None => self.without_runs(subject, words, form),
-            Some(limit) => self.with_runs(subject, words, limit, form),
+        if let Some(limit) = self.search.runs {
+            return self.with_runs(subject, request, limit);
+        }
+        match request.words {
+            [] => Ok(Reply::Answer(self.answer(subject, None, request.form)?)),
+            [word, ..] => Ok(Reply::BadConstant(word)),
         }
     }
 
     // The reply for a text that is no template.
-    fn of_source<'a>(
-        &self,
-        text: &[u8],
-        words: &[&'a str],
-        form: ReportForm,
-    ) -> Result<Reply<'a>, Refusal>
-        ensures reply { IfOk result
-            (IsOfSource form (is_some self.now.search.runs) text.now (bytes_of words.now)) }
+    fn of_source<'a>(&self, text: &[u8], request: Request<'_, 'a>) -> Result<Reply<'a>, Refusal>
+        ensures reply { IfOk result (IsOfSource request.entry.form (is_some self.now.search.runs)
+            text.now (bytes_of request.entry.words.now)) }
         ensures refused { IfErr result (OnInput (IsFaultOfConditions text.now)) }
         ensures spawn { IfErr result (λ e. e ≡ refusals.Spawn → 1 < self.now.search.workers) }
     {
         let source = Source::read(self.alloc, text)?;
-        let reply = self.of_subject(&Subject::of_source(&source), words, form);
+        let reply = self.of_subject(&Subject::of_source(&source), request);
         drop(source);
         reply
     }
@@ -138,7 +123,8 @@ impl<'r, G: Gate, H: Threads + Wait + Sync> Prover<'r, G, H> {
             given: template,
             rows: Some(rows),
         };
-        self.of_subject(&subject, starts, form)
+        let words = starts;
+        self.of_subject(&subject, Request { words, form })
     }
 
     // The reply for a template, by the words that give its constants values and those that give
@@ -167,17 +153,13 @@ impl<'r, G: Gate, H: Threads + Wait + Sync> Prover<'r, G, H> {
     }
 
     // The reply for a template: without runs all words are to name its constants.
-    fn of_template<'a>(
-        &self,
-        text: &[u8],
-        words: &[&'a str],
-        form: ReportForm,
-    ) -> Result<Reply<'a>, Refusal>
-        ensures reply { IfOk result
-            (IsOfTemplate form (is_some self.now.search.runs) text.now (bytes_of words.now)) }
+    fn of_template<'a>(&self, text: &[u8], request: Request<'_, 'a>) -> Result<Reply<'a>, Refusal>
+        ensures reply { IfOk result (IsOfTemplate request.entry.form (is_some self.now.search.runs)
+            text.now (bytes_of request.entry.words.now)) }
         ensures refused { IfErr result (OnInput (IsTooMany)) }
         ensures spawn { IfErr result (λ e. e ≡ refusals.Spawn → 1 < self.now.search.workers) }
     {
+        let Request { words, form } = request;
         match self.search.runs {
             None => self.of_split(text, words, &[], form),
             Some(_) => {
@@ -229,10 +211,11 @@ impl<'r, G: Gate, H: Threads + Wait + Sync> Prover<'r, G, H> {
         ensures refused { IfErr result (OnInput (IsFaultOfText text.now)) }
         ensures spawn { IfErr result (λ e. e ≡ refusals.Spawn → 1 < self.now.search.workers) }
     {
+        let request = Request { words, form };
         if is_template(text) {
-            self.of_template(text, words, form)
+            self.of_template(text, request)
         } else {
-            self.of_source(text, words, form)
+            self.of_source(text, request)
         }
     }
 
@@ -251,6 +234,7 @@ impl<'r, G: Gate, H: Threads + Wait + Sync> Prover<'r, G, H> {
         ensures refused { IfErr result (OnInput (IsFaultOfConditions text.now)) }
         ensures spawn { IfErr result (λ e. e ≡ refusals.Spawn → 1 < self.now.search.workers) }
     {
-        self.of_source(text, words, ReportForm::Page)
+        let form = ReportForm::Page;
+        self.of_source(text, Request { words, form })
     }
 }
