@@ -2,8 +2,8 @@
 
 ghost use Rattle.std.specs.Prelude.{◌<◌, ◌≤◌, length};
 
-use crate::claims::{Claim, expect};
-use crate::gates::{Counts, Holds};
+use crate::tests::claims::{Claim, expect};
+use crate::tests::gates::{Counts, Holds};
 use og_cert_text::CertFile;
 use og_command_check::{Options, checked};
 use og_cond::Condition;

@@ -1,6 +1,6 @@
 //! A board of an outline that certificates prove safe.
 
-use crate::sources::state_of;
+use crate::tests::sources::state_of;
 use og_judge::{Judgement, judge};
 use og_run::{OpenGate, ProvedBoard, RunTurn};
 use og_test_samples::{TWO_ADD, TWO_ADD_CERTS};

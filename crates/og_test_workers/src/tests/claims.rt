@@ -2,10 +2,8 @@
 
 ghost use Rattle.std.specs.Prelude.{◌≤◌, length};
 
-use crate::checks::{expect_each_once, expect_no_hold};
-use crate::finder::{
-    Expected, expect_by_all, expect_found, expect_greater_budget, expect_other_sign,
-};
+use crate::tests::checks::{expect_each_once, expect_no_hold};
+use crate::tests::finder::{Expected, Finder, expect_other_sign};
 use og_cond::{Condition, conditions};
 use og_test_samples::outline_of;
 use og_typed::Outline;
@@ -39,13 +37,14 @@ fn expect_list<R: Threads + Wait + Sync + Abort>(
 ) -> Result<(), Fail>
     requires few { length list.now ≤ 999999999 }
 {
+    let finder = Finder { rt, alloc, list };
     match claim {
         Claim::Found(wanted) => {
-            drop(expect_found(rt, alloc, list, wanted)?);
+            drop(finder.expect_found(wanted)?);
             Ok(())
         }
-        Claim::ByAll(wanted) => expect_by_all(rt, alloc, list, wanted),
-        Claim::GreaterBudget => expect_greater_budget(rt, alloc, list),
+        Claim::ByAll(wanted) => finder.expect_by_all(wanted),
+        Claim::GreaterBudget => finder.expect_greater_budget(),
         Claim::OtherSign => expect_other_sign(rt, alloc, list),
         Claim::EachOnce => expect_each_once(rt, alloc, list),
         Claim::NoHold => expect_no_hold(rt, alloc, list),

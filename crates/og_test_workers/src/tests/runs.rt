@@ -1,7 +1,7 @@
 //! Programs that run, each process in a thread of its own.
 
-use crate::gates::{Counts, Holds};
-use crate::sources::{ONE_OVERFLOWS, ONE_WAITS, state_of};
+use crate::tests::gates::{Counts, Holds};
+use crate::tests::sources::{ONE_OVERFLOWS, ONE_WAITS, state_of};
 use og_run::{Finish, Gate, OpenGate, Outcome, RunError, RunFault, run};
 use og_test_samples::{
     AUXILIARY_LOOP, EACH_WAITS, TWO_ADD, UP_AND_DOWN, WITH_MAIN, alike, outline_of,

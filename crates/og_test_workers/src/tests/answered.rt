@@ -1,6 +1,6 @@
 //! The printed text of runs whose gates say which process goes first.
 
-use crate::gates::Holds;
+use crate::tests::gates::Holds;
 use og_command_run::{Ran, Reply, Runner, ran, ran_proved};
 use og_io::RunLimit;
 use og_run::Gate;

@@ -2,7 +2,7 @@
 
 ghost use Rattle.std.specs.Prelude.{◌≡◌, []};
 
-use crate::sources::{ONE_OVERFLOWS, ONE_WAITS, state_of};
+use crate::tests::sources::{ONE_OVERFLOWS, ONE_WAITS, state_of};
 use og_run::{Arena, ArenaName, Board, RunTurn, Seat, Unstarted};
 use og_test_samples::{TWO_ADD, WITH_MAIN, outline_of};
 use og_typed::Outline;

@@ -2,9 +2,9 @@
 
 ghost use Rattle.std.specs.Prelude.{◌<◌, ◌≤◌, length};
 
-use crate::claims::{Claim, expect};
-use crate::made::{deep, different, many, multiplied, queue};
-use crate::sources::{LARGE, NO_FACTS, NOT_EVEN, TURNED};
+use crate::tests::claims::{Claim, expect};
+use crate::tests::made::{deep, different, many, multiplied, queue};
+use crate::tests::sources::{LARGE, NO_FACTS, NOT_EVEN, TURNED};
 use og_cert_text::{CertFile, put_cert, write_certs};
 use og_cond::Condition;
 use og_find::{Missing, Verdict, examine, find, mark};
@@ -76,147 +76,127 @@ fn found_alone(alloc: Global, list: &[Condition], budget: u64) -> Result<(Vec<u8
     Ok((letters, text?))
 }
 
-// The letters that this many workers find.
-fn letters_of<R: Threads + Wait + Sync + Abort>(
-    rt: &R,
-    alloc: Global,
-    list: &[Condition],
-    budget: u64,
-    workers: u32,
-) -> Result<Vec<u8>, Fail>
-    requires workers { (0 < workers) × (workers ≤ 64) }
-    requires few { length list.now ≤ 999999999 }
-{
-    let findings = examine_all(rt, alloc, list, budget, workers, &OpenGate)?;
-    let mut letters = Vec::with_capacity(alloc, list.len())?;
-    for index in 0..list.len() {
-        let letter = match findings.verdict(index) {
-            Some(verdict) => letter(verdict),
-            None => b'-',
+// The conditions that are searched, and what searches them.
+#[derive(Clone, Copy)]
+pub(crate) struct Finder<'r, R> {
+    pub(crate) rt: &'r R,
+    pub(crate) alloc: Global,
+    pub(crate) list: &'r [Condition<'r>],
+}
+
+impl<'r, R: Threads + Wait + Sync + Abort> Finder<'r, R> {
+    // The letters that this many workers find.
+    fn letters(&self, budget: u64, workers: u32) -> Result<Vec<u8>, Fail>
+        requires workers { (0 < workers) × (workers ≤ 64) }
+        requires few { length self.now.list.now ≤ 999999999 }
+    {
+        let (rt, list) = (self.rt, self.list);
+        let findings = examine_all(rt, self.alloc, list, budget, workers, &OpenGate)?;
+        let mut letters = Vec::with_capacity(self.alloc, list.len())?;
+        for index in 0..list.len() {
+            let letter = match findings.verdict(index) {
+                Some(verdict) => letter(verdict),
+                None => b'-',
+            };
+            letters.push(letter)?;
+        }
+        assert!(rt; findings.verdict(list.len()).is_none());
+        drop(findings);
+        Ok(letters)
+    }
+
+    // The text of the certificates that this many workers find, and how many conditions have none.
+    fn found(&self, budget: u64, workers: u32) -> Result<(Vec<u8>, usize), Fail>
+        requires workers { (0 < workers) × (workers ≤ 64) }
+        requires few { length self.now.list.now ≤ 999999999 }
+    {
+        let file = find_all(self.rt, self.alloc, self.list, budget, workers, &OpenGate)?;
+        let missing = Missing::of(&file, self.list.len() as u32).count;
+        let text = write_certs(self.alloc, &file);
+        drop(file);
+        Ok((text?, missing as usize))
+    }
+
+    // As it is written straight from the findings.
+    fn written(&self, budget: u64, workers: u32) -> Result<(Vec<u8>, usize), Fail>
+        requires workers { (0 < workers) × (workers ≤ 64) }
+        requires few { length self.now.list.now ≤ 999999999 }
+    {
+        let (rt, alloc) = (self.rt, self.alloc);
+        let findings = examine_all(rt, alloc, self.list, budget, workers, &OpenGate)?;
+        let FoundText::Within(written) = findings.text(rt, alloc, workers, usize::MAX)? else {
+            return Err(Fail::new("the text is too long"));
         };
-        letters.push(letter)?;
+        let missing = written.missing;
+        let mut text = Vec::new(alloc);
+        let done = written.certificates.write(alloc, &mut text);
+        drop(written);
+        assert!(rt; done.is_ok() && missing.conditions as usize == self.list.len());
+        Ok((text, missing.count as usize))
     }
-    assert!(rt; findings.verdict(list.len()).is_none());
-    drop(findings);
-    Ok(letters)
-}
 
-// The text of the certificates that this many workers find, and how many conditions have none.
-fn found_by<R: Threads + Wait + Sync>(
-    rt: &R,
-    alloc: Global,
-    list: &[Condition],
-    budget: u64,
-    workers: u32,
-) -> Result<(Vec<u8>, usize), Fail>
-    requires workers { (0 < workers) × (workers ≤ 64) }
-    requires few { length list.now ≤ 999999999 }
-{
-    let file = find_all(rt, alloc, list, budget, workers, &OpenGate)?;
-    let missing = Missing::of(&file, list.len() as u32).count;
-    let text = write_certs(alloc, &file);
-    drop(file);
-    Ok((text?, missing as usize))
-}
-
-// As it is written straight from the findings.
-fn written_by<R: Threads + Wait + Sync + Abort>(
-    rt: &R,
-    alloc: Global,
-    list: &[Condition],
-    budget: u64,
-    workers: u32,
-) -> Result<(Vec<u8>, usize), Fail>
-    requires workers { (0 < workers) × (workers ≤ 64) }
-    requires few { length list.now ≤ 999999999 }
-{
-    let findings = examine_all(rt, alloc, list, budget, workers, &OpenGate)?;
-    let FoundText::Within(written) = findings.text(rt, alloc, workers, usize::MAX)? else {
-        return Err(Fail::new("the text is too long"));
-    };
-    let missing = written.missing;
-    let mut text = Vec::new(alloc);
-    let done = written.certificates.write(alloc, &mut text);
-    drop(written);
-    assert!(rt; done.is_ok() && missing.conditions as usize == list.len());
-    Ok((text, missing.count as usize))
-}
-
-fn expect_of_workers<R: Threads + Wait + Sync + Abort>(
-    rt: &R,
-    alloc: Global,
-    list: &[Condition],
-    wanted: &Expected<'_>,
-    text: &[u8],
-    workers: u32,
-) -> Result<(), Fail>
-    requires workers { (0 < workers) × (workers ≤ 64) }
-    requires few { length list.now ≤ 999999999 }
-{
-    let budget = wanted.budget;
-    let letters = letters_of(rt, alloc, list, budget, workers)?;
-    assert!(rt;
-        letters.as_slice() == wanted.letters.as_bytes(),
-        "by {workers} workers"
-    );
-    let (found, missing) = found_by(rt, alloc, list, budget, workers)?;
-    assert!(rt; found.as_slice() == text, "by {workers} workers");
-    assert_eq!(rt; missing, without_certificate(wanted.letters));
-    let (written, missing) = written_by(rt, alloc, list, budget, workers)?;
-    assert!(rt; written.as_slice() == text, "written by {workers} workers");
-    assert_eq!(rt; missing, without_certificate(wanted.letters));
-    Ok(())
-}
-
-// Searches of each condition alone come to the verdicts, and two workers find these certificates
-// and no others. Their text.
-pub(crate) fn expect_found<R: Threads + Wait + Sync + Abort>(
-    rt: &R,
-    alloc: Global,
-    list: &[Condition],
-    wanted: &Expected<'_>,
-) -> Result<Vec<u8>, Fail>
-    requires few { length list.now ≤ 999999999 }
-{
-    let (letters, alone) = found_alone(alloc, list, wanted.budget)?;
-    assert!(rt;
-        letters.as_slice() == wanted.letters.as_bytes(),
-        "alone: {}",
-        wanted.letters
-    );
-    let (text, missing) = found_by(rt, alloc, list, wanted.budget, 2)?;
-    assert!(rt; wanted.are_alike || text == alone, "{}", wanted.letters);
-    assert_eq!(rt; missing, without_certificate(wanted.letters));
-    Ok(text)
-}
-
-// Each number of workers has the same result.
-pub(crate) fn expect_by_all<R: Threads + Wait + Sync + Abort>(
-    rt: &R,
-    alloc: Global,
-    list: &[Condition],
-    wanted: &Expected<'_>,
-) -> Result<(), Fail>
-    requires few { length list.now ≤ 999999999 }
-{
-    let text = expect_found(rt, alloc, list, wanted)?;
-    for workers in [1, 2, 3, 64] {
-        expect_of_workers(rt, alloc, list, wanted, &text, workers)?;
+    fn expect_of_workers(
+        &self,
+        wanted: &Expected<'_>,
+        text: &[u8],
+        workers: u32,
+    ) -> Result<(), Fail>
+        requires workers { (0 < workers) × (workers ≤ 64) }
+        requires few { length self.now.list.now ≤ 999999999 }
+    {
+        let rt = self.rt;
+        let letters = self.letters(wanted.budget, workers)?;
+        assert!(rt;
+            letters.as_slice() == wanted.letters.as_bytes(),
+            "by {workers} workers"
+        );
+        let (found, missing) = self.found(wanted.budget, workers)?;
+        assert!(rt; found.as_slice() == text, "by {workers} workers");
+        assert_eq!(rt; missing, without_certificate(wanted.letters));
+        let (written, missing) = self.written(wanted.budget, workers)?;
+        assert!(rt; written.as_slice() == text, "written by {workers} workers");
+        assert_eq!(rt; missing, without_certificate(wanted.letters));
+        Ok(())
     }
-    Ok(())
-}
 
-pub(crate) fn expect_greater_budget<R: Threads + Wait + Sync + Abort>(
-    rt: &R,
-    alloc: Global,
-    list: &[Condition],
-) -> Result<(), Fail>
-    requires few { length list.now ≤ 999999999 }
-{
-    let usual = found_by(rt, alloc, list, BUDGET, 2)?;
-    let greatest = found_by(rt, alloc, list, GREATEST_BUDGET, 2)?;
-    assert!(rt; usual == greatest);
-    Ok(())
+    // Searches of each condition alone come to the verdicts, and two workers find these
+    // certificates and no others. Their text.
+    pub(crate) fn expect_found(&self, wanted: &Expected<'_>) -> Result<Vec<u8>, Fail>
+        requires few { length self.now.list.now ≤ 999999999 }
+    {
+        let rt = self.rt;
+        let (letters, alone) = found_alone(self.alloc, self.list, wanted.budget)?;
+        assert!(rt;
+            letters.as_slice() == wanted.letters.as_bytes(),
+            "alone: {}",
+            wanted.letters
+        );
+        let (text, missing) = self.found(wanted.budget, 2)?;
+        assert!(rt; wanted.are_alike || text == alone, "{}", wanted.letters);
+        assert_eq!(rt; missing, without_certificate(wanted.letters));
+        Ok(text)
+    }
+
+    // Each number of workers has the same result.
+    pub(crate) fn expect_by_all(&self, wanted: &Expected<'_>) -> Result<(), Fail>
+        requires few { length self.now.list.now ≤ 999999999 }
+    {
+        let text = self.expect_found(wanted)?;
+        for workers in [1, 2, 3, 64] {
+            self.expect_of_workers(wanted, &text, workers)?;
+        }
+        Ok(())
+    }
+
+    pub(crate) fn expect_greater_budget(&self) -> Result<(), Fail>
+        requires few { length self.now.list.now ≤ 999999999 }
+    {
+        let rt = self.rt;
+        let usual = self.found(BUDGET, 2)?;
+        let greatest = self.found(GREATEST_BUDGET, 2)?;
+        assert!(rt; usual == greatest);
+        Ok(())
+    }
 }
 
 // The mark of the condition's facts, and the lines of the certificate that is found for it.
