@@ -134,15 +134,15 @@ const JOBS: &[(&str, &str)] = &[
     ),
     (
         "explore a",
-        "Explore(Explore { source: \"a\", limit: MomentLimit { moments: 100000 }, erased: false, json: false, ranges: [] })",
+        "Explore(Explore { source: \"a\", limit: MomentLimit { moments: 100000 }, erased: false, json: false, words: [] })",
     ),
     (
         "explore - x=1 y=-2..3 --limit 1",
-        "Explore(Explore { source: \"-\", limit: MomentLimit { moments: 1 }, erased: false, json: false, ranges: [\"x=1\", \"y=-2..3\"] })",
+        "Explore(Explore { source: \"-\", limit: MomentLimit { moments: 1 }, erased: false, json: false, words: [\"x=1\", \"y=-2..3\"] })",
     ),
     (
         "explore --json --limit 1000000 --erased a",
-        "Explore(Explore { source: \"a\", limit: MomentLimit { moments: 1000000 }, erased: true, json: true, ranges: [] })",
+        "Explore(Explore { source: \"a\", limit: MomentLimit { moments: 1000000 }, erased: true, json: true, words: [] })",
     ),
     (
         "expand a",
