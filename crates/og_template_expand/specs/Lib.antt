@@ -5,9 +5,11 @@ pub mod Scope
 pub mod Scoped
 pub mod Values
 pub mod Ranges
+pub mod Repeated
 pub mod Sums
 pub mod Assertions
 pub mod Put
 pub mod Statements
 pub mod WholeOf
 pub mod Outline
+pub mod Declaring
