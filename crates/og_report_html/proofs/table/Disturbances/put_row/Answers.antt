@@ -5,7 +5,7 @@ use Rattle.std.specs.List.{filter}
 use Rattle.og_report_html.specs.Table.{is_by, cells_text}
 use Rattle.og_report_html.specs.declared.table.Disturbance.{Disturbance}
 use Rattle.og_report_prove.proofs.Joins.{joined}
-use Rattle.og_report_html.proofs.table.put_row.Goals as goal
+use Rattle.og_report_html.proofs.table.Disturbances.put_row.Goals as goal
 
 pub returns : goal.returns
 returns c =
@@ -18,7 +18,7 @@ returns c =
     let a1 = codes "<tr><th scope=row>" in
     let a2 = decimal (c.args.process + 1) in
     let a3 = codes "</th>" in
-    let a4 = cells_text (filter (is_by c.args.process) c.args.disturbances.wrong.now) (filter (is_by c.args.process) c.args.disturbances.unknown.now) c.args.count in
+    let a4 = cells_text (filter (is_by c.args.process) c.args.self.now.wrong.now) (filter (is_by c.args.process) c.args.self.now.unknown.now) c.args.count in
     let a5 = codes "</tr>\n" in
     let e1 : t1 ≡ t0 ++ a1 = c.in_ok-extend_from_slice.ensures.items in
     let e2 : t2 ≡ t1 ++ a2 = search rules in

@@ -5,7 +5,7 @@ use Rattle.og_report_html.specs.Table.{is_on, share_text}
 use Rattle.og_report_html.specs.declared.finding.Finding.TheVariants as finding
 use Rattle.og_report_html.specs.declared.table.Disturbance.{Disturbance}
 use Rattle.og_report_prove.proofs.Joins.{joined}
-use Rattle.og_report_html.proofs.table.put_cell.Goals as goal
+use Rattle.og_report_html.proofs.table.Disturbances.put_cell.Goals as goal
 
 pub returns : goal.returns
 returns c =
@@ -14,8 +14,8 @@ returns c =
     let t1 = c.extend_from_slice.new.self.items in
     let t2 = c.put_share.new.text.items in
     let a1 = codes "<td>" in
-    let a2 = share_text finding.False (filter (is_on c.args.process) c.args.disturbances.wrong.now) in
-    let a3 = share_text finding.Open (filter (is_on c.args.process) c.args.disturbances.unknown.now) in
+    let a2 = share_text finding.False (filter (is_on c.args.process) c.args.self.now.wrong.now) in
+    let a3 = share_text finding.Open (filter (is_on c.args.process) c.args.self.now.unknown.now) in
     let e1 : t1 ≡ t0 ++ a1 = c.in_ok-extend_from_slice.ensures.items in
     let e2 : t2 ≡ t1 ++ a2 = c.in_ok-put_share.ensures ∙ ap (λ (l : List Disturbance). t1 ++ share_text finding.False l) (c.deref.ensures.value ∙ c.in_ok-wrong.ensures) in
     let e3 : OnOk r (c.put_share-2.new.text.items ≡ t2 ++ a3) =
