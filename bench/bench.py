@@ -63,6 +63,12 @@ def certificates(listing):
     return "\n".join(lines) + "\n"
 
 
+def first_wrong(certs):
+    """Certificates whose first one closes by an assumption that is no contradiction; the others stay."""
+    first, others = certs.split("cond 2\n", 1)
+    return first[: first.index("close ")] + "close 1*1\ncond 2\n" + others
+
+
 def long_certificates(size):
     """A text of certificates of about this size."""
     entry = "split 1 2\nsum 9223372036854775807*1 12345*l0 1*u0\nclose 1*2 1*3\nbranch -5 1*v0 -7*v1\nclose 1*2\nclose 1*3\n"
@@ -123,11 +129,14 @@ def main():
         source = write(folder, "x%d.og" % processes, outline(processes))
         listing, _ = run([program, "conditions", source])
         count = listing.count(b"cond ")
-        certs = write(folder, "x%d.cert" % processes, certificates(listing.decode()))
+        text = certificates(listing.decode())
+        certs = write(folder, "x%d.cert" % processes, text)
+        wrong = write(folder, "wrong%d.cert" % processes, first_wrong(text))
         measure("listing of %d conditions" % count, [program, "conditions", source])
         for workers in (1, 2, 4):
             words = [program, "check", source, certs, "--workers", str(workers)]
             measure("check of %d conditions, workers: %d" % (count, workers), words)
+        measure("check of %d conditions, the first one wrong" % count, [program, "check", source, wrong])
     source = write(folder, "many.og", outline(100, note="x >= 0 and x >= -100 and x >= -200"))
     for form in ([], ["--triples"], ["--smt2"]):
         words = [program, "conditions", source] + form

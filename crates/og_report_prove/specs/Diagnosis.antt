@@ -34,7 +34,7 @@ AreDiagnoses o [] (t ∷ ts) = ⊥
 AreDiagnoses o (c ∷ cs) [] = ⊥
 AreDiagnoses o (c ∷ cs) (t ∷ ts) = IsDiagnosis o c t × AreDiagnoses o cs ts
 
--- false with this block, or open where there is no explanation; want of memory gives no finding
+-- false with this block, or open where there is no explanation; refused memory gives no finding
 abbrev pub IsOfBlock : Result Block Unexplained → Diagnosis → Type 0
 IsOfBlock (Ok block) t = t ≡ diagnosis.False block
 IsOfBlock (Err unexplained.Open) t = t ≡ diagnosis.Open
