@@ -1,13 +1,13 @@
 -- Loops over what is declared.
-use Rattle.std.proofs.Common.{◌≡◌, ℕ, ◌+◌, ◌<◌, ℤ, List, ◌∷◌, ◌++◌, Ok, Err, length, map, drop, get_or, [], refl, sym, subst, ap, ◌∙◌, append_assoc}
-use Rattle.std.proofs.lemmas.List.{append-nil}
+use Rattle.std.proofs.Common.{◌≡◌, ℕ, ◌+◌, ◌<◌, ℤ, List, ◌∷◌, ◌++◌, Ok, Err, length, map, drop, get_or, refl, sym, ap, ◌∙◌, append_assoc}
+use Rattle.og_parse.specs.declared.raw.RawName.{RawName}
+use Rattle.og_parse.specs.declared.raw.RawAux.{RawAux}
 use Rattle.og_template_expand.specs.Trees as template
 use Rattle.og_template_expand.specs.Answer.{Checked, ◌>>=◌}
-use Rattle.og_template_expand.specs.Scope.{Bound, Names, Value, declared_with}
-use Rattle.og_template_expand.specs.Outline.{constant_as, constants_in, given_to}
-use Rattle.og_template_expand.specs.declared.fault.Stop.{Stop}
-use Rattle.og_template_expand.specs.Scoped.{FailsAs}
-use Rattle.og_template_expand.proofs.Lists.{drop_next, fails_then}
+use Rattle.og_template_expand.specs.Scope.{Bound, Names, Meaning, Value, declared_with}
+use Rattle.og_template_expand.specs.Values.{value_of}
+use Rattle.og_template_expand.specs.Outline.{top, constant_as, constants_in, given_to, variables_of, variables_in, auxiliary, auxiliaries_in}
+use Rattle.og_template_expand.proofs.Lists.{drop_next}
 
 -- what is listed after others
 abbrev pub listed_behind : {X : Type 0} → List X → Checked (Names × List X) → Checked (Names × List X)
@@ -17,41 +17,44 @@ regroup : {X : Type 0} (xs ys : List X) (answer : Checked (Names × List X)) →
 regroup xs ys (Ok r) = ap (λ l. Ok (r.0, l)) (sym (append_assoc xs ys r.1))
 regroup xs ys (Err f) = refl
 
--- what is made of a list is what is made of its first part and then of the others
-abbrev pub More : {X R : Type 0} → (R → Names → Checked (Names × List X)) → (Names → List R → Checked (Names × List X)) → Type 0
-More {X} {R} declares all = (names : Names) (r : R) (rs : List R) → all names (r ∷ rs) ≡ (declares r names >>= λ own. all own.0 rs >>= λ rest. Ok (rest.0, own.1 ++ rest.1))
+-- an auxiliary or a family of them more
+one_more : (names next : Names) (out new : List RawAux) (a : template.Auxiliary) (others : List template.Auxiliary) (own : List RawName × Meaning) (value : ℤ) → variables_of names a.name a.family ≡ Ok own → value_of (top names) a.value ≡ Ok value → declared_with a.name.name own.1 names ≡ next → new ≡ out ++ map (auxiliary value) own.0
+    → listed_behind out (auxiliaries_in names (a ∷ others)) ≡ listed_behind new (auxiliaries_in next others)
+one_more names next out new a others own value is_own is_value is_next made =
+    ap (λ (o : Checked (List RawName × Meaning)). listed_behind out (o >>= λ x. value_of (top names) a.value >>= λ v. auxiliaries_in (declared_with a.name.name x.1 names) others >>= λ rest. Ok (rest.0, map (auxiliary v) x.0 ++ rest.1))) is_own
+    ∙ ap (λ (o : Checked ℤ). listed_behind out (o >>= λ v. auxiliaries_in (declared_with a.name.name own.1 names) others >>= λ rest. Ok (rest.0, map (auxiliary v) own.0 ++ rest.1))) is_value
+    ∙ ap (λ n. listed_behind out (auxiliaries_in n others >>= λ rest. Ok (rest.0, map (auxiliary value) own.0 ++ rest.1))) is_next
+    ∙ regroup out (map (auxiliary value) own.0) (auxiliaries_in next others)
+    ∙ ap (λ l. listed_behind l (auxiliaries_in next others)) (sym made)
 
--- a turn of the loop over parts
-pub declared_turn : {X R : Type 0} (declares : R → Names → Checked (Names × List X)) (all : Names → List R → Checked (Names × List X)) → More declares all → (names next : Names) (out new own : List X) (rs : List R) (i : ℕ) (x : R) (total : Checked (Names × List X)) → i < length rs → x ≡ get_or rs i x
-    → declares x names ≡ Ok (next, own) → new ≡ out ++ own
-    → listed_behind out (all names (drop i rs)) ≡ total → listed_behind new (all next (drop (i + 1) rs)) ≡ total
-declared_turn {X} declares all more names next out new own rs i x total h is made put inv =
-    let rest = drop (i + 1) rs in
-    sym (ap (listed_behind out) (more names x rest)
-    ∙ ap (λ (o : Checked (Names × List X)). listed_behind out (o >>= λ own. all own.0 rest >>= λ later. Ok (later.0, own.1 ++ later.1))) made
-    ∙ regroup out own (all next rest)
-    ∙ ap (λ l. listed_behind l (all next rest)) (sym put))
-    ∙ ap (λ y. listed_behind out (all names (y ∷ rest))) is
-    ∙ ap (λ l. listed_behind out (all names l)) (sym (drop_next rs i x h))
+-- a turn of the loop over auxiliaries
+pub auxiliaries_turn : {R : Type 0} (tree : R → template.Auxiliary) (names next : Names) (out new : List RawAux) (all : List R) (i : ℕ) (x : R) (own : List RawName × Meaning) (value : ℤ) (total : Checked (Names × List RawAux)) → i < length all → x ≡ get_or all i x
+    → variables_of names (tree x).name (tree x).family ≡ Ok own → value_of (top names) (tree x).value ≡ Ok value → declared_with (tree x).name.name own.1 names ≡ next → new ≡ out ++ map (auxiliary value) own.0
+    → listed_behind out (auxiliaries_in names (map tree (drop i all))) ≡ total → listed_behind new (auxiliaries_in next (map tree (drop (i + 1) all))) ≡ total
+auxiliaries_turn tree names next out new all i x own value total h is is_own is_value is_next made inv =
+    sym (one_more names next out new (tree x) (map tree (drop (i + 1) all)) own value is_own is_value is_next made)
+    ∙ ap (λ y. listed_behind out (auxiliaries_in names (tree y ∷ map tree (drop (i + 1) all)))) is
+    ∙ ap (λ l. listed_behind out (auxiliaries_in names (map tree l))) (sym (drop_next all i x h))
     ∙ inv
 
--- a turn that fails
-pub declared_stops : {X R : Type 0} (declares : R → Names → Checked (Names × List X)) (all : Names → List R → Checked (Names × List X)) → More declares all → (e : Stop) (names : Names) (out : List X) (rs : List R) (i : ℕ) (x : R) (total : Checked (Names × List X)) → i < length rs → x ≡ get_or rs i x
-    → FailsAs e (declares x names) → listed_behind out (all names (drop i rs)) ≡ total → FailsAs e total
-declared_stops {X} declares all more e names out rs i x total h is fails inv =
-    let rest = drop (i + 1) rs in
-    subst (FailsAs e)
-    (sym (ap (listed_behind out) (more names x rest))
-    ∙ ap (λ y. listed_behind out (all names (y ∷ rest))) is
-    ∙ ap (λ l. listed_behind out (all names l)) (sym (drop_next rs i x h))
-    ∙ inv)
-    (fails_then e (declares x names >>= λ own. all own.0 rest >>= λ later. Ok (later.0, own.1 ++ later.1)) (λ later. Ok (later.0, out ++ later.1))
-    (fails_then e (declares x names) (λ own. all own.0 rest >>= λ later. Ok (later.0, own.1 ++ later.1)) fails))
+-- a variable or a family more
+one_variable : (names next : Names) (out new : List RawName) (v : template.Variable) (others : List template.Variable) (own : List RawName × Meaning) → variables_of names v.name v.family ≡ Ok own → declared_with v.name.name own.1 names ≡ next → new ≡ out ++ own.0
+    → listed_behind out (variables_in names (v ∷ others)) ≡ listed_behind new (variables_in next others)
+one_variable names next out new v others own is_own is_next made =
+    ap (λ (o : Checked (List RawName × Meaning)). listed_behind out (o >>= λ x. variables_in (declared_with v.name.name x.1 names) others >>= λ rest. Ok (rest.0, x.0 ++ rest.1))) is_own
+    ∙ ap (λ n. listed_behind out (variables_in n others >>= λ rest. Ok (rest.0, own.0 ++ rest.1))) is_next
+    ∙ regroup out own.0 (variables_in next others)
+    ∙ ap (λ l. listed_behind l (variables_in next others)) (sym made)
 
--- the end of the loop
-pub declared_end : {X R : Type 0} (all : Names → List R → Checked (Names × List X)) → ((names : Names) → all names [] ≡ Ok (names, [])) → (names : Names) (out : List X) (rs : List R) (i : ℕ) (total : Checked (Names × List X)) → drop i rs ≡ [] → listed_behind out (all names (drop i rs)) ≡ total → total ≡ Ok (names, out)
-declared_end all none names out rs i total past inv =
-    sym inv ∙ ap (λ l. listed_behind out (all names l)) past ∙ ap (listed_behind out) (none names) ∙ ap (λ l. Ok (names, l)) (append-nil out)
+-- a turn of the loop over variables
+pub variables_turn : {R : Type 0} (tree : R → template.Variable) (names next : Names) (out new : List RawName) (all : List R) (i : ℕ) (x : R) (own : List RawName × Meaning) (total : Checked (Names × List RawName)) → i < length all → x ≡ get_or all i x
+    → variables_of names (tree x).name (tree x).family ≡ Ok own → declared_with (tree x).name.name own.1 names ≡ next → new ≡ out ++ own.0
+    → listed_behind out (variables_in names (map tree (drop i all))) ≡ total → listed_behind new (variables_in next (map tree (drop (i + 1) all))) ≡ total
+variables_turn tree names next out new all i x own total h is is_own is_next made inv =
+    sym (one_variable names next out new (tree x) (map tree (drop (i + 1) all)) own is_own is_next made)
+    ∙ ap (λ y. listed_behind out (variables_in names (tree y ∷ map tree (drop (i + 1) all)))) is
+    ∙ ap (λ l. listed_behind out (variables_in names (map tree l))) (sym (drop_next all i x h))
+    ∙ inv
 
 -- a turn of the loop over constants
 pub constants_turn : {R : Type 0} (tree : R → template.Constant) (values : List Bound) (names next : Names) (all : List R) (i : ℕ) (x : R) (value : ℤ) (total : Checked Names) → i < length all → x ≡ get_or all i x

@@ -12,4 +12,3 @@ pub mod Put
 pub mod Statements
 pub mod WholeOf
 pub mod Outline
-pub mod Declaring

@@ -1,11 +1,10 @@
 //! What a template declares.
 
 ghost use Rattle.std.specs.Prelude.{◌≡◌, [], ◌∷◌, map, option_map, IfOk};
-ghost use Rattle.og_template_expand.specs.Declaring as declaring;
 ghost use Rattle.og_template_expand.specs.Outline as meaning;
 ghost use Rattle.og_template_expand.specs.Scoped.{IsExpanded, binding_of, range_of, meaning_of, names_of};
 ghost use Rattle.og_template_expand.specs.TreeOf.{bounds_of, definition_of, expression_of};
-ghost use Rattle.og_template_expand.specs.WholeOf.{constant_of};
+ghost use Rattle.og_template_expand.specs.WholeOf.{constant_of, variable_of, auxiliary_of};
 
 use crate::binders::{numbers, range};
 use crate::expander::{Expander, element_name, same_name};
@@ -108,6 +107,24 @@ fn variables_of<'a>(
     }
 }
 
+/// Declares variables and families; the names of the variables.
+pub(crate) fn declare_variables<'a>(
+    names: &mut Names<'a>,
+    work: &mut Expander<'_>,
+    variables: &'a [Variable],
+) -> Result<Vec<RawName>, Stop>
+    ensures { IsExpanded (λ v. (names_of names.new, v.items)) result
+        (meaning.variables_in (names_of names.old) (map variable_of variables.now)) }
+{
+    let mut all = Vec::new(work.alloc);
+    for variable in variables {
+        let (mut own, means) = variables_of(names, work, &variable.name, &variable.family)?;
+        names.declare(&variable.name, means)?;
+        all.append(&mut own)?;
+    }
+    Ok(all)
+}
+
 // Auxiliary variables of these names with one value.
 fn with_value(alloc: Global, names: &[RawName], value: i64) -> Result<Vec<RawAux>, AllocError>
     ensures { IfOk result (λ v. v.items ≡ map (meaning.auxiliary value) names.now) }
@@ -123,89 +140,21 @@ fn with_value(alloc: Global, names: &[RawName], value: i64) -> Result<Vec<RawAux
     Ok(all)
 }
 
-/// What declares variables of an outline.
-pub(crate) trait Declared {
-    ghost use Rattle.std.specs.Prelude.{◌≡◌, List, [], ◌∷◌, ◌++◌, Ok};
-    ghost use Rattle.og_template_expand.specs.Answer.{Checked, ◌>>=◌};
-    ghost use Rattle.og_template_expand.specs.Scope as scopes;
-    ghost use Rattle.og_template_expand.specs.Scoped.{IsExpanded, names_of};
-
-    /// What the outline has of a variable.
-    type Made: Drop;
-
-    /// The names with those that it declares, and the variables.
-    ghost declares: { Self → scopes.Names → Checked (scopes.Names × List Self.Made) };
-
-    /// The same of a list.
-    ghost all_declare: { scopes.Names → List Self
-        → Checked (scopes.Names × List Self.Made) };
-
-    /// Adds its variables to the names, and returns them.
-    fn add<'a>(
-        &'a self,
-        names: &mut Names<'a>,
-        work: &mut Expander,
-    ) -> Result<Vec<Self::Made>, Stop>
-        ensures { IsExpanded (λ v. (names_of names.new, v.items)) result
-            (declares self.now (names_of names.old)) };
-
-    ghost none: { (names : scopes.Names) → all_declare names [] ≡ Ok (names, []) };
-
-    ghost more: { (names : scopes.Names) (one : Self) (others : List Self)
-        → all_declare names (one ∷ others) ≡ (declares one names >>= λ own.
-        all_declare own.0 others >>= λ rest. Ok (rest.0, own.1 ++ rest.1)) };
-}
-
-impl Declared for Variable {
-    type Made = RawName;
-
-    ghost declares = { declaring.variable_declares };
-
-    ghost all_declare = { declaring.variables_declare };
-
-    fn add<'a>(&'a self, names: &mut Names<'a>, work: &mut Expander) -> Result<Vec<RawName>, Stop> {
-        let declared = variables_of(names, work, &self.name, &self.family)?;
-        names.declare(&self.name, declared.1)?;
-        Ok(declared.0)
-    }
-
-    ghost none = { declaring.variables_none };
-
-    ghost more = { declaring.variables_more };
-}
-
-impl Declared for Auxiliary {
-    type Made = RawAux;
-
-    ghost declares = { declaring.auxiliary_declares };
-
-    ghost all_declare = { declaring.auxiliaries_declare };
-
-    fn add<'a>(&'a self, names: &mut Names<'a>, work: &mut Expander) -> Result<Vec<RawAux>, Stop> {
-        let (own, means) = variables_of(names, work, &self.name, &self.family)?;
-        let value = value(&Scope::new(work.alloc, names), work, &self.value)?;
-        let made = with_value(work.alloc, &own, value)?;
-        names.declare(&self.name, means)?;
-        Ok(made)
-    }
-
-    ghost none = { declaring.auxiliaries_none };
-
-    ghost more = { declaring.auxiliaries_more };
-}
-
-/// Declares the variables of all, from the left, and returns them.
-pub(crate) fn declare_all<'a, D: Declared>(
+/// Declares auxiliary variables and families of them; the variables with their values.
+pub(crate) fn declare_auxiliaries<'a>(
     names: &mut Names<'a>,
     work: &mut Expander<'_>,
-    parts: &'a [D],
-) -> Result<Vec<D::Made>, Stop>
+    auxiliaries: &'a [Auxiliary],
+) -> Result<Vec<RawAux>, Stop>
     ensures { IsExpanded (λ v. (names_of names.new, v.items)) result
-        (D.all_declare (names_of names.old) parts.now) }
+        (meaning.auxiliaries_in (names_of names.old) (map auxiliary_of auxiliaries.now)) }
 {
     let mut all = Vec::new(work.alloc);
-    for part in parts {
-        let mut own = part.add(names, work)?;
+    for auxiliary in auxiliaries {
+        let (own, means) = variables_of(names, work, &auxiliary.name, &auxiliary.family)?;
+        let value = value(&Scope::new(work.alloc, names), work, &auxiliary.value)?;
+        let mut own = with_value(work.alloc, &own, value)?;
+        names.declare(&auxiliary.name, means)?;
         all.append(&mut own)?;
     }
     Ok(all)

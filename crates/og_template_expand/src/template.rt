@@ -8,7 +8,9 @@ ghost use Rattle.og_template_expand.specs.Scoped.{IsExpanded, binding_of, scope_
 ghost use Rattle.og_template_expand.specs.TreeOf.{binder_of, sequence_of};
 ghost use Rattle.og_template_expand.specs.WholeOf.{process_of, template_of};
 
-use crate::declarations::{declare_all, declare_constants, declare_named};
+use crate::declarations::{
+    declare_auxiliaries, declare_constants, declare_named, declare_variables,
+};
 use crate::expander::Expander;
 use crate::fault::{Stop, fault};
 use crate::origin::{Binding, Origin};
@@ -131,8 +133,8 @@ fn whole<'a>(
 {
     let mut names = Names::new(work.alloc);
     declare_constants(&mut names, work, values, &template.constants)?;
-    let vars = declare_all(&mut names, work, &template.variables)?;
-    let auxes = declare_all(&mut names, work, &template.auxiliaries)?;
+    let vars = declare_variables(&mut names, work, &template.variables)?;
+    let auxes = declare_auxiliaries(&mut names, work, &template.auxiliaries)?;
     declare_named(&mut names, &template.named)?;
     outline(&Scope::new(work.alloc, &names), work, template, vars, auxes)
 }
