@@ -6,7 +6,7 @@ use Rattle.og_template_expand.proofs.repeated.all_made.Goals as goal
 
 pub loop-part-preserved : goal.loop-part-preserved
 loop-part-preserved g c =
-    let each = λ r. repeated_by (scope_of c.args.scope.now) (g.R.Repeated.binds r) (g.R.Repeated.means r) in
+    let each = λ (r : g.row.R.Denot). repeated_by (scope_of c.args.scope.now) (g.R.Repeated.binds r) (g.R.Repeated.means r) in
     let x = c.part-item.result in
     gathered_turn each (map g.R.Repeated.view c.loop-part.all.items) (map g.R.Repeated.view c.put.new.all.items) c.args.parts.now c.loop-part.part-index x x _
     c.loop-part-test.true c.part-item.is c.in_ok-put.ensures c.loop-part.invariant

@@ -12,6 +12,7 @@ use Rattle.og_parse.specs.Trees as outlines
 use Rattle.og_template.specs.declared.tree.Step as declared_step
 use Rattle.og_template.specs.declared.tree.Statement.TheViews.{out-Sequence}
 use Rattle.og_template.specs.declared.tree.Statement.TheFolds.{fold_out-Sequence}
+use Rattle.og_template_expand.specs.declared.prefix.Prefix.{Prefix}
 use Rattle.og_template_expand.specs.Answer.{Checked, ◌>>=◌}
 use Rattle.og_template_expand.specs.Put.{front_of, with_steps, onto}
 use Rattle.og_template_expand.specs.Ranges.{instances, instance_of, entered}
@@ -24,22 +25,7 @@ use Rattle.og_template_expand.proofs.Entering.{entered_in, passed_in, enter_fail
 use Rattle.og_template_expand.proofs.Put.{turn, steps_turn, nothing_left, some_left}
 use Rattle.og_template_expand.proofs.Trees.{tree_for}
 use Rattle.og_template_expand.proofs.statements.+sequences.Goals as goal
-
-pub put_repeated-loop-value-preserved-in-Some : goal.put_repeated-loop-value-preserved-in-Some
-put_repeated-loop-value-preserved-in-Some t c =
-    let scope = scope_of c.args.scope.now in
-    let binder = binder_of c.args.binder.now in
-    let body = λ (s : Scope). meaning.steps_of s (steps_then (map step_of c.args.steps.now)) in
-    let each = instance_of scope binder body in
-    let values = c.deref-value-items.result.now in
-    let i = c.loop-value.value-index in
-    let fit : SFits w64 (get_or values i (pos 0)) = search rules in
-    let x = to_z w64 (of_z w64 (get_or values i (pos 0))) in
-    let out = front_of c.loop-value.prefix in
-    let new = front_of c.put_steps.new.prefix in
-    let is : entered scope binder x ≡ Ok (Some (scope_of c.in-Some.inner)) = rw c.in-Some.is at c.in_ok-inner.ensures in
-    let made : onto out (each x) ≡ Ok new = entered_in scope binder body x (λ steps. Ok (with_steps out steps)) (Ok new) (scope_of c.in-Some.inner) is c.in_ok-put_steps.ensures in
-    turn each out new values i (pos 0) x _ c.loop-value-test.true (to_z-of_z w64 _ fit) made c.loop-value.invariant
+use Rattle.og_template_expand.proofs.statements.+sequences.Goals.{put_repeated-in-Some+in_ok-put_steps, put_repeated-in_default}
 
 pub put_repeated-loop-value-preserved : goal.put_repeated-loop-value-preserved
 put_repeated-loop-value-preserved t c =
@@ -52,9 +38,15 @@ put_repeated-loop-value-preserved t c =
     let fit : SFits w64 (get_or values i (pos 0)) = search rules in
     let x = to_z w64 (of_z w64 (get_or values i (pos 0))) in
     let out = front_of c.loop-value.prefix in
-    let is : entered scope binder x ≡ Ok None = rw c.in_default.is at c.in_ok-inner.ensures in
-    let made : onto out (each x) ≡ Ok out = passed_in scope binder body x (λ steps. Ok (with_steps out steps)) (Ok out) is refl in
-    turn each out out values i (pos 0) x _ c.loop-value-test.true (to_z-of_z w64 _ fit) made c.loop-value.invariant
+    let made : onto out (each x) ≡ Ok (front_of c.match-branch-3.prefix) = elim c.match-branch-3.branch [
+      | put_repeated-in-Some+in_ok-put_steps w ↦
+          let is : entered scope binder x ≡ Ok (Some (scope_of w.in-Some.inner)) = rw w.in-Some.is at c.in_ok-inner.ensures in
+          subst (λ (p : Prefix). onto out (each x) ≡ Ok (front_of p)) (sym w.prefix-is) (entered_in scope binder body x (λ steps. Ok (with_steps out steps)) (Ok (front_of w.put_steps.new.prefix)) (scope_of w.in-Some.inner) is w.in_ok-put_steps.ensures)
+      | put_repeated-in_default w ↦
+          let is : entered scope binder x ≡ Ok None = rw w.in_default.is at c.in_ok-inner.ensures in
+          subst (λ (p : Prefix). onto out (each x) ≡ Ok (front_of p)) (sym w.prefix-is) (passed_in scope binder body x (λ steps. Ok (with_steps out steps)) (Ok out) is refl)
+    ] in
+    turn each out (front_of c.match-branch-3.prefix) values i (pos 0) x _ c.loop-value-test.true (to_z-of_z w64 _ fit) made c.loop-value.invariant
 
 pub put_step-returns-in-For : goal.put_step-returns-in-For
 put_step-returns-in-For t c =
@@ -104,4 +96,4 @@ sequence-returns t c =
     ap (meaning.sequence_of scope) tree
     ∙ ap (λ (a : Checked outlines.Note). a >>= λ b. meaning.steps_of scope steps >>= λ all. meaning.sequence_with raw.before.span b all) c.in_ok-last.ensures
     ∙ some_left raw.before.span (outline.note_of c.in_ok-last.last) (meaning.steps_of scope steps) items (outline.note_of c.put_steps.new.prefix.last) some made
-    ∙ ap Ok (sym (fold-roll-RawSeq outlines.Stmt outline.Item outlines.Seq outline.stmt_step outline.item_step outline.seq_step (record { items = c.put_steps.new.items; last = c.put_steps.new.prefix.last })))
+    ∙ ap Ok (sym (fold-roll-RawSeq outlines.Stmt outline.Item outlines.Seq outline.stmt_step outline.item_step outline.seq_step (record { items = c.put_steps.new.prefix.items; last = c.put_steps.new.prefix.last })))

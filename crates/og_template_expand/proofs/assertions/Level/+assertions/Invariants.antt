@@ -8,49 +8,49 @@ use Rattle.og_template_expand.specs.TreeOf.{binder_of, unit_of, conjunction_of, 
 use Rattle.og_template_expand.proofs.assertions.Level.+assertions.Given as goal
 
 abbrev pub decreases-deeper : goal.decreases-deeper
-decreases-deeper l = 13 * l.self.levels + 0
+decreases-deeper l = 13 * l.self.now.levels + 0
 
 abbrev pub decreases-implied : goal.decreases-implied
-decreases-implied l = 13 * l.self.levels + 0
+decreases-implied l = 13 * l.self.now.levels + 0
 
 abbrev pub decreases-unit : goal.decreases-unit
-decreases-unit l = 13 * l.self.levels + 1
+decreases-unit l = 13 * l.self.now.levels + 1
 
 abbrev pub decreases-conjuncts : goal.decreases-conjuncts
-decreases-conjuncts l = 13 * l.self.levels + 2
+decreases-conjuncts l = 13 * l.self.now.levels + 2
 
 abbrev pub decreases-conjunction : goal.decreases-conjunction
-decreases-conjunction l = 13 * l.self.levels + 3
+decreases-conjunction l = 13 * l.self.now.levels + 3
 
 abbrev pub decreases-disjuncts : goal.decreases-disjuncts
-decreases-disjuncts l = 13 * l.self.levels + 4
+decreases-disjuncts l = 13 * l.self.now.levels + 4
 
 abbrev pub decreases-disjunction : goal.decreases-disjunction
-decreases-disjunction l = 13 * l.self.levels + 5
+decreases-disjunction l = 13 * l.self.now.levels + 5
 
 abbrev pub decreases-implies : goal.decreases-implies
-decreases-implies l = 13 * l.self.levels + 6
+decreases-implies l = 13 * l.self.now.levels + 6
 
 abbrev pub decreases-assertion : goal.decreases-assertion
-decreases-assertion l = 13 * l.self.levels + 7
+decreases-assertion l = 13 * l.self.now.levels + 7
 
 abbrev pub decreases-used : goal.decreases-used
-decreases-used l = 13 * l.self.levels + 8
+decreases-used l = 13 * l.self.now.levels + 8
 
 abbrev pub decreases-negation : goal.decreases-negation
-decreases-negation l = 13 * l.self.levels + 8
+decreases-negation l = 13 * l.self.now.levels + 8
 
 abbrev pub decreases-put_instance : goal.decreases-put_instance
-decreases-put_instance l = 13 * l.self.levels + 8
+decreases-put_instance l = 13 * l.self.now.levels + 8
 
 abbrev pub decreases-instances_of : goal.decreases-instances_of
-decreases-instances_of l = 13 * l.self.levels + 9
+decreases-instances_of l = 13 * l.self.now.levels + 9
 
 abbrev pub decreases-quantified : goal.decreases-quantified
-decreases-quantified l = 13 * l.self.levels + 10
+decreases-quantified l = 13 * l.self.now.levels + 10
 
 abbrev pub decreases-opened : goal.decreases-opened
-decreases-opened l = 13 * l.self.levels + 11
+decreases-opened l = 13 * l.self.now.levels + 11
 
 abbrev pub invariant-instances_of-loop-value : goal.invariant-instances_of-loop-value
 invariant-instances_of-loop-value l =

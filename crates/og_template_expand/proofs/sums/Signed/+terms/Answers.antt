@@ -16,22 +16,7 @@ use Rattle.og_template_expand.proofs.Entering.{entered_in, passed_in, enter_fail
 use Rattle.og_template_expand.proofs.Lists.{gathered_turn, gathered_stops, failed, fails_then}
 use Rattle.og_template_expand.proofs.Trees.{tree_total}
 use Rattle.og_template_expand.proofs.sums.Signed.+terms.Goals as goal
-
-pub instances_of-loop-value-preserved-in-Some : goal.instances_of-loop-value-preserved-in-Some
-instances_of-loop-value-preserved-in-Some t c =
-    let scope = scope_of c.args.self.now.scope.now in
-    let binder = binder_of c.args.binder.now in
-    let body = λ (s : Scope). sums.terms_of s c.args.self.now.sign (terms_then (map signed_of c.args.terms.now)) in
-    let each = instance_of scope binder body in
-    let values = c.deref-value-items.result.now in
-    let i = c.loop-value.value-index in
-    let fit : SFits w64 (get_or values i (pos 0)) = search rules in
-    let x = to_z w64 (of_z w64 (get_or values i (pos 0))) in
-    let out = c.loop-value.all.items in
-    let new = c.put_terms.new.all.items in
-    let is : entered scope binder x ≡ Ok (Some (scope_of c.in-Some.inner)) = rw c.in-Some.is at c.in_ok-inner.ensures in
-    let made : behind out (each x) ≡ Ok new = entered_in scope binder body x (λ ys. Ok (out ++ ys)) (Ok new) (scope_of c.in-Some.inner) is c.in_ok-put_terms.ensures in
-    gathered_turn each out new values i (pos 0) x _ c.loop-value-test.true (to_z-of_z w64 _ fit) made c.loop-value.invariant
+use Rattle.og_template_expand.proofs.sums.Signed.+terms.Goals.{instances_of-in-Some+in_ok-put_terms, instances_of-in_default}
 
 pub instances_of-loop-value-preserved : goal.instances_of-loop-value-preserved
 instances_of-loop-value-preserved t c =
@@ -44,9 +29,15 @@ instances_of-loop-value-preserved t c =
     let fit : SFits w64 (get_or values i (pos 0)) = search rules in
     let x = to_z w64 (of_z w64 (get_or values i (pos 0))) in
     let out = c.loop-value.all.items in
-    let is : entered scope binder x ≡ Ok None = rw c.in_default.is at c.in_ok-inner.ensures in
-    let made : behind out (each x) ≡ Ok out = passed_in scope binder body x (λ ys. Ok (out ++ ys)) (Ok out) is (ap Ok (append-nil out)) in
-    gathered_turn each out out values i (pos 0) x _ c.loop-value-test.true (to_z-of_z w64 _ fit) made c.loop-value.invariant
+    let made : behind out (each x) ≡ Ok c.match-branch-3.all.items = elim c.match-branch-3.branch [
+      | instances_of-in-Some+in_ok-put_terms w ↦
+          let is : entered scope binder x ≡ Ok (Some (scope_of w.in-Some.inner)) = rw w.in-Some.is at c.in_ok-inner.ensures in
+          subst (λ (v : Vec RawTerm Global). behind out (each x) ≡ Ok v.items) (sym w.all-is) (entered_in scope binder body x (λ ys. Ok (out ++ ys)) (Ok w.put_terms.new.all.items) (scope_of w.in-Some.inner) is w.in_ok-put_terms.ensures)
+      | instances_of-in_default w ↦
+          let is : entered scope binder x ≡ Ok None = rw w.in_default.is at c.in_ok-inner.ensures in
+          subst (λ (v : Vec RawTerm Global). behind out (each x) ≡ Ok v.items) (sym w.all-is) (passed_in scope binder body x (λ ys. Ok (out ++ ys)) (Ok out) is (ap Ok (append-nil out)))
+    ] in
+    gathered_turn each out c.match-branch-3.all.items values i (pos 0) x _ c.loop-value-test.true (to_z-of_z w64 _ fit) made c.loop-value.invariant
 
 pub instances_of-returns-in_err-inner : goal.instances_of-returns-in_err-inner
 instances_of-returns-in_err-inner t c =
