@@ -1,11 +1,9 @@
 -- The facts that a replay holds.
-use Rattle.std.specs.Prelude.{List, [], ◌∷◌, map}
+use Rattle.std.specs.Prelude.{List, map}
 use Rattle.og_facts.specs.Facts.{Fact, Atom}
 use Rattle.og_facts.specs.Plain.{plain_fact}
 use Rattle.og_cert.specs.declared.held.Held.{Held}
 use Rattle.og_cert.specs.declared.held.Held.TheVariants as held
-use Rattle.og_cert.specs.declared.held.More.{More}
-use Rattle.og_cert.specs.declared.held.More.TheVariants as more
 
 abbrev pub held_fact : Held → Fact
 held_fact (held.Given f) = plain_fact f.now
@@ -13,8 +11,3 @@ held_fact (held.Made g) = Atom g
 
 abbrev pub facts_held : List Held → List Fact
 facts_held = map held_fact
-
--- those of a certificate within another one
-abbrev pub more_facts : More → List Fact
-more_facts (more.Made g) = Atom g ∷ []
-more_facts (more.Given fs) = map plain_fact fs.now

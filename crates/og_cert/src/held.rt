@@ -4,7 +4,7 @@ ghost use Rattle.std.specs.Prelude.{◌≡◌, ◌++◌, ◌∷◌, [], map, tak
 ghost use Rattle.og_facts.specs.Facts as plain;
 ghost use Rattle.og_facts.specs.Plain.{plain_fact};
 ghost use Rattle.og_cert.specs.Checks as check;
-ghost use Rattle.og_cert.specs.Held.{held_fact, facts_held, more_facts};
+ghost use Rattle.og_cert.specs.Held.{held_fact, facts_held};
 
 use crate::fault::FaultKind;
 use og_facts::{Atom, FACT_LIMIT, Fact};
@@ -20,17 +20,11 @@ pub(crate) enum Held<'a, 'c> {
     Made(Atom<'c>),
 }
 
-/// The facts that a certificate within another one has besides.
-#[derive(Drop)]
-pub(crate) enum More<'a, 'c> {
-    /// The form is at most 0.
-    Made(Form),
-    /// The facts of a part.
-    Given(&'a [Fact<'c>]),
-}
-
 // These facts, at the end.
-fn hold_all<'a, 'c>(held: &mut Vec<Held<'a, 'c>>, facts: &'a [Fact<'c>]) -> Result<(), AllocError>
+pub(crate) fn hold_all<'a, 'c>(
+    held: &mut Vec<Held<'a, 'c>>,
+    facts: &'a [Fact<'c>],
+) -> Result<(), AllocError>
     ensures added { OnOk result (facts_held held.new.items ≡ facts_held held.old.items
         ++ map plain_fact facts.now) }
     ensures kept { OnOk result (take (length held.old.items) held.new.items ≡ held.old.items) }
@@ -50,21 +44,6 @@ pub(crate) fn hold_made(held: &mut Vec<Held>, form: Form) -> Result<(), AllocErr
     let atom = Atom::own(*held.allocator(), form)?;
     held.push(Held::Made(atom))?;
     Ok(())
-}
-
-// The facts of the certificate within, at the end.
-pub(crate) fn hold_more<'a, 'c>(
-    held: &mut Vec<Held<'a, 'c>>,
-    more: More<'a, 'c>,
-) -> Result<(), AllocError>
-    ensures added { OnOk result (facts_held held.new.items ≡ facts_held held.old.items
-        ++ more_facts more.entry) }
-    ensures kept { OnOk result (take (length held.old.items) held.new.items ≡ held.old.items) }
-{
-    match more {
-        More::Made(form) => hold_made(held, form),
-        More::Given(facts) => hold_all(held, facts),
-    }
 }
 
 // Whether there is room for this many more facts.

@@ -1,7 +1,7 @@
 //! Replay: each line of a certificate is checked over the facts that are held there.
 
-ghost use Rattle.std.specs.Prelude.{◌≡◌, ◌+◌, ◌++◌, map, take, length, IfOk, IfErr, OnOk, OnErr, IsErrOf, Ok, Err, Result};
-ghost use Rattle.og_facts.specs.Facts.{facts_of};
+ghost use Rattle.std.specs.Prelude.{◌≡◌, ◌+◌, ◌++◌, ◌∷◌, [], map, take, length, IfOk, IfErr, OnOk, OnErr, IsErrOf, Ok, Err, Result};
+ghost use Rattle.og_facts.specs.Facts.{Atom, facts_of};
 ghost use Rattle.og_facts.specs.Plain.{plain_fact};
 ghost use Rattle.og_cond.specs.Condition as plain;
 ghost use Rattle.og_cond.specs.Valid.{IsValid};
@@ -10,12 +10,12 @@ ghost use Rattle.og_cert.specs.declared.fault.ReplayError.TheVariants as errors;
 ghost use Rattle.og_cert.specs.declared.fault.CheckError.TheVariants.{Memory};
 ghost use Rattle.og_cert.specs.Checks as check;
 ghost use Rattle.og_cert.specs.Steps.{stepped, opened, split_for, certs_of};
-ghost use Rattle.og_cert.specs.Held.{facts_held, more_facts};
+ghost use Rattle.og_cert.specs.Held.{facts_held};
 ghost use Rattle.og_cert.specs.Answer.{IsChecked, located, TakesSteps, Replays, ReplaysParts, IsReplay};
 
 use crate::checks::{check_closing, check_count, combination, cut_at, otherwise};
 use crate::fault::{CheckError, FaultKind, ReplayError, ReplayFault};
-use crate::held::{Held, More, check_room, hold_made, hold_more, parts_at};
+use crate::held::{Held, check_room, hold_all, hold_made, parts_at};
 use og_cert_text::{Cert, CertStep, Finish};
 use og_facts::{Fact, FactList};
 use og_linear::Form;
@@ -106,22 +106,19 @@ fn open_split<'a, 'c>(
     Ok(parts)
 }
 
-// Replays the lines of a certificate with more facts from this line on, and returns the line after
-// them.
+// Replays the lines of a certificate from this one on, and returns the line after them.
 #[cycle(replay)]
-fn replay_with<'a, 'c>(
+fn replay_cert<'a, 'c>(
     held: &mut Vec<Held<'a, 'c>>,
     variables: u32,
     line: u64,
-    more: More<'a, 'c>,
     cert: &Cert,
 ) -> Result<u64, ReplayError>
-    ensures replays { Replays line variables (facts_held held.old.items ++ more_facts more.entry)
-        (plain_cert cert.now) result }
+    ensures replays { Replays line variables (facts_held held.old.items) (plain_cert cert.now)
+        result }
     ensures kept { OnOk result (held.new.items ≡ held.old.items) }
 {
     let count = held.len();
-    hold_more(held, more)?;
     let last = take_steps(held, variables, line, &cert.steps)?;
     let next = replay_finish(held, variables, last, &cert.finish)?;
     held.truncate(count);
@@ -148,15 +145,54 @@ fn replay_finish<'a, 'c>(
         Finish::Branch(form, low, high) => {
             let other = at_line(line, open_branch(alloc, variables, held, form))?;
             let first = line_after(line)?;
-            let less = More::Made(form.copy()?);
-            let second = replay_with(held, variables, first, less, low)?;
-            replay_with(held, variables, second, More::Made(other), high)
+            let second = replay_with(held, variables, first, form.copy()?, low)?;
+            replay_with(held, variables, second, other, high)
         }
         Finish::Split(number, certs) => {
             let parts = at_line(line, open_split(held, *number, certs.len()))?;
             replay_parts(held, variables, line, certs, parts)
         }
     }
+}
+
+// Replays a certificate with one fact more.
+#[cycle(replay)]
+fn replay_with<'a, 'c>(
+    held: &mut Vec<Held<'a, 'c>>,
+    variables: u32,
+    line: u64,
+    form: Form,
+    cert: &Cert,
+) -> Result<u64, ReplayError>
+    ensures replays { Replays line variables (facts_held held.old.items ++ Atom form ∷ [])
+        (plain_cert cert.now) result }
+    ensures kept { OnOk result (held.new.items ≡ held.old.items) }
+{
+    let count = held.len();
+    hold_made(held, form)?;
+    let next = replay_cert(held, variables, line, cert)?;
+    held.truncate(count);
+    Ok(next)
+}
+
+// Replays a certificate with the facts of a part.
+#[cycle(replay)]
+fn replay_part<'a, 'c>(
+    held: &mut Vec<Held<'a, 'c>>,
+    variables: u32,
+    line: u64,
+    cert: &Cert,
+    part: &'a [Fact<'c>],
+) -> Result<u64, ReplayError>
+    ensures replays { Replays line variables (facts_held held.old.items ++ map plain_fact part.now)
+        (plain_cert cert.now) result }
+    ensures kept { OnOk result (held.new.items ≡ held.old.items) }
+{
+    let count = held.len();
+    hold_all(held, part)?;
+    let next = replay_cert(held, variables, line, cert)?;
+    held.truncate(count);
+    Ok(next)
 }
 
 // Replays the certificates of a split at this line, each with the facts of its part.
@@ -177,7 +213,7 @@ fn replay_parts<'a, 'c>(
     for index in 0..certs.len() {
         let part = parts[index].as_slice();
         at_line(line, room_for(held, part.len()))?;
-        next = replay_with(held, variables, next, More::Given(part), &certs[index])?;
+        next = replay_part(held, variables, next, &certs[index], part)?;
     }
     Ok(next)
 }
@@ -207,7 +243,7 @@ pub fn replay(alloc: Global, facts: &FactList, cert: &Cert) -> Result<(), Replay
         → IsValid c) }
 {
     let mut held = Vec::with_capacity(alloc, facts.as_slice().len())?;
-    let more = More::Given(facts.as_slice());
-    replay_with(&mut held, facts.variables(), 1, more, cert)?;
+    hold_all(&mut held, facts.as_slice())?;
+    replay_cert(&mut held, facts.variables(), 1, cert)?;
     Ok(())
 }

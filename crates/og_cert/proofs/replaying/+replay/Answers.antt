@@ -1,13 +1,13 @@
-use Rattle.std.proofs.Common.{◌≡◌, ℕ, ◌+◌, ◌++◌, ◌<◌, List, [], ◌∷◌, map, length, take, refl, Ok, Err, Vec, Global, Bor, sym, ap, ap₂, ◌∙◌, subst, arith}
+use Rattle.std.proofs.Common.{◌≡◌, ◌+◌, ◌<◌, List, map, length, Ok, Err, Vec, Global, Bor, sym, ap, ap₂, ◌∙◌, subst, arith}
 use Rattle.std.proofs.lemmas.Result.{err_from_is_err_and}
 use Rattle.og_facts.specs.declared.fact.Fact.{Fact}
 use Rattle.og_facts.specs.Facts as plain
 use Rattle.og_cert_text.specs.Tree.{SplitOn}
-use Rattle.og_cert_text.specs.Plain.{with_steps, plain_cert, plain_finish}
+use Rattle.og_cert_text.specs.Plain.{with_steps, plain_finish}
 use Rattle.og_cert.specs.Checks.{room}
 use Rattle.og_cert.specs.Faults.{fault_from}
 use Rattle.og_cert.specs.Steps.{split_for, certs_of}
-use Rattle.og_cert.specs.Held.{facts_held, more_facts}
+use Rattle.og_cert.specs.Held.{facts_held}
 use Rattle.og_cert.specs.Answer.{located, FailsWith, Replays}
 use Rattle.og_cert.proofs.Trees.{part_of, split_of}
 use Rattle.og_cert.proofs.Lines.{lines-with_steps, located_fails, located_passes, split_stops, split_replays, parts_from, part_full}
@@ -16,42 +16,8 @@ use Rattle.og_cert.proofs.replaying.+replay.Goals as goal
 abbrev seen : Bor (List (Vec Fact Global)) → List (List plain.Fact)
 seen parts = map part_of parts.now
 
--- a front that is kept twice
-kept_through : {A : Type 0} (old mid end : List A) → take (length old) mid ≡ old → take (length mid) end ≡ mid → take (length old) end ≡ old
-kept_through [] mid end p q = refl
-kept_through (x ∷ old) [] end p q = absurd (cc)
-kept_through (x ∷ old) (y ∷ mid) [] p q = absurd (cc)
-kept_through (x ∷ old) (y ∷ mid) (z ∷ end) p q =
-    let here : take (length old) mid ≡ old = cc in
-    let there : take (length mid) end ≡ mid = cc in
-    let rest = kept_through old mid end here there in
-    cc
-
-pub replay_with-returns-in_err-last-clause-replays : goal.replay_with-returns-in_err-last-clause-replays
-replay_with-returns-in_err-last-clause-replays t c =
-    let line = c.args.line in
-    let n = c.args.variables in
-    let finish = plain_finish c.args.cert.now.finish in
-    let p = err_from_is_err_and c.from_residual-in_err-last.result c.from_residual-in_err-last.ensures.1 in
-    rw p.1
-    (subst (λ e. FailsWith e (fault_from line n (facts_held c.args.held.now.items ++ more_facts c.args.more) (plain_cert c.args.cert.now))) (sym p.2)
-    (subst (λ fs. FailsWith c.in_err-last.field-0.0 (fault_from line n fs (plain_cert c.args.cert.now))) c.in_ok-hold_more.ensures.added
-    (subst (λ l. FailsWith c.in_err-last.field-0.0 (fault_from line n (facts_held c.hold_more.new.held.items) (with_steps l finish))) c.deref.ensures.value (c.in_err-last.ensures.taken finish))))
-
-pub replay_with-returns-in_err-next-clause-replays : goal.replay_with-returns-in_err-next-clause-replays
-replay_with-returns-in_err-next-clause-replays t c =
-    let line = c.args.line in
-    let n = c.args.variables in
-    let finish = plain_finish c.args.cert.now.finish in
-    let p = err_from_is_err_and c.from_residual-in_err-next.result c.from_residual-in_err-next.ensures.1 in
-    rw p.1
-    (subst (λ e. FailsWith e (fault_from line n (facts_held c.args.held.now.items ++ more_facts c.args.more) (plain_cert c.args.cert.now))) (sym p.2)
-    (subst (λ fs. FailsWith c.in_err-next.field-0.0 (fault_from line n fs (plain_cert c.args.cert.now))) c.in_ok-hold_more.ensures.added
-    (subst (λ l. FailsWith c.in_err-next.field-0.0 (fault_from line n (facts_held c.hold_more.new.held.items) (with_steps l finish))) c.deref.ensures.value
-    (subst (FailsWith c.in_err-next.field-0.0) (sym (c.in_ok-last.ensures.taken.1 finish)) c.in_err-next.ensures.replays))))
-
-pub replay_with-returns-clause-replays : goal.replay_with-returns-clause-replays
-replay_with-returns-clause-replays t c =
+pub replay_cert-returns-clause-replays : goal.replay_cert-returns-clause-replays
+replay_cert-returns-clause-replays t c =
     let cert = c.args.cert.now in
     let steps = cert.steps.items in
     let finish = plain_finish cert.finish in
@@ -60,19 +26,9 @@ replay_with-returns-clause-replays t c =
     let long = ap length same in
     let taken = c.in_ok-last.ensures.taken in
     let replays = c.in_ok-next.ensures.replays in (
-      ap (λ fs. fault_from c.args.line c.args.variables fs (plain_cert cert)) (sym c.in_ok-hold_more.ensures.added)
-          ∙ ap (λ l. fault_from c.args.line c.args.variables (facts_held c.hold_more.new.held.items) (with_steps l finish)) (sym same)
-          ∙ taken.1 finish ∙ replays.0,
+      ap (λ l. fault_from c.args.line c.args.variables (facts_held c.args.held.now.items) (with_steps l finish)) (sym same) ∙ taken.1 finish ∙ replays.0,
       omega (arith, count, long, taken.0, replays.1),
     )
-
-pub replay_with-returns-clause-kept : goal.replay_with-returns-clause-kept
-replay_with-returns-clause-kept t c =
-    let old = c.args.held.now.items in
-    let end = c.take_steps.new.held.items in
-    let count : c.len-count.result ≡ length old = omega (arith, c.args.held.now.ok.0, c.len-count.ensures) in
-    let kept = kept_through old c.hold_more.new.held.items end c.in_ok-hold_more.ensures.kept c.in_ok-last.ensures.kept in
-    c.truncate.ensures.items ∙ ap (take c.len-count.result) c.in_ok-next.ensures.kept ∙ ap (λ (n : ℕ). take n end) count ∙ kept
 
 pub replay_finish-returns-in_err-parts-in-Split-clause-replays :
     goal.replay_finish-returns-in_err-parts-in-Split-clause-replays
