@@ -11,7 +11,7 @@ returns-in-Some c =
     let proof = plain_cert c.args.leader.cert.now in
     let list = c.in-Ok.list in
     followed_on (seen c.args.condition.now) list proof c.in-Some.followed c.in-Ok.ensures.0 c.in-Ok.ensures.1
-    (subst (λ some. IfSome some (IsFollowedOn list proof)) c.in-Some.is c.in_ok-followed.ensures)
+    (subst (λ some. IfSome some (IsFollowedOn list proof)) c.in-Some.is c.in_ok-followed-in-Ok.ensures)
 
 pub returns-in_ok-examine_facts : goal.returns-in_ok-examine_facts
 returns-in_ok-examine_facts c =
