@@ -13,6 +13,6 @@ returns-in-Some c =
     followed_on (seen c.args.condition.now) list proof c.in-Some.followed c.in-Ok.ensures.0 c.in-Ok.ensures.1
     (subst (λ some. IfSome some (IsFollowedOn list proof)) c.in-Some.is c.in_ok-followed-in-Ok.ensures)
 
-pub returns-in_ok-examine_facts : goal.returns-in_ok-examine_facts
-returns-in_ok-examine_facts c =
-    followed_on (seen c.args.condition.now) c.in-Ok.list (plain_cert c.args.leader.cert.now) (followed.Own c.in_ok-examine_facts.field-0) c.in-Ok.ensures.0 c.in-Ok.ensures.1 c.in_ok-examine_facts.ensures
+pub returns-in_ok-examine_facts-in-Ok : goal.returns-in_ok-examine_facts-in-Ok
+returns-in_ok-examine_facts-in-Ok c =
+    followed_on (seen c.args.condition.now) c.in-Ok.list (plain_cert c.args.leader.cert.now) (followed.Own c.in_ok-examine_facts-in-Ok.field-0) c.in-Ok.ensures.0 c.in-Ok.ensures.1 c.in_ok-examine_facts-in-Ok.ensures
