@@ -245,6 +245,8 @@ impl<'a> Board<'a> {
 }
 
 impl<'a> Machine for Board<'a> {
+    ghost use Rattle.std.specs.Prelude.{is_some};
+
     ghost given = { λ b. b.given };
 
     ghost history = { λ b. b.history };

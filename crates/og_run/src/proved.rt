@@ -91,6 +91,8 @@ impl<'a> ProvedBoard<'a> {
 }
 
 impl<'a> Machine for ProvedBoard<'a> {
+    ghost use Rattle.std.specs.Prelude.{is_some};
+
     ghost given = { λ b. b.given };
 
     ghost history = { λ b. b.history };

@@ -6,18 +6,16 @@ ghost use Rattle.og_run.specs.Over.{OverAt};
 ghost use Rattle.og_run.specs.Outcomes.{IsProvedOutcome};
 ghost use Rattle.og_run.specs.Answered.{Runs};
 
-use crate::arena::Unstarted;
 use crate::board::Board;
 use crate::fault::RunError;
 use crate::outcome::Outcome;
 use crate::proved::ProvedBoard;
-use crate::threads::run_named;
+use crate::threads::run_board;
 use og_linear::State;
 use og_pool::{Gate, ThreadFault};
 use og_theorem::Proved;
 use og_typed::Outline;
 use std::alloc::Global;
-use std::marker::Brand;
 use std::sync::Wait;
 use std::thread::Threads;
 
@@ -35,8 +33,7 @@ fn run_plain<'a, G: Gate, R: Threads + Wait + Sync>(
     ensures over { IfOk result (λ b. (p : ℕ) → p < process_count b.given.outline
         → OverAt b.given b.history (is_some b.halted) p) }
 {
-    let unstarted = Unstarted::new(alloc, &board)?;
-    run_named::<Brand, Board<'a>, G, R>(rt, alloc, unstarted, board, main, gate)
+    run_board(rt, alloc, board, main, gate)
 }
 
 /// Runs the outline from these values, each process in a thread of its own, until nothing more can

@@ -11,6 +11,7 @@ use crate::rule::ArenaName;
 use crate::turn::RunTurn;
 use og_pool::{Gate, Job, ThreadFault, in_threads};
 use std::alloc::Global;
+use std::marker::Brand;
 use std::sync::{Condvar, Mutex, Wait};
 use std::thread::Threads;
 
@@ -162,4 +163,23 @@ pub(crate) fn run_named<
     let machine = settle(arena, seats);
     let _all = machine.steps();
     Ok(machine)
+}
+
+/// With a table of its own.
+pub(crate) fn run_board<B: Machine + Send, G: Gate, R: Threads + Wait + Sync>(
+    rt: &R,
+    alloc: Global,
+    machine: B,
+    main: u32,
+    gate: &G,
+) -> Result<B, ThreadFault>
+    requires empty { (B.history machine ≡ []) × (B.halted machine ≡ false) }
+    requires some { 0 < process_count (B.given machine).outline }
+    ensures same { IfOk result (λ m. B.given m ≡ B.given machine) }
+    ensures run { IfOk result (λ m. IsRun (B.given m) (B.history m)) }
+    ensures over { IfOk result (λ m. (p : ℕ) → p < process_count (B.given m).outline
+        → OverAt (B.given m) (B.history m) (B.halted m) p) }
+{
+    let unstarted = Unstarted::new(alloc, &machine)?;
+    run_named::<Brand, B, G, R>(rt, alloc, unstarted, machine, main, gate)
 }
