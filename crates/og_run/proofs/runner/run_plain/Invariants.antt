@@ -1,4 +1,0 @@
-use Rattle.og_run.proofs.runner.run_plain.Given as goal
-
-abbrev pub ghosts-run_named : goal.ghosts-run_named
-ghosts-run_named g a = record { table = a.unstarted.table }
