@@ -130,14 +130,28 @@ pub fn diagnosis_value(
 }
 
 // Adds the value of a condition, where that is not proved.
-fn add_unproved(values: &mut Vec<Value>, entry: &Entry) -> Result<(), AllocError>
+fn add_unproved(
+    values: &mut Vec<Value>,
+    names: &[Name],
+    places: &Places,
+    number: u64,
+    condition: &Condition,
+    diagnosis: &Diagnosis,
+) -> Result<(), AllocError>
     ensures { OnOk result (map view values.new.items ≡ map view values.old.items
-        ++ (if is_proved entry.now.diagnosis.now then [] else diagnosis_data entry.now.names.now entry.now.places.now entry.now.number (seen entry.now.condition.now) entry.now.diagnosis.now ∷ [])) }
+        ++ (if is_proved diagnosis.now then [] else diagnosis_data names.now places.now number (seen condition.now) diagnosis.now ∷ [])) }
 {
-    if entry.diagnosis.is_proved() {
+    if diagnosis.is_proved() {
         return Ok(());
     }
-    let value = entry.value(*values.allocator())?;
+    let value = diagnosis_value(
+        *values.allocator(),
+        names,
+        places,
+        number,
+        condition,
+        diagnosis,
+    )?;
     values.push(value)?;
     Ok(())
 }
@@ -156,14 +170,15 @@ pub(crate) fn unproved_values(
 {
     let mut values = Vec::new(alloc);
     for index in 0..conditions.len() {
-        let entry = Entry {
+        let number = index as u64 + 1;
+        add_unproved(
+            &mut values,
             names,
             places,
-            number: index as u64 + 1,
-            condition: &conditions[index],
-            diagnosis: &diagnoses[index],
-        };
-        add_unproved(&mut values, &entry)?;
+            number,
+            &conditions[index],
+            &diagnoses[index],
+        )?;
     }
     Ok(values)
 }
