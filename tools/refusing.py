@@ -42,7 +42,7 @@ class Program:
         return re.findall(r"(?m)^(\S+): test$", listed)
 
     def ask_within(self, words, space):
-        """The answer in an address space of so many bytes."""
+        """The answer in an address space of this many bytes."""
         limit = lambda: resource.setrlimit(resource.RLIMIT_AS, (space, space))
         ran = subprocess.run([self.path, *words], cwd=self.folder, capture_output=True, preexec_fn=limit,
                              input=b"" if words else self.joined, timeout=60)

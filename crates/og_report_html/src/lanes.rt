@@ -24,7 +24,7 @@ pub(crate) struct Frame<'a> {
     pub(crate) lanes: usize,
 }
 
-// So many empty lanes.
+// Adds this many empty lanes.
 fn put_gap(text: &mut Vec<u8>, lanes: usize) -> Result<(), AllocError>
     ensures { OnOk result (text.new.items ≡ text.old.items ++ gap lanes) }
 {

@@ -330,7 +330,7 @@ impl Inequality {
         })
     }
 
-    /// So many times the inequality.
+    /// The inequality multiplied by a number.
     pub fn times(&self, times: i128) -> Scaled<'_>
         ensures times { result.times ≡ times }
         ensures form { result.form.now ≡ self.now }

@@ -67,7 +67,7 @@ fn put_number(
     Ok(())
 }
 
-// So many numbers from 1 to a value that are all different, and then false.
+// Numbers from 1 to a value that are all different, and then false.
 pub(crate) fn different(
     alloc: Global,
     numbers: usize,
