@@ -64,9 +64,8 @@ def certificates(listing):
 
 
 def first_wrong(certs):
-    """Certificates whose first one closes by an assumption that is no contradiction; the others stay."""
-    first, others = certs.split("cond 2\n", 1)
-    return first[: first.index("close ")] + "close 1*1\ncond 2\n" + others
+    """Certificates whose first one closes by its first fact, which is no contradiction; the others stay."""
+    return "og-cert 1\ncond 1\nclose 1*1\ncond 2\n" + certs.split("cond 2\n", 1)[1]
 
 
 def long_certificates(size):
