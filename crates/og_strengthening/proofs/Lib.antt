@@ -1,0 +1,4 @@
+pub mod OneByOne
+pub mod Runs
+pub mod Promises
+pub mod Erased
