@@ -1,5 +1,5 @@
 -- What is promised of every run of the stronger outline holds of every run of the weaker one.
-use Rattle.std.proofs.Common.{◌≡◌, ℕ, ℤ, List, [], ◌∷◌, length, Bool, true, false, not, ◌&&◌, ◌||◌, ◌==◌, nat_lt, if◌then◌else◌, is_some, Some, None, Option, unwrap_or, slice_get, option_map, refl, sym, ap, ap₂, ◌∙◌, subst}
+use Rattle.std.proofs.Common.{◌≡◌, ℕ, ℤ, List, [], ◌∷◌, length, true, false, not, ◌&&◌, ◌||◌, ◌==◌, nat_lt, if◌then◌else◌, Some, None, Option, unwrap_or, slice_get, option_map, refl, sym, ap, ap₂, ◌∙◌, subst}
 use Rattle.og_typed.specs.Syntax.{Formula, Set, Statement, Skip, Assign, If, While, Await, Sequence, Last, Then, Program, Rest, last_of}
 use Rattle.og_typed.specs.Truth.{truth}
 use Rattle.og_typed.specs.Machine.{all_fit, Moment, Phase, Before, During, After, phase, rest_of, is_empty, is_last, IsReached, head_or, is_main, is_process, active, active_in, main_rest, todo, end_of, current, is_finished, stmt_overflows, rest_overflows, overflows}

@@ -1,5 +1,5 @@
 -- No step reads an assertion: each run of an outline is one of the outline that strengthens it, through the same states.
-use Rattle.std.proofs.Common.{◌≡◌, ℕ, ℤ, List, [], ◌∷◌, ◌++◌, map, set, length, Bool, ◌&&◌, ◌==◌, if◌then◌else◌, Some, None, Option, unwrap_or, slice_get, option_map, refl, sym, ap, ap₂, ◌∙◌, subst}
+use Rattle.std.proofs.Common.{◌≡◌, ℕ, ℤ, List, [], ◌∷◌, ◌++◌, ◌&&◌, ◌==◌, if◌then◌else◌, Some, None, Option, unwrap_or, slice_get, option_map, refl, sym, ap, ap₂, ◌∙◌, subst}
 use Rattle.og_linear.specs.Linear.{IsProper}
 use Rattle.og_typed.specs.Syntax.{Formula, Simple, Set, Statement, Skip, Assign, If, While, Await, Otherwise, Nothing, Else, Sequence, Last, Then, Program, Rest, items, part_items, else_items}
 use Rattle.og_typed.specs.Truth.{truth}
