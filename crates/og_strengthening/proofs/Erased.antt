@@ -23,7 +23,7 @@ module _ (n : ℕ) where
     erase_sequence (Last new) (Last old) h = λ s e. e
     erase_sequence (Then new stmt at rest) (Then old old_stmt old_at old_rest) h =
         subst (λ t. StrengthensSequence (erase_seq n (Then new stmt at rest)) (if t then erase_seq n old_rest else Then (blank old) (erase_stmt n old_stmt) old_at (erase_seq n old_rest))) (aux_same stmt old_stmt h.1)
-        (sequence_if (is_aux_assign n stmt) (erase_seq n rest) (erase_seq n old_rest) _ _
+        (sequence_if (is_aux_assign n stmt) (erase_seq n rest) (erase_seq n old_rest) (Then (blank new) (erase_stmt n stmt) at (erase_seq n rest)) (Then (blank old) (erase_stmt n old_stmt) old_at (erase_seq n old_rest))
         (erase_sequence rest old_rest h.2) ((λ s e. e), erase_statement stmt old_stmt h.1, erase_sequence rest old_rest h.2))
     erase_sequence _ _ h = absurd h
 
