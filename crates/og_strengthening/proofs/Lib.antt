@@ -4,4 +4,4 @@ pub mod Promises
 pub mod Erased
 pub mod Shape
 pub mod Projected
-
+pub mod Trees
