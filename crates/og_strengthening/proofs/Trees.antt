@@ -12,7 +12,7 @@ use Rattle.og_typed.specs.Lists.{formula_list, sequence_list}
 use Rattle.og_typed.specs.Plain.{formula, noted, statement, sequence, item_of}
 use Rattle.og_typed.proofs.Lists.{formula_and, formula_or, sequence_out}
 use Rattle.og_strengthening.specs.Strengthens.{Implies, OneByOne, StrengthensSequence, StrengthensStatement}
-use Rattle.og_strengthening.proofs.OneByOne.{each_append}
+use Rattle.og_strengthening.proofs.OneByOne.{each_append, each_map}
 
 -- ---- equal assertions
 
@@ -65,6 +65,13 @@ each_turn R xs ys i x y h n is_x is_y r before =
     let all_ys : take (i + 1) ys ≡ take i ys ++ y ∷ [] = take_more ys i y (omega (arith, h, n)) ∙ ap (λ z. take i ys ++ z ∷ []) (sym is_y) in
     subst (λ us. OneByOne R us (take (i + 1) ys)) (sym all_xs) (subst (OneByOne R (take i xs ++ x ∷ [])) (sym all_ys) front)
 
+-- one more of two lists that are equal
+pub equal_turn : {X : Type 0} (xs ys : List X) (i : ℕ) (x y : X) → i < length xs → length xs ≡ length ys → x ≡ get_or xs i x → y ≡ get_or ys i y → x ≡ y → take i xs ≡ take i ys → take (i + 1) xs ≡ take (i + 1) ys
+equal_turn xs ys i x y h n is_x is_y same before =
+    take_more xs i x h
+    ∙ ap₂ (λ front z. front ++ z ∷ []) before (sym is_x ∙ same ∙ is_y)
+    ∙ sym (take_more ys i y (omega (arith, h, n)))
+
 -- all
 pub each_whole : {X : Type 0} (R : X → X → Type 0) (xs ys : List X) (i : ℕ) → length xs ≤ i → length xs ≡ length ys → OneByOne R (take i xs) (take i ys) → OneByOne R xs ys
 each_whole R xs ys i h n found =
@@ -87,3 +94,11 @@ sequence_strengthens new old h k =
     subst (λ q. StrengthensSequence q (sequence old)) (sym (sequence_out new))
     (subst (StrengthensSequence (sequence_list (map item_of (out-Seq new).items.items) (noted (out-Seq new).last))) (sym (sequence_out old))
     (list_strengthens (out-Seq new).items.items (out-Seq old).items.items (noted (out-Seq new).last) (noted (out-Seq old).last) h k))
+
+-- ---- processes
+
+abbrev pub StrengthensProcess : Seq → Seq → Type 0
+StrengthensProcess new old = StrengthensSequence (sequence new) (sequence old)
+
+pub processes_strengthen : (new old : List Seq) → OneByOne StrengthensProcess new old → OneByOne StrengthensSequence (map sequence new) (map sequence old)
+processes_strengthen = each_map StrengthensProcess StrengthensSequence sequence sequence (λ new old h. h)

@@ -36,10 +36,9 @@ fn strengthens_statement(new: &Stmt, old: &Stmt) -> bool
 
 #[cycle(statements)]
 fn strengthens_item(new: &Item, old: &Item) -> bool
-    ensures before { result ≡ true
-        → Implies (formula new.now.before.assertion) (formula old.now.before.assertion) }
-    ensures statement { result ≡ true
-        → StrengthensStatement (statement new.now.stmt) (statement old.now.stmt) }
+    ensures { result ≡ true
+        → Implies (formula new.now.before.assertion) (formula old.now.before.assertion)
+            × StrengthensStatement (statement new.now.stmt) (statement old.now.stmt) }
 {
     is_stronger(&new.before.assertion, &old.before.assertion)
         && strengthens_statement(&new.stmt, &old.stmt)
