@@ -1,5 +1,5 @@
 -- Where an outline is sound, each reached moment of the erased program is the projection of one of the outline.
-use Rattle.std.proofs.Common.{◌≡◌, ℕ, zero, suc, ◌+◌, ◌<◌, ℤ, List, [], ◌∷◌, ◌++◌, map, take, set, length, Bool, true, false, not, ◌&&◌, ◌||◌, ◌==◌, nat_lt, if◌then◌else◌, is_some, Some, None, Option, unwrap_or, option_map, refl, sym, ap, ap₂, ◌∙◌, subst, ⊎_elim, append-nil, arith}
+use Rattle.std.proofs.Common.{◌≡◌, ℕ, zero, suc, ◌<◌, ℤ, List, [], ◌∷◌, ◌++◌, map, take, set, length, Bool, true, false, not, ◌&&◌, ◌||◌, ◌==◌, nat_lt, if◌then◌else◌, is_some, Some, None, Option, unwrap_or, option_map, refl, sym, ap, ap₂, ◌∙◌, subst, ⊎_elim, append-nil, arith}
 use mir.Syntax.{w64}
 use Rattle.std.proofs.Common.{FitsSigned}
 use Rattle.std.proofs.lemmas.Bool.{both_ways, cases_lt, cases_eq, false_from_ne_true, eq-eqb, ltb-true}

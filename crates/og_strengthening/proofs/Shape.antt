@@ -6,7 +6,7 @@ use Rattle.std.proofs.lemmas.List.{length-map}
 use Rattle.og_typed.specs.Syntax.{Formula, Simple, Set, Statement, Skip, Assign, If, While, Await, Otherwise, Nothing, Else, Sequence, Last, Then, Program, Rest, items, part_items, else_items}
 use Rattle.og_typed.specs.Pieces.{Piece, pieces, pieces_of_stmt, pieces_of_else}
 use Rattle.og_typed.specs.Truth.{truth}
-use Rattle.og_typed.specs.Machine.{act, all_fit, attempt, advance, advance_rest, rest_overflows, Moment, Phase, Before, During, After, phase, with_rest, with_prologue, with_epilogue, rest_of, is_empty, is_last, next_in, next, run_on, start_state, start_of, IsReached, is_main, active, active_in, todo, overflows}
+use Rattle.og_typed.specs.Machine.{act, all_fit, attempt, advance, advance_rest, rest_overflows, Moment, Phase, Before, During, After, phase, with_rest, with_prologue, with_epilogue, rest_of, is_empty, is_last, next_in, next, run_on, start_state, start_of, IsReached, is_main, active, active_in, todo}
 use Rattle.og_typed.specs.Rule.{StatementFollows, SequenceFollows, IsOutline}
 use Rattle.og_typed.proofs.Each.{Each, each_left, each_right, each_append}
 use Rattle.og_typed.proofs.Growth.{run_long}

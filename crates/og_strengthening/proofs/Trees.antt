@@ -1,12 +1,12 @@
 -- What the comparisons of trees found, said of what they stand for.
-use Rattle.std.proofs.Common.{◌≡◌, ℕ, zero, suc, ◌+◌, ◌<◌, ◌≤◌, ℤ, List, [], ◌∷◌, ◌++◌, map, take, length, get_or, true, ◌&&◌, Vec, Global, refl, sym, ap, ap₂, ◌∙◌, subst, arith}
+use Rattle.std.proofs.Common.{◌≡◌, ℕ, zero, suc, ◌+◌, ◌<◌, ◌≤◌, ℤ, List, [], ◌∷◌, ◌++◌, map, take, length, get_or, true, Vec, Global, refl, sym, ap, ap₂, ◌∙◌, subst, arith}
 use Rattle.std.proofs.lemmas.Bool.{and_from, and_parts}
 use Rattle.std.proofs.lemmas.List.{take_more, take_all, take-map, length-map}
 use Rattle.og_typed.specs.declared.assertion.Assert.{Assert}
 use Rattle.og_typed.specs.declared.assertion.Assert.TheViews as its
 use Rattle.og_typed.specs.declared.statement.Item.{Item}
 use Rattle.og_typed.specs.declared.statement.Seq.{Seq, out-Seq}
-use Rattle.og_typed.specs.Syntax.{Formula, And, Or, Noted, Sequence}
+use Rattle.og_typed.specs.Syntax.{Formula, And, Or, Noted}
 use Rattle.og_typed.specs.Truth.{truth, all_true}
 use Rattle.og_typed.specs.Lists.{formula_list, sequence_list}
 use Rattle.og_typed.specs.Plain.{formula, noted, statement, sequence, item_of}

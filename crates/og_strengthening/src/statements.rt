@@ -27,8 +27,7 @@ fn strengthens_statement(new: &Stmt, old: &Stmt) -> bool
             same_assertion(test, old_test) && strengthens_sequence(body, old_body)
         }
         (Stmt::Await(guard, body), Stmt::Await(old_guard, old_body)) => {
-            same_assertion(guard, old_guard)
-                && Action::Await(body).equals(&Action::Await(old_body))
+            same_assertion(guard, old_guard) && Action::Await(body).equals(&Action::Await(old_body))
         }
         _ => false,
     }
@@ -38,7 +37,7 @@ fn strengthens_statement(new: &Stmt, old: &Stmt) -> bool
 fn strengthens_item(new: &Item, old: &Item) -> bool
     ensures { result ≡ true
         → Implies (formula new.now.before.assertion) (formula old.now.before.assertion)
-            × StrengthensStatement (statement new.now.stmt) (statement old.now.stmt) }
+        × StrengthensStatement (statement new.now.stmt) (statement old.now.stmt) }
 {
     is_stronger(&new.before.assertion, &old.before.assertion)
         && strengthens_statement(&new.stmt, &old.stmt)

@@ -1,4 +1,4 @@
-use Rattle.std.proofs.Common.{◌≡◌, length, map, sym, ap, ◌∙◌, arith}
+use Rattle.std.proofs.Common.{◌≡◌, length, sym, ap, ◌∙◌, arith}
 use Rattle.og_typed.specs.Plain.{formula}
 use Rattle.og_strengthening.proofs.Trees.{begins_end, same_and, same_or}
 use Rattle.og_strengthening.proofs.assertions.+equality.Goals as goal
