@@ -5,3 +5,4 @@ pub mod Erased
 pub mod Shape
 pub mod Projected
 pub mod Trees
+pub mod Reflexive

@@ -9,6 +9,11 @@ ghost use Rattle.og_theorem.specs.Sound.{IsSound, IsSoundErased};
 ghost use Rattle.og_theorem.specs.NeverStuck.{IsNeverStuck};
 ghost use Rattle.og_strengthening.specs.Strengthens.{Strengthens};
 
+/// Each outline strengthens itself.
+pub fn strengthened_by_itself()
+    ensures { (o : Program) → Strengthens o o }
+{}
+
 /// Where an outline is sound, so is each one that it strengthens, with its auxiliaries and without
 /// them.
 pub fn soundness_of_weaker()

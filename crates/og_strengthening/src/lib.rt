@@ -8,4 +8,4 @@ mod laws;
 mod statements;
 
 pub use checking::strengthens;
-pub use laws::{progress_of_weaker, soundness_of_weaker};
+pub use laws::{progress_of_weaker, soundness_of_weaker, strengthened_by_itself};
