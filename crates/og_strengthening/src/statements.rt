@@ -1,8 +1,8 @@
 //! The same statements with stronger assertions. Takes no memory.
 
-ghost use Rattle.std.specs.Prelude.{◌≡◌, true, map};
+ghost use Rattle.std.specs.Prelude.{◌≡◌, true};
 ghost use Rattle.og_typed.specs.Plain.{formula, statement, sequence};
-ghost use Rattle.og_strengthening.specs.Strengthens.{Implies, OneByOne, InBoth, StrengthensSequence, StrengthensStatement};
+ghost use Rattle.og_strengthening.specs.Strengthens.{Implies, StrengthensSequence, StrengthensStatement};
 
 use crate::assertions::{is_stronger, same_assertion, same_form};
 use og_subst::Action;
