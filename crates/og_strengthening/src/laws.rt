@@ -14,8 +14,8 @@ pub fn strengthened_by_itself()
     ensures { (o : Program) → Strengthens o o }
 {}
 
-/// Where an outline is sound, so is each one that it strengthens, with its auxiliaries and without
-/// them.
+/// Where an outline is sound, so is each one that it strengthens; and so is that one without its
+/// auxiliaries, where it meets the rule for them.
 pub fn soundness_of_weaker()
     ensures outline { (new old : Program) → Strengthens new old → IsSound new → IsSound old }
     ensures program { (new old : Program) → Strengthens new old → IsOutline old → IsSound new
