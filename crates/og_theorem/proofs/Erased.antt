@@ -1,83 +1,29 @@
--- Each reached moment of the erased program is the projection of one of the outline.
-use Rattle.std.proofs.Common.{◌≡◌, ℕ, zero, suc, ◌+◌, ◌<◌, ◌≤◌, ℤ, List, [], ◌∷◌, ◌++◌, map, take, set, length, Bool, true, false, not, ◌&&◌, ◌||◌, ◌==◌, nat_lt, if◌then◌else◌, is_some, Some, None, Option, unwrap_or, option_map, refl, sym, ap, ap₂, ◌∙◌, subst, ⊎_elim, append-nil, length-append, arith}
+-- Where an outline is sound, each reached moment of the erased program is the projection of one of the outline.
+use Rattle.std.proofs.Common.{◌≡◌, ℕ, zero, suc, ◌<◌, ℤ, List, [], ◌∷◌, ◌++◌, map, take, set, length, Bool, true, false, not, ◌&&◌, ◌||◌, ◌==◌, nat_lt, if◌then◌else◌, is_some, Some, None, Option, unwrap_or, option_map, refl, sym, ap, ap₂, ◌∙◌, subst, ⊎_elim, append-nil, arith}
 use mir.Syntax.{w64}
 use Rattle.std.proofs.Common.{FitsSigned}
 use Rattle.std.proofs.lemmas.Bool.{both_ways, cases_lt, cases_eq, false_from_ne_true, eq-eqb, ltb-true}
 use Rattle.std.proofs.lemmas.Option.{same_Some, none-some, unwrap_or-slice_get, slice_get_past}
 use Rattle.std.proofs.lemmas.List.{length-map}
-use Rattle.og_typed.proofs.Growth.{run_long}
 use Rattle.std.proofs.Math.Seq.{map-set_same, take-append_seam}
 use Rattle.std.proofs.lemmas.List.Elements.{All-append}
 use Rattle.og_linear.specs.Linear.{IsProper}
-use Rattle.og_typed.specs.Syntax.{Statement, Sequence, Program, Rest, items, last_of}
+use Rattle.og_typed.specs.Syntax.{Sequence, Program, Rest, items}
 use Rattle.og_typed.specs.Truth.{truth}
-use Rattle.og_typed.specs.Machine.{advance_rest, rest_overflows, Moment, Phase, Before, During, After, phase, phase_by, with_rest, with_prologue, with_epilogue, rest_of, is_last, next_in, next, run_on, start_state, IsStart, start_of, IsReached, is_main, is_process, active, active_in, main_rest, todo, overflows, is_empty, all_empty, is_finished}
+use Rattle.og_typed.specs.Machine.{advance_rest, rest_overflows, Moment, Phase, Before, During, After, phase, phase_by, with_rest, with_prologue, with_epilogue, rest_of, is_last, next_in, next, run_on, IsStart, start_of, IsReached, is_main, is_process, active, active_in, main_rest, todo, overflows, is_empty, all_empty, is_finished}
+use Rattle.og_typed.specs.Rule.{IsOutline}
 use Rattle.og_typed.specs.Stuck.{rest_waits, waits}
-use Rattle.og_typed.specs.Rule.{StatementFollows, IsOutline}
 use Rattle.og_typed.specs.Erase.{is_aux_assign, erase_seq, erased, erase_rest, project}
 use Rattle.og_typed.proofs.Erasing.{plain_truth, left, erase_items}
-use Rattle.og_theorem.specs.Sound.{IsSoundErased}
-use Rattle.og_theorem.specs.Proved.{IsSafe, IsUnblocked}
+use Rattle.og_theorem.specs.Sound.{IsSound, IsSoundErased}
 use Rattle.og_theorem.specs.NeverStuck.{IsNeverStuck}
-use Rattle.og_theorem.proofs.Steps.{IsReady, ready_fits}
-use Rattle.og_theorem.proofs.Invariant.{IsHead, MainHead, MainAction, IsAction, IsInvariant, Now, is_nothing, nothing_left, opened, under_way, ended, process_of, start_invariant, run_invariant, rest_set_same, rest_set_other}
-use Rattle.og_theorem.proofs.Sound.{sound, reached, active_cases, main_number, todo_main, todo_process, main_before, main_after}
-use Rattle.og_theorem.proofs.Stuck.{never_stuck, others_left}
-use Rattle.og_theorem.proofs.Projections.{reach_next, is_led, rest_project, erase_led, project_with, project_step, aux_step, empty_erased, chain_follows, IsFit, step_erased, fits_erased, rest_waits_erased, within_full, part_erased, some_erased, before_phase, IsClear, phase_erased, finished_erased}
+use Rattle.og_theorem.proofs.Invariant.{is_nothing, nothing_left, opened, under_way, ended, rest_set_same, rest_set_other}
+use Rattle.og_theorem.proofs.Sound.{Any, active_cases, main_number, todo_main, todo_process, main_before, main_after}
+use Rattle.og_theorem.proofs.Stuck.{others_left}
+use Rattle.og_theorem.proofs.Projections.{reach_next, is_led, rest_project, erase_led, project_with, project_step, aux_step, empty_erased, IsFit, step_erased, fits_erased, rest_waits_erased, within_full, part_erased, some_erased, before_phase, IsClear, phase_erased, finished_erased}
+use Rattle.og_theorem.proofs.Shape.{shape, long, prologue_fit, epilogue_fit, rest_fit}
 
-module _ (o : Program) (valid : IsSafe o) (rule : IsOutline o) where
-  abbrev Follows : Statement → Type 0
-  Follows = StatementFollows o.vars
-
-  invariant : (m : Moment) → IsReached o m → IsInvariant Follows o m
-  invariant m r =
-      run_invariant Follows o r.1 _ m
-      (start_invariant Follows o valid (rule.prologue_follows, rule.follows, rule.epilogue_follows) r.0 r.2) r.3
-
-  -- a value for each variable that isn't auxiliary
-  long : (m : Moment) → IsReached o m → o.vars ≤ length m.state
-  long m r =
-      let start : length (start_state o r.0) ≡ length r.0 + length o.aux_values = length-append r.0 o.aux_values in
-      let count = r.2.0 in
-      let more = run_long r.1 (start_of o r.0) m r.3 in
-      omega (arith, start, count, more)
-
-  -- the facts known of the statement that comes next
-  prologue_fit : (m : Moment) → IsReached o m → phase m ≡ Before → IsFit o.vars m.state m.prologue
-  prologue_fit m r e =
-      let inv = invariant m r in
-      let now = subst (Now Follows o m) e inv.now in (
-        chain_follows o.vars (MainHead Follows) (MainAction Follows) m.prologue _ (λ a stmt h. h) inv.opening,
-        ready_fits (MainHead Follows) (MainAction Follows) m.state m.prologue _ inv.proper (inv.opening, now.0),
-        long m r,
-      )
-
-  epilogue_fit : (m : Moment) → IsReached o m → phase m ≡ After → IsFit o.vars m.state m.epilogue
-  epilogue_fit m r e =
-      let inv = invariant m r in
-      let now = subst (Now Follows o m) e inv.now in (
-        chain_follows o.vars (MainHead Follows) (MainAction Follows) m.epilogue o.post.assertion (λ a stmt h. h) inv.closing,
-        ready_fits (MainHead Follows) (MainAction Follows) m.state m.epilogue o.post.assertion inv.proper (inv.closing, now.0),
-        long m r,
-      )
-
-  rest_fit : (m : Moment) → IsReached o m → phase m ≡ During → (p : ℕ) → IsFit o.vars m.state (rest_of m p)
-  rest_fit m r e p = go (rest_of m p) refl
-    where
-      go : (rest : Rest) → rest_of m p ≡ rest → IsFit o.vars m.state rest
-      go [] f = (tt, refl, long m r)
-      go (head ∷ rest) f =
-          let inv = invariant m r in
-          let there = process_of Follows o.processes m p head rest inv.count f in
-          let q = there.0 in
-          let last = (last_of q).assertion in
-          let now = subst (Now Follows o m) e inv.now in
-          let ready = subst (λ r. IsReady (IsHead Follows q) (IsAction o.processes p) m.state r last) f (inv.chains p q there.1, now.0 p q there.1) in (
-            chain_follows o.vars (IsHead Follows q) (IsAction o.processes p) (head ∷ rest) last (λ a stmt h. h.2) ready.0,
-            ready_fits (IsHead Follows q) (IsAction o.processes p) m.state (head ∷ rest) last inv.proper ready,
-            long m r,
-          )
-
+module _ (o : Program) (rule : IsOutline o) (sound : IsSound o) where
   -- ---- the outline can run the assignments to auxiliaries that lead a rest, and the projection stays
 
   -- one part of a moment: its rest, how another rest is put in its place, and when it is its turn
@@ -125,7 +71,7 @@ module _ (o : Program) (valid : IsSafe o) (rule : IsOutline o) where
             n,
             ap (λ f. next_in f m n) e
                 ∙ ap (λ b. if b then option_map (with_prologue m) (advance_rest m.state m.prologue) else None) (eq-eqb n n refl),
-            prologue_fit m r e,
+            prologue_fit o rule sound m r e,
           )
 
       same : (m : Moment) (after : List ℤ × Rest) → take o.vars after.0 ≡ take o.vars m.state → erase_rest o.vars after.1 ≡ erase_rest o.vars m.prologue → project o.vars (with_prologue m after) ≡ project o.vars m
@@ -144,14 +90,14 @@ module _ (o : Program) (valid : IsSafe o) (rule : IsOutline o) where
       steps m r live full =
           let some : all_empty m.rests ≡ false = false_from_ne_true (all_empty m.rests) (λ all. both_ways (is_empty (rest_of m p)) full (ap is_empty (nothing_left m.rests p all))) in
           let e : phase m ≡ During = ap₂ phase_by live.0 some in
-          (p, ap (λ f. next_in f m p) e, rest_fit m r e p)
+          (p, ap (λ f. next_in f m p) e, rest_fit o rule sound m r e p)
 
       puts : (m : Moment) (after : List ℤ × Rest) → Behind p m → is_empty (rest_of m p) ≡ false → (rest_of (with_rest m p after) p ≡ after.1) × Behind p (with_rest m p after)
       puts m after live full = (
-        rest_set_same Follows m p after (within_full m p full),
+        rest_set_same Any m p after (within_full m p full),
         (
           live.0,
-          λ q lt. ap (is_led o.vars) (rest_set_other Follows m p q after (λ e. absurd (omega (arith, lt, e)))) ∙ live.1 q lt,
+          λ q lt. ap (is_led o.vars) (rest_set_other Any m p q after (λ e. absurd (omega (arith, lt, e)))) ∙ live.1 q lt,
         ),
       )
 
@@ -194,7 +140,7 @@ module _ (o : Program) (valid : IsSafe o) (rule : IsOutline o) where
             n,
             ap (λ f. next_in f m n) e
                 ∙ ap (λ b. if b then option_map (with_epilogue m) (advance_rest m.state m.epilogue) else None) (eq-eqb n n refl),
-            epilogue_fit m r e,
+            epilogue_fit o rule sound m r e,
           )
 
       same : (m : Moment) (after : List ℤ × Rest) → take o.vars after.0 ≡ take o.vars m.state → erase_rest o.vars after.1 ≡ erase_rest o.vars m.epilogue → project o.vars (with_epilogue m after) ≡ project o.vars m
@@ -211,7 +157,7 @@ module _ (o : Program) (valid : IsSafe o) (rule : IsOutline o) where
       free p =
           ⊎_elim
           (behind.1 p)
-          (λ past. ap (λ t. is_led o.vars (unwrap_or t [])) (slice_get_past k.rests p (omega (arith, past, (invariant k r).count))))
+          (λ past. ap (λ t. is_led o.vars (unwrap_or t [])) (slice_get_past k.rests p (omega (arith, past, (shape o rule k r).count))))
           (cases_lt p (length o.processes))
 
       go : (b : Bool) → all_empty k.rests ≡ b → (j : Moment) × Settled m j
@@ -265,13 +211,13 @@ module _ (o : Program) (valid : IsSafe o) (rule : IsOutline o) where
       go : (f : Phase) → phase m ≡ f → next_in f (project o.vars m) p ≡ option_map (project o.vars) (next_in f m p)
       go Before e =
           ap (λ n. if p == n then option_map (with_prologue (project o.vars m)) (advance_rest (take o.vars m.state) (erase_rest o.vars m.prologue)) else None) number
-          ∙ main (with_prologue (project o.vars m)) (with_prologue m) m.prologue (λ after. refl) c.0 (prologue_fit m r e) (is_last m p)
+          ∙ main (with_prologue (project o.vars m)) (with_prologue m) m.prologue (λ after. refl) c.0 (prologue_fit o rule sound m r e) (is_last m p)
       go During e =
           ap (λ t. option_map (with_rest (project o.vars m) p) (advance_rest (take o.vars m.state) t)) (rest_project o.vars m p)
-          ∙ main (with_rest (project o.vars m) p) (with_rest m p) (rest_of m p) (project_with o.vars m p) (c.1 (under_way m e).0 p) (rest_fit m r e p) true
+          ∙ main (with_rest (project o.vars m) p) (with_rest m p) (rest_of m p) (project_with o.vars m p) (c.1 (under_way m e).0 p) (rest_fit o rule sound m r e p) true
       go After e =
           ap (λ n. if p == n then option_map (with_epilogue (project o.vars m)) (advance_rest (take o.vars m.state) (erase_rest o.vars m.epilogue)) else None) number
-          ∙ main (with_epilogue (project o.vars m)) (with_epilogue m) m.epilogue (λ after. refl) (c.2 (ended m e).0 (ended m e).1) (epilogue_fit m r e) (is_last m p)
+          ∙ main (with_epilogue (project o.vars m)) (with_epilogue m) m.epilogue (λ after. refl) (c.2 (ended m e).0 (ended m e).1) (epilogue_fit o rule sound m r e) (is_last m p)
 
   simulate : (run : List ℕ) (m e : Moment) → IsReached o m → run_on run (Some (project o.vars m)) ≡ Some e → (k : Moment) × IsReached o k × (project o.vars k ≡ e)
   simulate [] m e r h = (m, r, same_Some (project o.vars m) e h)
@@ -335,7 +281,7 @@ module _ (o : Program) (valid : IsSafe o) (rule : IsOutline o) where
   active_erased k p c = ap (λ f. active_in f (erased o) p) (phase_erased o.vars k c) ∙ active_same (phase k) p
 
   numbered : (k : Moment) → IsReached o k → length (project o.vars k).rests ≡ length o.processes
-  numbered k r = length-map k.rests (erase_rest o.vars) ∙ (invariant k r).count
+  numbered k r = length-map k.rests (erase_rest o.vars) ∙ (shape o rule k r).count
 
   todo_erased : (k : Moment) → IsReached o k → (p : ℕ) → is_process o p ≡ true → todo (project o.vars k) p ≡ erase_rest o.vars (rest_of k p)
   todo_erased k r p h =
@@ -353,18 +299,18 @@ module _ (o : Program) (valid : IsSafe o) (rule : IsOutline o) where
 
       opening : (phase k ≡ Before) × (is_main o p ≡ true) → overflows (project o.vars k) p ≡ false
       opening h =
-          goal k.prologue (main_todo h.1 ∙ main_before (project o.vars k) (empty_erased o.vars k.prologue c.0 ∙ opened k h.0)) c.0 (prologue_fit k r h.0)
+          goal k.prologue (main_todo h.1 ∙ main_before (project o.vars k) (empty_erased o.vars k.prologue c.0 ∙ opened k h.0)) c.0 (prologue_fit o rule sound k r h.0)
 
       between : (phase k ≡ During) × (is_process o p ≡ true) → overflows (project o.vars k) p ≡ false
-      between h = goal (rest_of k p) (todo_erased k r p h.1) (c.1 (under_way k h.0).0 p) (rest_fit k r h.0 p)
+      between h = goal (rest_of k p) (todo_erased k r p h.1) (c.1 (under_way k h.0).0 p) (rest_fit o rule sound k r h.0 p)
 
       closing : (phase k ≡ After) × (is_main o p ≡ true) → overflows (project o.vars k) p ≡ false
       closing h =
           let all = ended k h.0 in
-          goal k.epilogue (main_todo h.1 ∙ main_after (project o.vars k) (empty_erased o.vars k.prologue c.0 ∙ all.0)) (c.2 all.0 all.1) (epilogue_fit k r h.0)
+          goal k.epilogue (main_todo h.1 ∙ main_after (project o.vars k) (empty_erased o.vars k.prologue c.0 ∙ all.0)) (c.2 all.0 all.1) (epilogue_fit o rule sound k r h.0)
 
       over : (phase k ≡ After) × (is_process o p ≡ true) × (is_some o.epilogue ≡ false) → overflows (project o.vars k) p ≡ false
-      over h = goal [] (todo_erased k r p h.1 ∙ ap (erase_rest o.vars) (nothing_left k.rests p (ended k h.0).1)) refl (tt, refl, long k r)
+      over h = goal [] (todo_erased k r p h.1 ∙ ap (erase_rest o.vars) (nothing_left k.rests p (ended k h.0).1)) refl (tt, refl, long o rule k r)
 
   pub erased_sound : IsSoundErased o
   erased_sound = record {
@@ -377,18 +323,19 @@ module _ (o : Program) (valid : IsSafe o) (rule : IsOutline o) where
         let c = clear e r in let k = c.0 in
         ap (λ j. truth o.post.assertion j.state) (sym c.2)
         ∙ plain_truth o.vars o.post.assertion k.state rule.post_plain
-        ∙ (sound o valid).post_at_end k c.1 (sym (finished_erased o.vars k c.3) ∙ ap is_finished c.2 ∙ done);
+        ∙ sound.post_at_end k c.1 (sym (finished_erased o.vars k c.3) ∙ ap is_finished c.2 ∙ done);
   }
 
-  pub erased_never_stuck : IsUnblocked o → IsNeverStuck (erased o)
-  erased_never_stuck blocking e r stuck =
+  pub erased_never_stuck : IsNeverStuck o → IsNeverStuck (erased o)
+  erased_never_stuck never e r stuck =
       let c = clear e r in let k = c.0 in
       let n = length o.processes in
       let unfinished : is_finished k ≡ false = sym (finished_erased o.vars k c.3) ∙ ap is_finished c.2 ∙ stuck.0 in
       let idle : active o k n ≡ false =
       sym (active_erased k n c.3) ∙ ap (λ j. active (erased o) j n) c.2 ∙ ap (active (erased o) e) (sym (length-map o.processes (erase_seq o.vars))) ∙ stuck.1 in
-      let during = others_left o valid k (reached o valid k c.1) (phase k) refl unfinished idle in
-      never_stuck o valid blocking k c.1 (
+      let h = shape o rule k c.1 in
+      let during = others_left o k h.no_prologue h.no_epilogue (phase k) refl unfinished idle in
+      never k c.1 (
         unfinished,
         idle,
         λ p h full.
@@ -397,7 +344,7 @@ module _ (o : Program) (valid : IsSafe o) (rule : IsOutline o) where
             let full' : is_empty (rest_of e p) ≡ false =
             ap (λ j. is_empty (rest_of j p)) (sym c.2) ∙ ap is_empty (rest_project o.vars k p) ∙ empty_erased o.vars rest free ∙ full in
             ap (rest_waits k.state) (todo_process k p (within_full k p full))
-            ∙ sym (rest_waits_erased o.vars k.state rest free (rest_fit k c.1 during p))
+            ∙ sym (rest_waits_erased o.vars k.state rest free (rest_fit o rule sound k c.1 during p))
             ∙ ap (rest_waits (take o.vars k.state)) (sym (todo_erased k c.1 p h))
             ∙ ap (λ j. waits j p) c.2
             ∙ stuck.2 p (process_same p ∙ h) full',

@@ -4,5 +4,6 @@ pub mod Invariant
 pub mod Sound
 pub mod Stuck
 pub mod Projections
+pub mod Shape
 pub mod Erased
 pub mod Examples

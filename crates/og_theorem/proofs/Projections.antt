@@ -11,8 +11,6 @@ use Rattle.og_typed.specs.Stuck.{rest_waits}
 use Rattle.og_typed.specs.Rule.{StatementFollows}
 use Rattle.og_typed.specs.Erase.{is_aux_assign, erase_seq, erase_stmt, erase_rest, project}
 use Rattle.og_typed.proofs.Erasing.{left, erase_items, attempt_fits, advance_erased, overflows_erased, waits_erased}
-use Rattle.og_cond.specs.Conditions.{Action}
-use Rattle.og_theorem.proofs.Chain.{Chain}
 
 -- ---- runs grow at their end
 
@@ -77,10 +75,6 @@ all_erased n (rest ∷ rests) h = ap₂ ◌&&◌ (empty_erased n rest (h zero)) 
 abbrev HeadFollows : ℕ → Rest → Type 0
 HeadFollows n [] = Unit {0}
 HeadFollows n (head ∷ rest) = StatementFollows n head.1
-
-pub chain_follows : (n : ℕ) (IsN : Formula → Statement → Type 0) (IsA : Action → Type 0) (rest : Rest) (last : Formula) → ((a : Formula) (stmt : Statement) → IsN a stmt → StatementFollows n stmt) → Chain IsN IsA rest last → HeadFollows n rest
-chain_follows n IsN IsA [] last f c = tt
-chain_follows n IsN IsA (head ∷ rest) last f c = f head.0 head.1 c.1.head
 
 -- its statement follows the rule, and doesn't overflow; the state has a value for each of the n variables
 abbrev pub IsFit : ℕ → List ℤ → Rest → Type 0

@@ -55,6 +55,21 @@ not_empty [] e = absurd (both_ways true e refl)
 not_empty ([] ∷ rests) e = let more = not_empty rests e in (suc more.0, more.1)
 not_empty ((head ∷ rest) ∷ rests) e = (zero, refl)
 
+-- without a main process both its rests are empty
+without_main : (o : Program) (m : Moment) → (is_some o.prologue ≡ false → is_empty m.prologue ≡ true) → (is_some o.epilogue ≡ false → is_empty m.epilogue ≡ true) → is_main o (length o.processes) ≡ false → (is_empty m.prologue ≡ true) × (is_empty m.epilogue ≡ true)
+without_main o m no_prologue no_epilogue e =
+    let n = length o.processes in
+    let none = or_parts _ _ (false_from_ne_true (is_some o.prologue || is_some o.epilogue) (λ h. both_ways (is_main o n) e (and_from _ _ h (eq-eqb n n refl)))) in
+    (no_prologue none.0, no_epilogue none.1)
+
+-- where the main process isn't active and something is left, the others are under way
+pub others_left : (o : Program) (m : Moment) → (is_some o.prologue ≡ false → is_empty m.prologue ≡ true) → (is_some o.epilogue ≡ false → is_empty m.epilogue ≡ true) → (f : Phase) → phase m ≡ f → is_finished m ≡ false → active_in f o (length o.processes) ≡ false → phase m ≡ During
+others_left o m no_prologue no_epilogue Before e unfinished idle = absurd (both_ways (is_empty m.prologue) (opened m e) (without_main o m no_prologue no_epilogue idle).0)
+others_left o m no_prologue no_epilogue During e unfinished idle = e
+others_left o m no_prologue no_epilogue After e unfinished idle =
+    let all = ended m e in
+    absurd (both_ways (is_finished m) unfinished (and_from _ _ all.0 (and_from _ _ all.1 (without_main o m no_prologue no_epilogue (or_parts _ _ idle).0).1)))
+
 module _ (o : Program) (valid : IsSafe o) where
   -- a process that waits is at one of its awaits
   waiting : (m : Moment) → IsInvariant Any o m → Currents Any o m → (i : ℕ) → is_empty (rest_of m i) ≡ false → rest_waits m.state (rest_of m i) ≡ true → (p : Sequence) × (slice_get o.processes i ≡ Some p) × (some_parts m.state (blocked p) ≡ true)
@@ -89,25 +104,10 @@ module _ (o : Program) (valid : IsSafe o) where
           let at = waiting m inv currents i full (all i full) in
           or_right _ _ (subst (λ q. some_parts m.state (blocked q) ≡ true) (same_Some at.0 p (sym at.1 ∙ e)) at.2)
 
-  -- without a main process both its rests are empty
-  without_main : (m : Moment) → IsInvariant Any o m → is_main o (length o.processes) ≡ false → (is_empty m.prologue ≡ true) × (is_empty m.epilogue ≡ true)
-  without_main m inv e =
-      let n = length o.processes in
-      let none = or_parts _ _ (false_from_ne_true (is_some o.prologue || is_some o.epilogue) (λ h. both_ways (is_main o n) e (and_from _ _ h (eq-eqb n n refl)))) in
-      (inv.no_prologue none.0, inv.no_epilogue none.1)
-
-  -- where the main process isn't active and something is left, the others are under way
-  pub others_left : (m : Moment) → IsInvariant Any o m → (f : Phase) → phase m ≡ f → is_finished m ≡ false → active_in f o (length o.processes) ≡ false → phase m ≡ During
-  others_left m inv Before e unfinished idle = absurd (both_ways (is_empty m.prologue) (opened m e) (without_main m inv idle).0)
-  others_left m inv During e unfinished idle = e
-  others_left m inv After e unfinished idle =
-      let all = ended m e in
-      absurd (both_ways (is_finished m) unfinished (and_from _ _ all.0 (and_from _ _ all.1 (without_main m inv (or_parts _ _ idle).0).1)))
-
   pub never_stuck : IsUnblocked o → IsNeverStuck o
   never_stuck blocking m r stuck =
       let inv = reached o valid m r in
-      let during = others_left m inv (phase m) refl stuck.0 stuck.1 in
+      let during = others_left o m inv.no_prologue inv.no_epilogue (phase m) refl stuck.0 stuck.1 in
       let currents = (subst (Now Any o m) during inv.now).0 in
       let all = all_wait m inv stuck.2 in
       let some = not_empty m.rests (under_way m during).1 in

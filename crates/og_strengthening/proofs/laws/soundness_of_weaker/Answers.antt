@@ -1,5 +1,5 @@
 use Rattle.og_strengthening.proofs.Promises.{sound_still}
-use Rattle.og_strengthening.proofs.Projected.{erased_sound}
+use Rattle.og_theorem.proofs.Erased.{erased_sound}
 use Rattle.og_strengthening.proofs.laws.soundness_of_weaker.Goals as goal
 
 pub returns-clause-outline : goal.returns-clause-outline
