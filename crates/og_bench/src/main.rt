@@ -5,7 +5,7 @@
 //! the statuses with that many workers, and prints how many microseconds that took.
 #![tactic(auto)]
 
-ghost use Rattle.std.specs.Prelude.{◌<◌, ◌^◌, length};
+ghost use Rattle.std.specs.Prelude.{◌<◌, ◌≤◌, ◌^◌, length};
 
 use og_cert_read::read_certs;
 use og_cert_text::CertFile;
@@ -36,70 +36,79 @@ fn print(rt: &HostRuntime, text: &str) -> Option<()> {
     rt.stdout().write_all(text.as_bytes()).ok()
 }
 
-// Prints how many conditions there are, and how many are proved.
-fn judge<H: Threads + Wait + Sync>(
-    rt: &HostRuntime,
-    threads: &H,
-    conditions: &[Condition],
-    certs: &CertFile,
-) -> Option<()>
-    requires few { length conditions.now < 2 ^ 32 }
-{
-    let alloc = rt.alloc();
-    let statuses = check_all(threads, alloc, conditions, certs, 1, &OpenGate).ok()?;
-    let count = statuses.len();
-    let proved = statuses
-        .iter()
-        .filter(|status| **status == Status::Proved)
-        .count();
-    let text = format!(in alloc; "conditions: {count}\nproved: {proved}\n").ok()?;
-    print(rt, text.as_str())
+// What is timed: workers that check the conditions by the certificates.
+#[derive(Clone, Copy)]
+struct Bench<'r, H> {
+    rt: &'r HostRuntime,
+    threads: &'r H,
+    conditions: &'r [Condition<'r>],
+    certs: &'r CertFile,
 }
 
-// Prints how many microseconds this many workers take.
-fn time<H: Threads + Wait + Sync>(
-    rt: &HostRuntime,
-    threads: &H,
-    conditions: &[Condition],
-    certs: &CertFile,
-    workers: Workers,
-) -> Option<()>
-    requires few { length conditions.now < 2 ^ 32 }
-{
-    let alloc = rt.alloc();
-    let workers = workers.count();
-    let begin = Instant::now(rt).ok()?;
-    let statuses = check_all(threads, alloc, conditions, certs, workers, &OpenGate);
-    let took = begin.elapsed(rt).ok()?.as_micros();
-    statuses.ok()?;
-    let text = format!(in alloc; "{took}\n").ok()?;
-    print(rt, text.as_str())
-}
-
-// Times the workers once for each digit of standard input.
-fn time_all<H: Threads + Wait + Sync>(
-    rt: &HostRuntime,
-    threads: &H,
-    conditions: &[Condition],
-    certs: &CertFile,
-) -> Option<()>
-    requires few { length conditions.now < 2 ^ 32 }
-{
-    let mut input = rt.stdin();
-    let mut byte = [0u8];
-    for _ in 0..u32::MAX {
-        if input.read(&mut byte).ok()? == 0 {
-            break;
-        }
-        let count = match byte[0] {
-            digit @ b'1'..=b'9' => digit - b'0',
-            _ => 0,
-        };
-        if let Some(workers) = Workers::new(u32::from(count)) {
-            time(rt, threads, conditions, certs, workers)?;
-        }
+impl<'r, H: Threads + Wait + Sync> Bench<'r, H> {
+    // The statuses of the conditions, found by this many workers.
+    fn statuses(&self, workers: u32) -> Option<Vec<Status>>
+        requires workers { (0 < workers) × (workers ≤ 64) }
+        requires few { length self.now.conditions.now < 2 ^ 32 }
+    {
+        let (threads, alloc) = (self.threads, self.rt.alloc());
+        check_all(
+            threads,
+            alloc,
+            self.conditions,
+            self.certs,
+            workers,
+            &OpenGate,
+        )
+        .ok()
     }
-    Some(())
+
+    // Prints how many conditions there are, and how many are proved.
+    fn judge(&self) -> Option<()>
+        requires few { length self.now.conditions.now < 2 ^ 32 }
+    {
+        let statuses = self.statuses(1)?;
+        let count = statuses.len();
+        let proved = statuses
+            .iter()
+            .filter(|status| **status == Status::Proved)
+            .count();
+        let text = format!(in self.rt.alloc(); "conditions: {count}\nproved: {proved}\n").ok()?;
+        print(self.rt, text.as_str())
+    }
+
+    // Prints how many microseconds this many workers take.
+    fn time(&self, workers: Workers) -> Option<()>
+        requires few { length self.now.conditions.now < 2 ^ 32 }
+    {
+        let begin = Instant::now(self.rt).ok()?;
+        let statuses = self.statuses(workers.count());
+        let took = begin.elapsed(self.rt).ok()?.as_micros();
+        statuses?;
+        let text = format!(in self.rt.alloc(); "{took}\n").ok()?;
+        print(self.rt, text.as_str())
+    }
+
+    // Times the workers once for each digit of standard input.
+    fn time_all(&self) -> Option<()>
+        requires few { length self.now.conditions.now < 2 ^ 32 }
+    {
+        let mut input = self.rt.stdin();
+        let mut byte = [0u8];
+        for _ in 0..u32::MAX {
+            if input.read(&mut byte).ok()? == 0 {
+                break;
+            }
+            let count = match byte[0] {
+                digit @ b'1'..=b'9' => digit - b'0',
+                _ => 0,
+            };
+            if let Some(workers) = Workers::new(u32::from(count)) {
+                self.time(workers)?;
+            }
+        }
+        Some(())
+    }
 }
 
 fn measure<H: Threads + Wait + Sync>(
@@ -109,8 +118,14 @@ fn measure<H: Threads + Wait + Sync>(
     certs: &CertFile,
 ) -> Option<()> {
     let list = conditions(rt.alloc(), outline).ok()?;
-    let judged = match judge(rt, threads, &list, certs) {
-        Some(()) => time_all(rt, threads, &list, certs),
+    let bench = Bench {
+        rt,
+        threads,
+        conditions: &list,
+        certs,
+    };
+    let judged = match bench.judge() {
+        Some(()) => bench.time_all(),
         None => None,
     };
     drop(list);

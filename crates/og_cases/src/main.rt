@@ -39,7 +39,7 @@ fn main(rt: HostRuntime) -> ExitCode {
         Err(_) => {
             let _ = rt
                 .stderr()
-                .write_all(b"og_cases: not told: og_cases FOLDER..\n");
+                .write_all(b"og_cases: usage: og_cases FOLDER..\n");
             ExitCode::from(2)
         }
     }

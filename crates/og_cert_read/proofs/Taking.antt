@@ -112,10 +112,10 @@ pub empty_split_good : (d i : ℕ) (v : Vec Cert Global) → v.items ≡ [] → 
 empty_split_good d i v e lt h =
     subst (IsGood d) (sym (plain_split i v ∙ ap (λ l. tree.SplitOn i (tree.cert_list (map plain_cert l))) e)) (good_split d i [] lt h (omega arith) tt)
 
-pub split_done : (fs : List Frame) (done : Entries) (n i k : ℕ) (v : Vec Cert Global) (r : Reading) → depth fs < 200 → k ≡ 0 → v.items ≡ [] → r ≡ plug done n (plain_finish (finish_type.Split i v)) fs → deeper fs (split_frames done n fs i k) ≡ Ok r
-split_done fs done n i k v r lt none e is =
-    deeper_ok fs (split_frames done n fs i k) lt
-    ∙ ap Ok (ap (split_frames done n fs i) none ∙ sym (is ∙ ap (λ c. plug done n c fs) (plain_split i v ∙ ap (λ l. tree.SplitOn i (tree.cert_list (map plain_cert l))) e)))
+pub split_done : (fs : List Frame) (done : Entries) (n i k : ℕ) (v : Vec Cert Global) (r : Reading) → k ≡ 0 → v.items ≡ [] → r ≡ plug done n (plain_finish (finish_type.Split i v)) fs → r ≡ split_frames done n fs i k
+split_done fs done n i k v r none e is =
+    is ∙ ap (λ c. plug done n c fs) (plain_split i v ∙ ap (λ l. tree.SplitOn i (tree.cert_list (map plain_cert l))) e)
+    ∙ sym (ap (split_frames done n fs i) none)
 
 -- ---- `same`
 

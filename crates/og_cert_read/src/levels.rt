@@ -92,28 +92,6 @@ fn take_in_last(levels: &mut Vec<Level>, cert: Cert) -> Result<Option<Cert>, All
     take_in(last, cert)
 }
 
-// Puts a complete certificate into the levels round it, each of which is taken out first.
-fn settle_each(
-    alloc: Global,
-    levels: &mut Vec<Level>,
-    cert: Cert,
-) -> Result<Option<Cert>, AllocError>
-    ensures settled { IfOk result (λ r. IsSettled levels.old.items cert levels.new.items r) }
-    ensures memory { OnErr result (0 < length levels.old.items) }
-{
-    let mut cert = cert;
-    while let Some(level) = levels.pop() {
-        match put_into(alloc, level, cert)? {
-            Put::Whole(whole) => cert = whole,
-            Put::Open(level) => {
-                levels.push(level)?;
-                return Ok(None);
-            }
-        }
-    }
-    Ok(Some(cert))
-}
-
 /// Puts a complete certificate into the levels round it, the innermost last, and each certificate
 /// that is complete by that too. Gives the outermost certificate, if that is complete. Takes no
 /// memory where there are no levels.
@@ -125,8 +103,18 @@ pub(crate) fn settle(
     ensures settled { IfOk result (λ r. IsSettled levels.old.items cert levels.new.items r) }
     ensures memory { OnErr result (0 < length levels.old.items) }
 {
-    match take_in_last(levels, cert)? {
-        None => Ok(None),
-        Some(cert) => settle_each(alloc, levels, cert),
+    let Some(rest) = take_in_last(levels, cert)? else {
+        return Ok(None);
+    };
+    let mut cert = rest;
+    while let Some(level) = levels.pop() {
+        match put_into(alloc, level, cert)? {
+            Put::Whole(whole) => cert = whole,
+            Put::Open(level) => {
+                levels.push(level)?;
+                return Ok(None);
+            }
+        }
     }
+    Ok(Some(cert))
 }

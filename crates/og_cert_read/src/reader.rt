@@ -135,22 +135,16 @@ impl Reader {
         Ok(())
     }
 
-    // Takes the line of a split.
-    fn split(
-        &mut self,
-        alloc: Global,
-        n: u32,
-        fact: u32,
-        count: u32,
-        at: u32,
-    ) -> Result<(), CertTextError>
+    // Takes the line of a split that has not too many round it.
+    fn split(&mut self, alloc: Global, n: u32, fact: u32, count: u32) -> Result<(), AllocError>
         requires number { self.old.number ≡ Some n }
         requires sound { IsSound self.old }
         requires good { is_line (SplitLine fact count) ≡ true }
-        ensures { IsTaken result at (deeper (frames_of self.old)
-            (split_frames (shown self.old.file) n (frames_of self.old) fact count)) self.new }
+        requires deep { depth (frames_of self.old) < 200 }
+        ensures reading { OnOk result (reading_of self.new
+            ≡ split_frames (shown self.old.file) n (frames_of self.old) fact count) }
+        ensures sound { OnOk result (IsSound self.new) }
     {
-        self.deeper(at)?;
         if count == 0 {
             self.finish(alloc, n, Finish::Split(fact, Vec::new(alloc)))?;
         } else {
@@ -184,7 +178,10 @@ impl Reader {
                 self.deeper(at)?;
                 self.open(alloc, Fork::First(form))?;
             }
-            Line::Split(fact, count) => return self.split(alloc, n, fact, count, at),
+            Line::Split(fact, count) => {
+                self.deeper(at)?;
+                self.split(alloc, n, fact, count)?;
+            }
             Line::Close(terms) => self.finish(alloc, n, Finish::Close(terms))?,
         }
         Ok(())

@@ -39,49 +39,14 @@ pub(crate) fn after<'a>(front: &[u8], text: &'a [u8]) -> Option<&'a [u8]>
     Some(rest)
 }
 
-// A tenth of 2^63, rounded down. A greater value has no digit more below 2^63.
-const TENTH: u64 = 922_337_203_685_477_580;
-
-// The value with one digit more.
-fn next_value(value: u64, byte: u8, most: u64) -> Option<u64>
-    requires most { most ≤ 9223372036854775807 }
-    requires value { value ≤ most }
-    ensures { result ≡ words.next_of most value byte }
-{
-    if byte < b'0' || b'9' < byte || value > TENTH {
-        return None;
-    }
-    let next = 10 * value + (byte - b'0') as u64;
-    if next > most {
-        return None;
-    }
-    Some(next)
-}
-
-// The number with these digits.
-fn digits(word: &[u8], most: u64) -> Option<u64>
-    requires { most ≤ 9223372036854775807 }
-    ensures value { result ≡ words.read_from most 0 word.now }
-    ensures within { IfSome result (λ n. n ≤ most) }
-{
-    let mut value: u64 = 0;
-    for b in word {
-        value = next_value(value, *b, most)?;
-    }
-    Some(value)
-}
-
 /// The number that is the whole word, without leading zeros and up to a limit below 2^63.
 pub(crate) fn number(word: &[u8], most: u64) -> Option<u64>
     requires { most ≤ 9223372036854775807 }
     ensures value { result ≡ words.number_of most word.now }
     ensures within { IfSome result (λ n. n ≤ most) }
 {
-    match word {
-        [] => None,
-        [b'0', _, ..] => None,
-        _ => digits(word, most),
-    }
+    let n = wide_number(word, most as u128)?;
+    Some(n as u64)
 }
 
 /// The number of a condition or a fact.

@@ -31,7 +31,7 @@ pub pool_refused : (P : InputFault → Type 0) (e : PoolFault) (why : Refusal) �
 pool_refused P pool.Spawn why is = subst (OnInput P) (sym is) tt
 pool_refused P pool.Memory why is = subst (OnInput P) (sym is) tt
 
--- want of threads is the cause of that refusal alone
+-- a thread that could not be started is the cause of that refusal alone
 pub pool_spawn : (n : ℕ) (e : PoolFault) (why : Refusal) → why ≡ of_pool e → (e ≡ pool.Spawn → 1 < n) → why ≡ refusal.Spawn → 1 < n
 pool_spawn n pool.Spawn why is several spawn = several refl
 pool_spawn n pool.Memory why is several spawn = absurd (cc)

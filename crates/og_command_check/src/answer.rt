@@ -117,27 +117,32 @@ pub fn checked<G: Gate, H: Threads + Wait + Sync>(
     Ok(checked?)
 }
 
-/// The answer of `checked`, or the line of a refusal, with status 2.
-///
-/// # Errors
-///
-/// `Spawn` and `Memory` as `checked`.
-pub(crate) fn answered<G: Gate, H: Threads + Wait + Sync>(
-    rt: &H,
-    alloc: Global,
-    source: &[u8],
-    certs: &[u8],
-    options: Options,
-    gate: &G,
-) -> Result<Answer, PoolFault>
-    ensures answer { IfOk result (IsChecked options.json source.now certs.now) }
-    ensures sound { IfOk result (λ answer. answer.status ≡ 0 → IsProvenSource source.now) }
-    ensures unblocked { IfOk result (λ answer. answer.status ≡ 0
-        → SaysUnblocked options.json answer.text.items → IsNeverStuckSource source.now) }
-    ensures spawn { IfErr result (λ e. e ≡ Spawn → 1 < options.workers) }
-{
-    match checked(rt, alloc, source, certs, options, gate) {
-        Ok(checked) => Ok(checked.answer),
-        Err(refusal) => refusal.answer(alloc, source),
+/// What a check is made with: threads, memory, the gate of the workers, and how it is made.
+#[derive(Clone, Copy)]
+pub(crate) struct Checker<'r, G, H> {
+    pub(crate) rt: &'r H,
+    pub(crate) alloc: Global,
+    pub(crate) gate: &'r G,
+    pub(crate) options: Options,
+}
+
+impl<'r, G: Gate, H: Threads + Wait + Sync> Checker<'r, G, H> {
+    /// The answer of `checked`, or the line of a refusal, with status 2.
+    ///
+    /// # Errors
+    ///
+    /// `Spawn` and `Memory` as `checked`.
+    pub(crate) fn answer(&self, source: &[u8], certs: &[u8]) -> Result<Answer, PoolFault>
+        ensures answer { IfOk result (IsChecked self.now.options.json source.now certs.now) }
+        ensures sound { IfOk result (λ answer. answer.status ≡ 0 → IsProvenSource source.now) }
+        ensures unblocked { IfOk result (λ answer. answer.status ≡ 0
+            → SaysUnblocked self.now.options.json answer.text.items → IsNeverStuckSource source.now) }
+        ensures spawn { IfErr result (λ e. e ≡ Spawn → 1 < self.now.options.workers) }
+    {
+        let alloc = self.alloc;
+        match checked(self.rt, alloc, source, certs, self.options, self.gate) {
+            Ok(checked) => Ok(checked.answer),
+            Err(refusal) => refusal.answer(alloc, source),
+        }
     }
 }

@@ -12,7 +12,7 @@ ghost use Rattle.og_judge.specs.Proven.{IsProvenSource};
 ghost use Rattle.og_judge.specs.NeverStuck.{IsNeverStuckSource};
 ghost use Rattle.og_report_text.specs.Yes.{SaysUnblocked};
 
-use crate::answer::answered;
+use crate::answer::Checker;
 use crate::fault::EngineFault;
 use crate::inputs::{read_certificates, read_joined, read_source};
 use crate::writing::write_answer;
@@ -73,7 +73,13 @@ pub fn engine<R: Read, S: Read, W: Write, G: Gate, H: Threads + Wait + Sync>(
 {
     let source = read_source(alloc, source)?;
     let certs = read_certificates(alloc, certs)?;
-    let answer = answered(rt, alloc, &source, &certs, options, gate)?;
+    let checker = Checker {
+        rt,
+        alloc,
+        gate,
+        options,
+    };
+    let answer = checker.answer(&source, &certs)?;
     let status = write_answer(out, &answer)?;
     Ok(status)
 }
@@ -111,7 +117,13 @@ pub fn engine_joined<R: Read, W: Write, G: Gate, H: Threads + Wait + Sync>(
 {
     let input = read_joined(alloc, input)?;
     let (source, certs) = split(&input);
-    let answer = answered(rt, alloc, source, certs, options, gate)?;
+    let checker = Checker {
+        rt,
+        alloc,
+        gate,
+        options,
+    };
+    let answer = checker.answer(source, certs)?;
     let status = write_answer(out, &answer)?;
     Ok(status)
 }

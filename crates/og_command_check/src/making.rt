@@ -160,24 +160,6 @@ fn of_file(
     Ok(FindReply::Found(FoundCertificates { text, missing }))
 }
 
-// The certificates that are found for conditions, in version 2.
-fn in_second<G: Gate, H: Threads + Wait + Sync>(
-    rt: &H,
-    alloc: Global,
-    conditions: &[Condition],
-    wanted: Wanted,
-    gate: &G,
-) -> Result<FindReply, PoolFault>
-    requires { length conditions.now ≤ condition_limit }
-    ensures found { IfOk result (IsSearched 2 wanted.limit (map seen conditions.now)) }
-    ensures spawn { IfErr result (λ e. e ≡ Spawn → 1 < wanted.workers) }
-{
-    let (budget, workers) = (wanted.budget.facts(), wanted.workers.count());
-    let file = find_all(rt, alloc, conditions, budget, workers, gate)?;
-    let found = of_file(alloc, &file, conditions.len() as u32, wanted.limit)?;
-    Ok(found)
-}
-
 // A text in version 1, or the answer for certificates for which it is too long.
 fn of_text(alloc: Global, text: FoundText, limit: usize) -> Result<FindReply, AllocError>
     ensures { IfOk result (λ found.
@@ -196,25 +178,6 @@ fn of_text(alloc: Global, text: FoundText, limit: usize) -> Result<FindReply, Al
     }
 }
 
-// The certificates that are found for conditions, in version 1.
-fn in_first<G: Gate, H: Threads + Wait + Sync>(
-    rt: &H,
-    alloc: Global,
-    conditions: &[Condition],
-    wanted: Wanted,
-    gate: &G,
-) -> Result<FindReply, PoolFault>
-    requires { length conditions.now ≤ condition_limit }
-    ensures found { IfOk result (IsSearched 1 wanted.limit (map seen conditions.now)) }
-    ensures spawn { IfErr result (λ e. e ≡ Spawn → 1 < wanted.workers) }
-{
-    let (budget, workers) = (wanted.budget.facts(), wanted.workers.count());
-    let findings = examine_all(rt, alloc, conditions, budget, workers, gate)?;
-    let text = findings.text(rt, alloc, workers, wanted.limit)?;
-    let found = of_text(alloc, text, wanted.limit)?;
-    Ok(found)
-}
-
 // The certificates that are found for conditions.
 fn of_search<G: Gate, H: Threads + Wait + Sync>(
     rt: &H,
@@ -227,11 +190,16 @@ fn of_search<G: Gate, H: Threads + Wait + Sync>(
     ensures found { IfOk result (IsSearched wanted.version wanted.limit (map seen conditions.now)) }
     ensures spawn { IfErr result (λ e. e ≡ Spawn → 1 < wanted.workers) }
 {
+    let (budget, workers) = (wanted.budget.facts(), wanted.workers.count());
     if wanted.version.is_second() {
-        in_second(rt, alloc, conditions, wanted, gate)
-    } else {
-        in_first(rt, alloc, conditions, wanted, gate)
+        let file = find_all(rt, alloc, conditions, budget, workers, gate)?;
+        let second = of_file(alloc, &file, conditions.len() as u32, wanted.limit)?;
+        return Ok(second);
     }
+    let findings = examine_all(rt, alloc, conditions, budget, workers, gate)?;
+    let text = findings.text(rt, alloc, workers, wanted.limit)?;
+    let first = of_text(alloc, text, wanted.limit)?;
+    Ok(first)
 }
 
 /// The certificates that searches find for the conditions of an outline, in the wanted version of

@@ -11,7 +11,7 @@ ghost use Rattle.og_command_explore.specs.Reported.{IsOneFinding, AreViolations}
 ghost use Rattle.og_command_explore.specs.Explored.{is_yes, status_of, printed, IsExplored};
 ghost use Rattle.og_report_explore.specs.declared.totals.Found.TheVariants as yes_or_no;
 
-use crate::reported::{Reported, add};
+use crate::reported::{FindingContext, Reported, add};
 use crate::request::Request;
 use og_cond::Condition;
 use og_explore::{Exploration, Range, explore};
@@ -54,42 +54,16 @@ fn reported_of<'a>(
         findings: Vec::new(alloc),
         complete: found.complete,
     };
-    add(
-        &mut reported,
-        alloc,
+    let context = FindingContext {
         outline,
         index,
         conditions,
         ranges,
-        &found.assertion,
-    )?;
-    add(
-        &mut reported,
-        alloc,
-        outline,
-        index,
-        conditions,
-        ranges,
-        &found.overflow,
-    )?;
-    add(
-        &mut reported,
-        alloc,
-        outline,
-        index,
-        conditions,
-        ranges,
-        &found.post,
-    )?;
-    add(
-        &mut reported,
-        alloc,
-        outline,
-        index,
-        conditions,
-        ranges,
-        &found.stuck,
-    )?;
+    };
+    add(&mut reported, alloc, context, &found.assertion)?;
+    add(&mut reported, alloc, context, &found.overflow)?;
+    add(&mut reported, alloc, context, &found.post)?;
+    add(&mut reported, alloc, context, &found.stuck)?;
     Ok(reported)
 }
 

@@ -20,25 +20,37 @@ pub(crate) struct Reported<'a> {
     pub(crate) complete: bool,
 }
 
+/// What findings are made from: an outline with its conditions, and the ranges of its starts.
+#[derive(Clone, Copy)]
+pub(crate) struct FindingContext<'r, 'a> {
+    pub(crate) outline: &'a Outline,
+    pub(crate) index: &'r Index<'a>,
+    pub(crate) conditions: &'r [Condition<'r>],
+    pub(crate) ranges: &'r [Range],
+}
+
 /// Adds a violation, where one was found. One that can't be reported makes the answer incomplete.
 pub(crate) fn add<'a>(
     reported: &mut Reported<'a>,
     alloc: Global,
-    outline: &'a Outline,
-    index: &Index<'a>,
-    conditions: &[Condition],
-    ranges: &[Range],
+    context: FindingContext<'_, 'a>,
     found: &Option<Violation>,
 ) -> Result<(), AllocError>
-    requires violation { IfSome found.now (IsViolation outline.now) }
-    requires within { IfSome found.now (λ v. IsWithin ranges.now v.values) }
-    ensures { OnOk result (IsAdded outline.now (map seen conditions.now) ranges.now found.now
-        reported.old reported.new) }
+    requires violation { IfSome found.now (IsViolation context.outline.now) }
+    requires within { IfSome found.now (λ v. IsWithin context.ranges.now v.values) }
+    ensures { OnOk result (IsAdded context.entry.outline.now (map seen context.entry.conditions.now)
+        context.entry.ranges.now found.now reported.old reported.new) }
 {
     let Some(violation) = found else {
         return Ok(());
     };
-    match finding_of(alloc, outline, index, conditions, violation)? {
+    match finding_of(
+        alloc,
+        context.outline,
+        context.index,
+        context.conditions,
+        violation,
+    )? {
         Some(finding) => reported.findings.push(finding)?,
         None => reported.complete = false,
     }

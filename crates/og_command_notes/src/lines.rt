@@ -10,7 +10,7 @@ use crate::steps::shared;
 use crate::walk::Step;
 use og_report_text::{Origins, put_assertion, put_names};
 use og_text::Name;
-use og_typed::{Item, Note, Stmt};
+use og_typed::{Item, Note, Outline, Stmt};
 use std::alloc::AllocError;
 
 impl Role {
@@ -64,17 +64,17 @@ fn put_placed(text: &mut Vec<u8>, origins: &Origins, word: &str, at: u32) -> Res
 pub(crate) fn put_claim(
     text: &mut Vec<u8>,
     origins: &Origins,
-    names: &[Name],
+    outline: &Outline,
     word: &str,
     note: &Note,
 ) -> Result<(), AllocError>
     requires { origins.now.places.now ≡ origins.now.source.now }
-    ensures { OnOk result (text.new.items ≡ text.old.items
-        ++ line.claim_line origins.now.source.now origins.now.rows names.now word.now (noted note.now)) }
+    ensures { OnOk result (text.new.items ≡ text.old.items ++ line.claim_line
+        origins.now.source.now origins.now.rows outline.now.names word.now (noted note.now)) }
 {
     put_placed(text, origins, word, note.at)?;
     text.extend_from_slice(b": ")?;
-    put_assertion(text, names, &note.assertion)?;
+    put_assertion(text, outline.names(), &note.assertion)?;
     text.extend_from_slice(b"\n")
 }
 

@@ -100,9 +100,8 @@ fn put_claims(
         ++ wanted.claims_text outline.now origins.now.source.now origins.now.rows
         (claims_of claims.now)) }
 {
-    let names = outline.names();
-    put_claim(text, origins, names, "precondition", outline.pre())?;
-    put_claim(text, origins, names, "postcondition", outline.post())?;
+    put_claim(text, origins, outline, "precondition", outline.pre())?;
+    put_claim(text, origins, outline, "postcondition", outline.post())?;
     put_all_unmet(text, origins, claims)
 }
 

@@ -14,7 +14,7 @@ use Rattle.og_judge.specs.Errors.{of_conditions, of_pool}
 use Rattle.og_judge.specs.NotJudged.{OnInput}
 use Rattle.og_judge.specs.declared.refusal.Refusal.{Refusal}
 
--- want of threads or of memory says nothing
+-- refused threads or memory say nothing
 pub pool_refused : (P : InputFault → Type 0) (e : PoolFault) (why : Refusal) → why ≡ of_pool e → OnInput P why
 pool_refused P pool.Spawn why is = subst (OnInput P) (sym is) tt
 pool_refused P pool.Memory why is = subst (OnInput P) (sym is) tt

@@ -63,37 +63,30 @@ fn as_line(alloc: Global, subject: &Subject, table: &Table) -> Result<Vec<u8>, A
     Ok(line)
 }
 
-// The page of the findings, with the additions.
-fn page_with(
+// What runs add to a page.
+#[derive(Drop)]
+struct RunAdditions {
+    before: Vec<u8>,
+    beneath: Vec<Vec<u8>>,
+}
+
+// How far runs were followed, and beneath each false condition whether one gets there, and a chart
+// of it; nothing where none were asked for.
+fn run_additions(
     alloc: Global,
     subject: &Subject,
     table: &Table,
-    additions: Additions,
-) -> Result<Vec<u8>, AllocError>
+) -> Result<RunAdditions, AllocError>
     requires short { IsShort (subject_of subject.now) }
     requires table { IsTable table.now }
-    requires added { IsAdded (subject_of subject.now) (columns_of table.now)
-        additions.before.now (map (λ t. t.items) additions.beneath.now) }
-    ensures { IfOk result (λ t. IsPage (subject_of subject.now) (columns_of table.now) t.items) }
-{
-    let (outline, own) = (subject.outline, subject.own);
-    let (conditions, diagnoses) = (table.conditions.as_slice(), table.diagnoses.as_slice());
-    let targets = targets(alloc, outline, conditions)?;
-    let text = page(
-        alloc, outline, own, conditions, diagnoses, &targets, additions,
-    )?;
-    Ok(text)
-}
-
-// The page of the findings; with runs where some were asked for: how far they were followed, and
-// beneath each false condition whether one gets there, and a chart of it.
-fn as_page(alloc: Global, subject: &Subject, table: &Table) -> Result<Vec<u8>, AllocError>
-    requires short { IsShort (subject_of subject.now) }
-    requires table { IsTable table.now }
-    ensures { IfOk result (λ t. IsPage (subject_of subject.now) (columns_of table.now) t.items) }
+    ensures { IfOk result (λ added. IsAdded (subject_of subject.now) (columns_of table.now)
+        added.before.items (map (λ t. t.items) added.beneath.items)) }
 {
     let Some(explored) = table.explored else {
-        return page_with(alloc, subject, table, Additions::none());
+        return Ok(RunAdditions {
+            before: Vec::new(alloc),
+            beneath: Vec::new(alloc),
+        });
     };
     let (diagnoses, runs) = (table.diagnoses.as_slice(), table.runs.as_slice());
     let before = about(alloc, explored, runs)?;
@@ -105,11 +98,27 @@ fn as_page(alloc: Global, subject: &Subject, table: &Table) -> Result<Vec<u8>, A
         diagnoses,
         runs,
     )?;
+    Ok(RunAdditions { before, beneath })
+}
+
+// The page of the findings, with runs where some were asked for.
+fn as_page(alloc: Global, subject: &Subject, table: &Table) -> Result<Vec<u8>, AllocError>
+    requires short { IsShort (subject_of subject.now) }
+    requires table { IsTable table.now }
+    ensures { IfOk result (λ t. IsPage (subject_of subject.now) (columns_of table.now) t.items) }
+{
+    let added = run_additions(alloc, subject, table)?;
     let additions = Additions {
-        before: &before,
-        beneath: &beneath,
+        before: &added.before,
+        beneath: &added.beneath,
     };
-    page_with(alloc, subject, table, additions)
+    let (outline, own) = (subject.outline, subject.own);
+    let (conditions, diagnoses) = (table.conditions.as_slice(), table.diagnoses.as_slice());
+    let targets = targets(alloc, outline, conditions)?;
+    let text = page(
+        alloc, outline, own, conditions, diagnoses, &targets, additions,
+    )?;
+    Ok(text)
 }
 
 /// The findings in a form.

@@ -100,33 +100,6 @@ fn by_verdicts<'a>(
     Ok(Findings { rows, explored })
 }
 
-// What is found by the verdicts and by the runs that were followed.
-fn by_moments<'a>(
-    alloc: Global,
-    outline: &'a Outline,
-    conditions: Vec<Condition<'a>>,
-    verdicts: &Verdicts,
-    moments: &Moments<'a>,
-) -> Result<Findings<'a>, AllocError>
-    requires verdicts { AreVerdicts (map seen conditions.items) verdicts.now }
-    requires needed { HasFalse (map seen conditions.items) }
-    requires moments { AreMoments outline.now moments.now }
-    ensures found { IfOk result (λ f.
-        AreFound outline.now (map seen conditions.entry.items) f.rows.items f.explored) }
-    ensures explored { IfOk result (λ f. is_some f.explored ≡ true) }
-{
-    let explored = Explored {
-        starts: moments.reach.starts,
-        moments: moments.reach.moments.len(),
-        complete: moments.reach.complete,
-    };
-    let rows = rows_of(alloc, outline, conditions, verdicts, Some(moments))?;
-    Ok(Findings {
-        rows,
-        explored: Some(explored),
-    })
-}
-
 // The moments of the runs that are asked for, of this many conditions.
 fn moments_of<'a>(
     alloc: Global,
@@ -164,26 +137,16 @@ fn followed<'a>(
         return by_verdicts(alloc, outline, conditions, verdicts, Some(nothing));
     }
     let moments = moments_of(alloc, outline, conditions.len(), verdicts, asked)?;
-    by_moments(alloc, outline, conditions, verdicts, &moments)
-}
-
-// What is found by the verdicts, and by runs where some are asked for.
-fn found<'a>(
-    alloc: Global,
-    outline: &'a Outline,
-    conditions: Vec<Condition<'a>>,
-    verdicts: &Verdicts,
-    asked: Option<&AskedRuns<'_>>,
-) -> Result<Findings<'a>, AllocError>
-    requires { AreVerdicts (map seen conditions.items) verdicts.now }
-    ensures found { IfOk result (λ f.
-        AreFound outline.now (map seen conditions.entry.items) f.rows.items f.explored) }
-    ensures asked { IfOk result (λ f. is_some f.explored ≡ is_some asked.entry) }
-{
-    match asked {
-        None => by_verdicts(alloc, outline, conditions, verdicts, None),
-        Some(asked) => followed(alloc, outline, conditions, verdicts, asked),
-    }
+    let explored = Explored {
+        starts: moments.reach.starts,
+        moments: moments.reach.moments.len(),
+        complete: moments.reach.complete,
+    };
+    let rows = rows_of(alloc, outline, conditions, verdicts, Some(&moments))?;
+    Ok(Findings {
+        rows,
+        explored: Some(explored),
+    })
 }
 
 impl<'r, G: Gate, H: Threads + Wait + Sync> Prover<'r, G, H> {
@@ -211,7 +174,10 @@ impl<'r, G: Gate, H: Threads + Wait + Sync> Prover<'r, G, H> {
     {
         let (budget, workers) = (self.search.budget.facts(), self.search.workers.count());
         let verdicts = examine_all(self.rt, self.alloc, &conditions, budget, workers, self.gate)?;
-        let findings = found(self.alloc, outline, conditions, &verdicts, asked)?;
-        Ok(findings)
+        let alloc = self.alloc;
+        match asked {
+            None => Ok(by_verdicts(alloc, outline, conditions, &verdicts, None)?),
+            Some(asked) => Ok(followed(alloc, outline, conditions, &verdicts, asked)?),
+        }
     }
 }

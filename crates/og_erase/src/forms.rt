@@ -39,7 +39,7 @@ fn sign(c: i128) -> Sign
     if c < 0 { Sign::Minus } else { Sign::Plus }
 }
 
-// So many times the variable.
+// The variable with a factor before it.
 fn factor(n: u64, variable: RawName) -> RawFactor
     ensures { result ≡ collected.factor n variable }
 {

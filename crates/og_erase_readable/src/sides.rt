@@ -3,7 +3,6 @@
 ghost use Rattle.std.specs.Prelude.{◌≡◌, ◌<◌, ◌-◌, IfOk, length, take, slice_get, not, filter, map};
 ghost use Rattle.std.specs.List.{list_any};
 ghost use Rattle.og_erase_readable.specs.Readable as wanted;
-ghost use Rattle.og_parse.specs.Trees.{Comparison};
 ghost use Rattle.og_parse.specs.TreeOf.{assertion_of, sum_of};
 
 use crate::copies::{copy_factor, copy_sum, copy_term};
@@ -215,19 +214,6 @@ fn parted(
     Ok(RawAssert::Compare(added, relation, taken))
 }
 
-fn copied(
-    alloc: Global,
-    left: &RawSum,
-    relation: Relation,
-    right: &RawSum,
-) -> Result<RawAssert, AllocError>
-    ensures { IfOk result (λ a.
-        assertion_of a ≡ Comparison (sum_of left.now) relation (sum_of right.now)) }
-{
-    let left = copy_sum(alloc, left)?;
-    Ok(RawAssert::Compare(left, relation, copy_sum(alloc, right)?))
-}
-
 pub(crate) fn comparison(
     alloc: Global,
     left: &RawSum,
@@ -238,7 +224,8 @@ pub(crate) fn comparison(
         assertion_of a ≡ wanted.readable_comparison (sum_of left.now) relation (sum_of right.now)) }
 {
     if !is_zero(&right.terms) {
-        return copied(alloc, left, relation, right);
+        let left = copy_sum(alloc, left)?;
+        return Ok(RawAssert::Compare(left, relation, copy_sum(alloc, right)?));
     }
     let strict = is_strict(relation, &left.terms);
     let stated = stated_terms(strict, &left.terms);

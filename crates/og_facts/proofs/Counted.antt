@@ -1,14 +1,15 @@
 -- Counts of lists of assertions, one after another.
-use Rattle.std.proofs.Common.{◌≡◌, ◌≢◌, ℕ, List, [], ◌∷◌, map, length, get_or, Bool, true, false, Vec, Global, refl, ap, ◌∙◌, arith}
+use Rattle.std.proofs.Common.{◌≡◌, ◌≢◌, ℕ, ◌+◌, List, [], ◌∷◌, map, length, get_or, Bool, true, false, Vec, Global, refl, ap, ◌∙◌, arith}
 use Rattle.og_typed.specs.Lists.{formula_list}
 use Rattle.og_typed.specs.Plain.{formula}
 use Rattle.og_typed.specs.declared.assertion.Assert.{Assert}
 use Rattle.og_typed.specs.declared.assertion.Assert.TheViews as its
 use Rattle.og_typed.proofs.Lists.{formula_and, formula_or}
+use Rattle.og_cond.specs.declared.condition.Hypothesis.{Hypothesis}
 use Rattle.og_cond.specs.declared.condition.Part.{Part}
-use Rattle.og_cond.specs.Seen.{parts_of}
-use Rattle.og_facts.specs.Counts.{split_count, count_parts}
-use Rattle.og_facts.specs.Rooms.{count_said, count_all, counts_each}
+use Rattle.og_cond.specs.Seen.{part_of, parts_of, hypothesis_of}
+use Rattle.og_facts.specs.Counts.{split_count, count_part, count_parts, count_hypothesis, count_hypotheses}
+use Rattle.og_facts.specs.Rooms.{count_said, count_all, counts_each, count_each}
 
 -- of all these assertions
 abbrev pub count_list : Bool → List Assert → ℕ
@@ -61,3 +62,12 @@ pub lists_others : (lists : List (Vec Part Global)) → length lists ≢ 1 → s
 lists_others [] n = refl
 lists_others (x ∷ []) n = absurd (n refl)
 lists_others (x ∷ y ∷ lists) n = refl
+
+-- the items of a list, one after another
+pub each_part : (ps : List Part) → count_each (λ p. count_part (part_of p)) ps ≡ count_parts (map part_of ps)
+each_part [] = refl
+each_part (p ∷ ps) = ap (λ n. count_part (part_of p) + n) (each_part ps)
+
+pub each_hypothesis : (hs : List Hypothesis) → count_each (λ h. count_hypothesis (hypothesis_of h)) hs ≡ count_hypotheses (map hypothesis_of hs)
+each_hypothesis [] = refl
+each_hypothesis (h ∷ hs) = ap (λ n. count_hypothesis (hypothesis_of h) + n) (each_hypothesis hs)

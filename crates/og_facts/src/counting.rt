@@ -3,13 +3,13 @@
 //! Each count takes the room that is left and returns the rest after it, or nothing where the
 //! room is too small.
 
-ghost use Rattle.std.specs.Prelude.{map};
+ghost use Rattle.std.specs.Prelude.{ℕ, map};
 ghost use Rattle.og_typed.specs.Plain.{formula};
 ghost use Rattle.og_typed.specs.Lists.{formula_list};
 ghost use Rattle.og_cond.specs.Counting.{Leaves};
 ghost use Rattle.og_cond.specs.Seen.{part_of, parts_of, hypothesis_of, seen};
 ghost use Rattle.og_facts.specs.Counts.{split_count, count_part, count_parts, count_hypothesis, count_hypotheses, count};
-ghost use Rattle.og_facts.specs.Rooms.{count_said, count_all, counts_each};
+ghost use Rattle.og_facts.specs.Rooms.{count_said, count_all, counts_each, count_each};
 
 use og_cond::{Condition, Goal, Hypothesis, Part};
 use og_typed::Assert;
@@ -65,23 +65,54 @@ fn room_after_some(room: usize, is_true: bool, all: &[Assert]) -> Option<usize>
     }
 }
 
-fn room_after_part(room: usize, part: &Part) -> Option<usize>
-    ensures { Leaves room (count_part (part_of part.now)) result }
-{
-    match part {
-        Part::Yes(a) => room_after_assertion(room, true, a),
-        Part::No(a) => room_after_assertion(room, false, a),
+// What adds facts to a condition.
+trait Counted {
+    // How many facts it adds.
+    ghost facts: { Self → ℕ };
+
+    // The rest of the room after its facts.
+    fn room_after(&self, room: usize) -> Option<usize>
+        ensures { Leaves room (facts self.now) result };
+}
+
+impl Counted for Part<'_> {
+    ghost facts = { λ p. count_part (part_of p) };
+
+    fn room_after(&self, room: usize) -> Option<usize> {
+        match self {
+            Part::Yes(a) => room_after_assertion(room, true, a),
+            Part::No(a) => room_after_assertion(room, false, a),
+        }
     }
+}
+
+impl Counted for Hypothesis<'_> {
+    ghost facts = { λ h. count_hypothesis (hypothesis_of h) };
+
+    fn room_after(&self, room: usize) -> Option<usize> {
+        match self {
+            Hypothesis::Is(part) => part.room_after(room),
+            Hypothesis::Starts(..) => room.checked_sub(2),
+            Hypothesis::OneOf(lists) => room_after_lists(room, lists),
+        }
+    }
+}
+
+// The facts of each of them.
+fn room_after_each<T: Counted>(room: usize, items: &[T]) -> Option<usize>
+    ensures { Leaves room (count_each T.facts items.now) result }
+{
+    let mut left = room;
+    for item in items {
+        left = item.room_after(left)?;
+    }
+    Some(left)
 }
 
 fn room_after_parts(room: usize, parts: &[Part]) -> Option<usize>
     ensures { Leaves room (count_parts (map part_of parts.now)) result }
 {
-    let mut left = room;
-    for part in parts {
-        left = room_after_part(left, part)?;
-    }
-    Some(left)
+    room_after_each(room, parts)
 }
 
 // The parts of one of the lists.
@@ -96,24 +127,10 @@ fn room_after_lists(room: usize, lists: &[Vec<Part>]) -> Option<usize>
     }
 }
 
-fn room_after_hypothesis(room: usize, hypothesis: &Hypothesis) -> Option<usize>
-    ensures { Leaves room (count_hypothesis (hypothesis_of hypothesis.now)) result }
-{
-    match hypothesis {
-        Hypothesis::Is(part) => room_after_part(room, part),
-        Hypothesis::Starts(..) => room.checked_sub(2),
-        Hypothesis::OneOf(lists) => room_after_lists(room, lists),
-    }
-}
-
 fn room_after_hypotheses(room: usize, hypotheses: &[Hypothesis]) -> Option<usize>
     ensures { Leaves room (count_hypotheses (map hypothesis_of hypotheses.now)) result }
 {
-    let mut left = room;
-    for hypothesis in hypotheses {
-        left = room_after_hypothesis(left, hypothesis)?;
-    }
-    Some(left)
+    room_after_each(room, hypotheses)
 }
 
 /// The rest of the room after all facts of the condition.

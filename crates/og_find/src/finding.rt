@@ -136,46 +136,30 @@ fn is_found_as_fast(list: &FactList, cert: &Cert) -> bool {
     is_one_sum && list.as_slice().len() <= FEW_FACTS
 }
 
-// The certificate of the leader of a condition with these facts, carried over to them, if it closes
-// them.
-fn carried_over<'c>(
-    alloc: Global,
-    list: &FactList,
-    leader: Leader<'_, 'c>,
-    leaders: &mut Leaders<'c>,
-) -> Result<Option<Cert>, AllocError>
-    ensures { IfOk result (λ some. IfSome some (λ own. Closes list.now (plain_cert own))) }
-{
-    match leaders.carried(alloc, leader, list)? {
-        Some(own) => {
-            if is_closing(alloc, list, &own)? {
-                return Ok(Some(own));
-            }
-            Ok(None)
-        }
-        None => Ok(None),
-    }
-}
-
-// The verdict on a condition with these facts after the certificate of its leader.
+// What the certificate of its leader gives for a condition with these facts, without a search: it is
+// shared, or carried over to them, if it closes them.
 fn follow_facts<'c>(
     alloc: Global,
     list: &FactList,
     leader: Leader<'_, 'c>,
     leaders: &mut Leaders<'c>,
-    budget: u64,
-) -> Result<Followed, AllocError>
-    ensures { IfOk result (IsFollowedOn list.now (plain_cert leader.entry.cert.now)) }
+) -> Result<Option<Followed>, AllocError>
+    ensures { IfOk result (λ some. IfSome some
+        (IsFollowedOn list.now (plain_cert leader.entry.cert.now))) }
 {
     if is_closing(alloc, list, leader.cert)? {
-        return Ok(Followed::Shares);
+        return Ok(Some(Followed::Shares));
     }
-    if !is_found_as_fast(list, leader.cert) {
-        if let Some(own) = carried_over(alloc, list, leader, leaders)? {
-            return Ok(Followed::Own(Verdict::True(own)));
-        }
+    if is_found_as_fast(list, leader.cert) {
+        return Ok(None);
     }
-    Ok(Followed::Own(examine_facts(alloc, list, budget)?))
+    let Some(own) = leaders.carried(alloc, leader, list)? else {
+        return Ok(None);
+    };
+    if is_closing(alloc, list, &own)? {
+        return Ok(Some(Followed::Own(Verdict::True(own))));
+    }
+    Ok(None)
 }
 
 /// The verdict on a condition after the certificate of its leader, another condition, from which
@@ -199,7 +183,12 @@ pub fn follow<'c>(
     ensures { IfOk result (IsFollowed (seen condition.now) (plain_cert leader.entry.cert.now)) }
 {
     match facts(alloc, condition) {
-        Ok(list) => follow_facts(alloc, &list, leader, leaders, budget),
+        Ok(list) => {
+            if let Some(followed) = follow_facts(alloc, &list, leader, leaders)? {
+                return Ok(followed);
+            }
+            Ok(Followed::Own(examine_facts(alloc, &list, budget)?))
+        }
         Err(FactsError::Memory) => Err(AllocError),
         Err(FactsError::Fault(_)) => Ok(Followed::Own(Verdict::Open)),
     }

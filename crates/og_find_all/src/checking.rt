@@ -97,7 +97,7 @@ impl<'a, 'c> Numbered for Checking<'a, 'c> {
         &self,
         alloc: Global,
         number: u32,
-        _kept: &mut (),
+        _: &mut (),
     ) -> Result<Option<Box<Verdict>>, AllocError> {
         let index = number as usize - 1;
         if self.is_served(alloc, index)? {

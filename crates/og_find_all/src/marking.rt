@@ -26,12 +26,7 @@ impl<'a, 'c> Numbered for Marking<'a, 'c> {
 
     fn kept(&self) {}
 
-    fn answer(
-        &self,
-        alloc: Global,
-        number: u32,
-        _kept: &mut (),
-    ) -> Result<Option<Marks>, AllocError> {
+    fn answer(&self, alloc: Global, number: u32, _: &mut ()) -> Result<Option<Marks>, AllocError> {
         mark(alloc, &self.conditions[number as usize - 1])
     }
 }

@@ -318,7 +318,7 @@ impl Findings {
 
     /// The text in version 1 of the certificates, each under the number of its condition, counted
     /// from 1, and how many conditions have none; the certificates alone where the text would have
-    /// more bytes than the limit. So many workers make the lines of the text. The text is that of
+    /// more bytes than the limit. The workers make the lines of the text. The text is that of
     /// the file of `certificates`, and the same for every number of workers.
     ///
     /// # Errors

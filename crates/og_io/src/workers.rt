@@ -29,7 +29,7 @@ impl Workers {
     /// One worker.
     pub const ONE: Workers = Workers { count: 1 };
 
-    /// So many workers; `None` where there is none, or more than 64.
+    /// This many workers; `None` where there is none, or more than 64.
     pub fn new(count: u32) -> Option<Workers>
         ensures same { IfSome result (λ n. n ≡ count) }
         ensures within { IfSome result (λ _. (1 ≤ count) × (count ≤ 64)) }

@@ -16,7 +16,7 @@ refusal_status source refusal.Spawn (Err e) answered = tt
 refusal_status source refusal.Memory (Ok a) answered = absurd answered
 refusal_status source refusal.Memory (Err e) answered = tt
 
--- want of threads is the cause of that refusal alone
+-- a thread that could not be started is the cause of that refusal alone
 pub refusal_spawn : (source : List ℕ) (n : ℕ) (why : Refusal) (r : Result Answer PoolFault) → IsAnswered source why r
     → (why ≡ refusal.Spawn → 1 < n) → IfErr r (λ e. e ≡ pool.Spawn → 1 < n)
 refusal_spawn source n (refusal.Input fault) (Ok a) answered several = tt

@@ -14,7 +14,7 @@ place_of_refusal (refusal.Input fault) = place_of_input fault
 place_of_refusal refusal.Spawn = None
 place_of_refusal refusal.Memory = None
 
--- the line of a fault, or memory ran out; want of threads, or of memory, stays what it is
+-- the line of a fault, or memory ran out; refused threads or memory stay what they are
 abbrev pub IsAnswered : List ℕ → Refusal → Result Answer PoolFault → Type 0
 IsAnswered source (refusal.Input fault) (Ok answer) = IsFaultAnswer source fault answer
 IsAnswered source (refusal.Input fault) (Err e) = e ≡ pool.Memory

@@ -7,7 +7,7 @@ use Rattle.og_judge.specs.Report.{IsRefused}
 use Rattle.og_judge.specs.declared.refusal.Refusal.{Refusal}
 use Rattle.og_judge.specs.declared.refusal.Refusal.TheVariants as refusal
 
--- P of the fault; want of threads, or of memory, says nothing
+-- P of the fault; refused threads or memory say nothing
 abbrev pub OnInput : (InputFault → Type 0) → Refusal → Type 0
 OnInput P (refusal.Input fault) = P fault
 OnInput P refusal.Spawn = ⊤

@@ -61,28 +61,6 @@ fn count_of(conditions: &[Condition]) -> u32
     conditions.len() as u32
 }
 
-// The findings on the conditions of an outline.
-fn judge_conditions<G: Gate, R: Threads + Wait + Sync>(
-    rt: &R,
-    alloc: Global,
-    outline: &Outline,
-    certs: &[u8],
-    workers: Workers,
-    gate: &G,
-) -> Result<Vec<Entry>, Refusal>
-    ensures entries { IfOk result (λ v. AreEntries certs.now outline.now v.items) }
-    ensures refused { IfErr result (AreNotFound certs.now outline.now) }
-    ensures spawn { IfErr result (λ e. e ≡ Spawn → 1 < workers) }
-{
-    let conditions = conditions(alloc, outline)?;
-    let file = read_certs(alloc, certs)?;
-    if let Some(number) = file.least_above(count_of(&conditions)) {
-        return Err(Refusal::Input(InputFault::Stray(number)));
-    }
-    let statuses = check_all(rt, alloc, &conditions, &file, workers.count(), gate)?;
-    Ok(listed(alloc, &conditions, &statuses)?)
-}
-
 // Whether every entry but the last is proved.
 fn all_but_the_last(entries: &[Entry]) -> bool
     ensures { result ≡ is_safe entries.now }
@@ -137,7 +115,13 @@ pub fn judge_outline<G: Gate, R: Threads + Wait + Sync>(
     ensures refused { IfErr result (AreNotFound certs.now outline.now) }
     ensures spawn { IfErr result (λ e. e ≡ Spawn → 1 < workers) }
 {
-    let entries = judge_conditions(rt, alloc, outline, certs, workers, gate)?;
+    let conditions = conditions(alloc, outline)?;
+    let file = read_certs(alloc, certs)?;
+    if let Some(number) = file.least_above(count_of(&conditions)) {
+        return Err(Refusal::Input(InputFault::Stray(number)));
+    }
+    let statuses = check_all(rt, alloc, &conditions, &file, workers.count(), gate)?;
+    let entries = listed(alloc, &conditions, &statuses)?;
     Ok(concluded(outline, entries))
 }
 

@@ -41,7 +41,7 @@ gives_counts {X} {count} enter before x e = record {
 
 -- ---- one token: what it begins and closes goes by the number of its kind
 
-begins_number : (kind : TokenKind) → begins_statement kind ≡ a_stmt (number_of kind)
+pub begins_number : (kind : TokenKind) → begins_statement kind ≡ a_stmt (number_of kind)
 begins_number (kinds.Name bytes) = refl
 begins_number kinds.Skip = refl
 begins_number kinds.If = refl

@@ -9,6 +9,7 @@ pub mod TreeOf
 pub mod Words
 pub mod Grammar
 pub mod Reads
+pub mod Contexts
 pub mod Faults
 pub mod Parsed
 pub mod Limits

@@ -36,4 +36,6 @@ pub use raw::{
     RawProcesses, RawSeq, RawStmt, RawSum, RawTerm, Relation, Sign,
 };
 pub use refusal::{FaultKind, Refusal};
+pub use statements::begins_statement;
 pub use whole::{one_answer, one_count, one_tree, parse};
+pub use word::relation_of;

@@ -10,7 +10,7 @@ ghost use Rattle.og_parse.specs.Reads.{aux_at, names_at, auxes_at, listed_by, se
 
 use crate::assertions::note;
 use crate::raw::{Raw, RawAux, RawName, RawNote, RawProcesses, RawSeq};
-use crate::statements::{rest_of_block, sequence};
+use crate::statements::{Context, rest_of_block, sequence};
 use crate::sum::int;
 use crate::word::name;
 use crate::{Cursor, FaultKind, Refusal};
@@ -113,7 +113,13 @@ fn main_part(alloc: Global, levels: u32, cursor: &mut Cursor) -> Result<Option<R
     ensures { IsRead (option_map seq_of) result cursor.new (main_at levels cursor.old) }
 {
     if cursor.eat(&TokenKind::Begin) {
-        return Ok(Some(rest_of_block(alloc, levels, false, levels, cursor)?));
+        let context = Context {
+            alloc,
+            levels,
+            awaits: false,
+            depth: levels,
+        };
+        return Ok(Some(rest_of_block(context, cursor)?));
     }
     Ok(None)
 }
@@ -122,10 +128,16 @@ fn main_part(alloc: Global, levels: u32, cursor: &mut Cursor) -> Result<Option<R
 fn processes(alloc: Global, levels: u32, cursor: &mut Cursor) -> Result<RawProcesses, Refusal>
     ensures { IsRead seqs_of result cursor.new (processes_at levels cursor.old) }
 {
-    let first = sequence(alloc, levels, true, levels, cursor)?;
+    let context = Context {
+        alloc,
+        levels,
+        awaits: true,
+        depth: levels,
+    };
+    let first = sequence(context, cursor)?;
     let mut others = Vec::new(alloc);
     'more: while cursor.eat(&TokenKind::Parallel) {
-        others.push(sequence(alloc, levels, true, levels, cursor)?)?;
+        others.push(sequence(context, cursor)?)?;
     }
     Ok(RawProcesses { first, others })
 }

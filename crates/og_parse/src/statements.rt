@@ -3,11 +3,13 @@
 ghost use Rattle.std.specs.Prelude.{◌≡◌, option_map, map, ◌++◌, ◌∷◌, [], IfOk};
 ghost use Rattle.og_text.specs.declared.token.TokenKind.TheVariants.{Else};
 ghost use Rattle.og_parse.specs.Gives.{IsRead};
+ghost use Rattle.og_parse.specs.Limits.{begins_statement};
 ghost use Rattle.og_parse.specs.Reading.{starts, if_symbol_at};
 ghost use Rattle.og_parse.specs.Parts.{step_of};
 ghost use Rattle.og_parse.specs.Trees.{Simple, While, choice};
 ghost use Rattle.og_parse.specs.TreeOf.{assertion_of, basic_of, item_of, item_of_step, stmt_of, seq_of, note_of};
-ghost use Rattle.og_parse.specs.Reads.{a_stmt, await_at, rest_of_block_by, block_by, tested_by, if_by, while_by, stmt_by, step_by, compound_at, seq_at};
+ghost use Rattle.og_parse.specs.Reads.{a_stmt, await_at, rest_of_block_by, block_by, tested_by, if_by, stmt_by, step_by};
+ghost use Rattle.og_parse.specs.Contexts.{compound_in, seq_in};
 
 use crate::assertions::{note, test};
 use crate::basic::{basic, body};
@@ -26,20 +28,35 @@ struct RawStep {
     after: RawNote,
 }
 
+/// What statements are read with: at most `levels` levels of assertions and `depth` levels of
+/// statements, and an await only where `awaits` is true.
+#[derive(Clone, Copy, Drop)]
+pub(crate) struct Context {
+    pub(crate) alloc: Global,
+    pub(crate) levels: u32,
+    pub(crate) awaits: bool,
+    pub(crate) depth: u32,
+}
+
+/// Whether a statement begins with a token of this kind.
+pub fn begins_statement(kind: &TokenKind) -> bool
+    ensures { result ≡ begins_statement kind.now }
+{
+    matches!(
+        kind,
+        TokenKind::Name(_) | TokenKind::Skip | TokenKind::If | TokenKind::While | TokenKind::Await
+    )
+}
+
 // Whether the next token begins a statement.
+#[tactic(auto, using(crate::proofs::Counted::begins_number))]
 fn is_at_stmt(cursor: &Cursor) -> bool
     ensures { result ≡ starts a_stmt cursor.now }
 {
-    matches!(
-        cursor.peek(),
-        Some(
-            TokenKind::Name(_)
-                | TokenKind::Skip
-                | TokenKind::If
-                | TokenKind::While
-                | TokenKind::Await
-        )
-    )
+    match cursor.peek() {
+        Some(kind) => begins_statement(kind),
+        None => false,
+    }
 }
 
 fn simple(alloc: Global, basic: RawBasic) -> Result<Box<RawStmt>, AllocError>
@@ -102,155 +119,104 @@ fn await_stmt(alloc: Global, levels: u32, cursor: &mut Cursor) -> Result<Box<Raw
 #[cycle(statements)]
 #[tactic(auto, unfolding(crate::specs::Reads::tested_by))]
 fn tested(
-    alloc: Global,
-    levels: u32,
-    awaits: bool,
-    depth: u32,
+    context: Context,
     symbol: &TokenKind,
     cursor: &mut Cursor,
 ) -> Result<(RawAssert, Box<RawSeq>), Refusal>
     ensures { IsRead (λ x. (assertion_of x.0, seq_of x.1.value)) result cursor.new
-        (tested_by symbol.now levels (seq_at levels awaits depth) cursor.old) }
+        (tested_by symbol.now context.levels (seq_in context) cursor.old) }
 {
-    let test = test(alloc, levels, symbol, cursor)?;
-    let all = block(alloc, levels, awaits, depth, cursor)?;
+    let test = test(context.alloc, context.levels, symbol, cursor)?;
+    let all = block(context, cursor)?;
     Ok((test, all))
 }
 
 // The block after `else`, if there is one.
 #[cycle(statements)]
-fn else_part(
-    alloc: Global,
-    levels: u32,
-    awaits: bool,
-    depth: u32,
-    cursor: &mut Cursor,
-) -> Result<Option<Box<RawSeq>>, Refusal>
+fn else_part(context: Context, cursor: &mut Cursor) -> Result<Option<Box<RawSeq>>, Refusal>
     ensures { IsRead (option_map (λ x. seq_of x.value)) result cursor.new
-        (if_symbol_at Else (block_by (seq_at levels awaits depth)) cursor.old) }
+        (if_symbol_at Else (block_by (seq_in context)) cursor.old) }
 {
     if cursor.eat(&TokenKind::Else) {
-        return Ok(Some(block(alloc, levels, awaits, depth, cursor)?));
+        return Ok(Some(block(context, cursor)?));
     }
     Ok(None)
 }
 
 #[cycle(statements)]
 #[tactic(auto, unfolding(crate::specs::Reads::if_by))]
-fn if_stmt(
-    alloc: Global,
-    levels: u32,
-    awaits: bool,
-    depth: u32,
-    cursor: &mut Cursor,
-) -> Result<Box<RawStmt>, Refusal>
+fn if_stmt(context: Context, cursor: &mut Cursor) -> Result<Box<RawStmt>, Refusal>
     ensures { IsRead (λ x. stmt_of x.value) result cursor.new
-        (if_by levels (seq_at levels awaits depth) cursor.old) }
+        (if_by context.levels (seq_in context) cursor.old) }
 {
     cursor.expect(&TokenKind::If)?;
-    let (test, branch) = tested(alloc, levels, awaits, depth, &TokenKind::Then, cursor)?;
-    let other = else_part(alloc, levels, awaits, depth, cursor)?;
-    Ok(two_way(alloc, test, branch, other)?)
+    let (test, branch) = tested(context, &TokenKind::Then, cursor)?;
+    let other = else_part(context, cursor)?;
+    Ok(two_way(context.alloc, test, branch, other)?)
 }
 
+// A statement that opens a level, where `context.depth` levels are left.
 #[cycle(statements)]
-#[tactic(auto, unfolding(crate::specs::Reads::while_by))]
-fn while_stmt(
-    alloc: Global,
-    levels: u32,
-    awaits: bool,
-    depth: u32,
-    cursor: &mut Cursor,
-) -> Result<Box<RawStmt>, Refusal>
+#[tactic(auto, unfolding(crate::specs::Reads::compound_by, crate::specs::Reads::while_by))]
+fn compound(context: Context, cursor: &mut Cursor) -> Result<Box<RawStmt>, Refusal>
     ensures { IsRead (λ x. stmt_of x.value) result cursor.new
-        (while_by levels (seq_at levels awaits depth) cursor.old) }
+        (compound_in context cursor.old) }
 {
-    cursor.expect(&TokenKind::While)?;
-    let (test, body) = tested(alloc, levels, awaits, depth, &TokenKind::Do, cursor)?;
-    Ok(looping(alloc, test, body)?)
-}
-
-// A statement that opens a level, where `depth` levels are left.
-#[cycle(statements)]
-#[tactic(auto, unfolding(crate::specs::Reads::compound_by))]
-fn compound(
-    alloc: Global,
-    levels: u32,
-    awaits: bool,
-    depth: u32,
-    cursor: &mut Cursor,
-) -> Result<Box<RawStmt>, Refusal>
-    ensures { IsRead (λ x. stmt_of x.value) result cursor.new
-        (compound_at levels awaits depth cursor.old) }
-{
-    if depth == 0 {
+    if context.depth == 0 {
         return Err(Refusal::Fault(FaultKind::TooDeep));
     }
+    let within = Context {
+        depth: context.depth - 1,
+        ..context
+    };
     if cursor.is_at(&TokenKind::If) {
-        return if_stmt(alloc, levels, awaits, depth - 1, cursor);
+        return if_stmt(within, cursor);
     }
-    while_stmt(alloc, levels, awaits, depth - 1, cursor)
+    cursor.expect(&TokenKind::While)?;
+    let (test, body) = tested(within, &TokenKind::Do, cursor)?;
+    Ok(looping(context.alloc, test, body)?)
 }
 
 #[cycle(statements)]
 #[tactic(auto, unfolding(crate::specs::Reads::stmt_by))]
-fn statement(
-    alloc: Global,
-    levels: u32,
-    awaits: bool,
-    depth: u32,
-    cursor: &mut Cursor,
-) -> Result<Box<RawStmt>, Refusal>
+fn statement(context: Context, cursor: &mut Cursor) -> Result<Box<RawStmt>, Refusal>
     ensures { IsRead (λ x. stmt_of x.value) result cursor.new
-        (stmt_by levels awaits (compound_at levels awaits depth) cursor.old) }
+        (stmt_by context.levels context.awaits (compound_in context) cursor.old) }
 {
     if cursor.is_at(&TokenKind::If) || cursor.is_at(&TokenKind::While) {
-        return compound(alloc, levels, awaits, depth, cursor);
+        return compound(context, cursor);
     }
-    if awaits && cursor.is_at(&TokenKind::Await) {
-        return await_stmt(alloc, levels, cursor);
+    if context.awaits && cursor.is_at(&TokenKind::Await) {
+        return await_stmt(context.alloc, context.levels, cursor);
     }
-    let basic = basic(alloc, cursor)?;
-    Ok(simple(alloc, basic)?)
+    let basic = basic(context.alloc, cursor)?;
+    Ok(simple(context.alloc, basic)?)
 }
 
 #[cycle(statements)]
 #[tactic(auto, unfolding(crate::specs::Reads::step_by))]
-fn step(
-    alloc: Global,
-    levels: u32,
-    awaits: bool,
-    depth: u32,
-    cursor: &mut Cursor,
-) -> Result<RawStep, Refusal>
+fn step(context: Context, cursor: &mut Cursor) -> Result<RawStep, Refusal>
     ensures { IsRead (λ x. step_of x.span (stmt_of x.stmt.value) (note_of x.after)) result
-        cursor.new (step_by levels awaits (compound_at levels awaits depth) cursor.old) }
+        cursor.new (step_by context.levels context.awaits (compound_in context) cursor.old) }
 {
     let span = cursor.span();
-    let stmt = statement(alloc, levels, awaits, depth, cursor)?;
-    let after = note(alloc, levels, cursor)?;
+    let stmt = statement(context, cursor)?;
+    let after = note(context.alloc, context.levels, cursor)?;
     Ok(RawStep { stmt, span, after })
 }
 
-/// Reads statements with their assertions, with at most `levels` levels of assertions and `depth`
-/// levels of statements, and with an await only where `awaits` is true.
+/// Reads statements with their assertions.
 #[cycle(statements)]
 #[tactic(auto, unfolding(crate::specs::Reads::seq_by))]
-pub(crate) fn sequence(
-    alloc: Global,
-    levels: u32,
-    awaits: bool,
-    depth: u32,
-    cursor: &mut Cursor,
-) -> Result<RawSeq, Refusal>
-    ensures { IsRead seq_of result cursor.new (seq_at levels awaits depth cursor.old) }
+pub(crate) fn sequence(context: Context, cursor: &mut Cursor) -> Result<RawSeq, Refusal>
+    ensures { IsRead seq_of result cursor.new (seq_in context cursor.old) }
 {
-    let before = note(alloc, levels, cursor)?;
-    let next = step(alloc, levels, awaits, depth, cursor)?;
-    let mut items = Vec::new(alloc);
+    let before = note(context.alloc, context.levels, cursor)?;
+    let next = step(context, cursor)?;
+    let mut items = Vec::new(context.alloc);
     let mut last = with_step(&mut items, before, next)?;
     'more: while is_at_stmt(cursor) {
-        let next = step(alloc, levels, awaits, depth, cursor)?;
+        let next = step(context, cursor)?;
         last = with_step(&mut items, last, next)?;
     }
     Ok(RawSeq { items, last })
@@ -259,17 +225,11 @@ pub(crate) fn sequence(
 /// Reads a sequence and the `end` after it.
 #[cycle(statements)]
 #[tactic(auto, unfolding(crate::specs::Reads::rest_of_block_by))]
-pub(crate) fn rest_of_block(
-    alloc: Global,
-    levels: u32,
-    awaits: bool,
-    depth: u32,
-    cursor: &mut Cursor,
-) -> Result<RawSeq, Refusal>
+pub(crate) fn rest_of_block(context: Context, cursor: &mut Cursor) -> Result<RawSeq, Refusal>
     ensures { IsRead seq_of result cursor.new
-        (rest_of_block_by (seq_at levels awaits depth) cursor.old) }
+        (rest_of_block_by (seq_in context) cursor.old) }
 {
-    let all = sequence(alloc, levels, awaits, depth, cursor)?;
+    let all = sequence(context, cursor)?;
     cursor.expect(&TokenKind::End)?;
     Ok(all)
 }
@@ -277,17 +237,11 @@ pub(crate) fn rest_of_block(
 // A block is what stands between `begin` and `end`.
 #[cycle(statements)]
 #[tactic(auto, unfolding(crate::specs::Reads::block_by))]
-fn block(
-    alloc: Global,
-    levels: u32,
-    awaits: bool,
-    depth: u32,
-    cursor: &mut Cursor,
-) -> Result<Box<RawSeq>, Refusal>
+fn block(context: Context, cursor: &mut Cursor) -> Result<Box<RawSeq>, Refusal>
     ensures { IsRead (λ x. seq_of x.value) result cursor.new
-        (block_by (seq_at levels awaits depth) cursor.old) }
+        (block_by (seq_in context) cursor.old) }
 {
     cursor.expect(&TokenKind::Begin)?;
-    let all = rest_of_block(alloc, levels, awaits, depth, cursor)?;
-    Ok(Box::new(alloc, all)?)
+    let all = rest_of_block(context, cursor)?;
+    Ok(Box::new(context.alloc, all)?)
 }

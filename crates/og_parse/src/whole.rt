@@ -14,6 +14,7 @@ ghost use Rattle.og_parse.specs.Answers.{IsExcess, error_of, excess_error};
 use crate::fault::{ParseError, ParseFault};
 use crate::outline::whole;
 use crate::raw::Raw;
+use crate::statements::begins_statement;
 use crate::{Cursor, FaultKind, Refusal};
 use og_text::{Span, Token, TokenKind};
 use std::alloc::Global;
@@ -23,18 +24,10 @@ const LEVELS: u32 = 100;
 const STATEMENTS: usize = 4096;
 
 // Whether a statement begins with this token, after a `}` or not.
-fn begins_statement(closed: bool, kind: &TokenKind) -> bool
+fn is_counted(closed: bool, kind: &TokenKind) -> bool
     ensures { result ≡ (closed && begins_statement kind.now) }
 {
-    closed
-        && matches!(
-            kind,
-            TokenKind::Name(_)
-                | TokenKind::Skip
-                | TokenKind::If
-                | TokenKind::While
-                | TokenKind::Await
-        )
+    closed && begins_statement(kind)
 }
 
 // Whether an assertion in braces ends so.
@@ -52,7 +45,7 @@ fn excess(tokens: &[Token], limit: usize) -> Option<(&[Token], Span)>
     let mut count = 0;
     let mut closed = false;
     for (i, token) in tokens.iter().enumerate() {
-        if begins_statement(closed, &token.kind) {
+        if is_counted(closed, &token.kind) {
             if count == limit {
                 return Some((&tokens[..=i], token.span));
             }

@@ -3,7 +3,7 @@
 ghost use Rattle.std.specs.Prelude.{◌≡◌, IfOk};
 ghost use Rattle.og_parse.specs.Gives.{IsRead, OnMemory};
 ghost use Rattle.og_parse.specs.Reading.{starts, token_at};
-ghost use Rattle.og_parse.specs.Words.{name_of, value_of, sign_of, relation_of};
+ghost use Rattle.og_parse.specs.Words.{name_of, value_of, sign_of, relation_kind, relation_of};
 ghost use Rattle.og_parse.specs.Reads.{a_name, a_sign};
 
 use crate::raw::{RawName, Relation, Sign};
@@ -74,18 +74,30 @@ pub(crate) fn sign(cursor: &mut Cursor) -> Result<Sign, Refusal>
     Ok(sign)
 }
 
+/// The relation that a token of this kind is, if it is one.
+pub fn relation_of(kind: &TokenKind) -> Option<Relation>
+    ensures { result ≡ relation_kind kind.now }
+{
+    match kind {
+        TokenKind::LessEqual => Some(Relation::LessEqual),
+        TokenKind::Less => Some(Relation::Less),
+        TokenKind::GreaterEqual => Some(Relation::GreaterEqual),
+        TokenKind::Greater => Some(Relation::Greater),
+        TokenKind::Equal => Some(Relation::Equal),
+        TokenKind::NotEqual => Some(Relation::NotEqual),
+        _ => None,
+    }
+}
+
 pub(crate) fn relation(cursor: &mut Cursor) -> Result<Relation, Refusal>
     ensures read { IsRead (λ relation. relation) result cursor.new (token_at relation_of cursor.old) }
     ensures memory { OnMemory result ⊥ }
 {
-    let relation = match cursor.peek() {
-        Some(TokenKind::LessEqual) => Relation::LessEqual,
-        Some(TokenKind::Less) => Relation::Less,
-        Some(TokenKind::GreaterEqual) => Relation::GreaterEqual,
-        Some(TokenKind::Greater) => Relation::Greater,
-        Some(TokenKind::Equal) => Relation::Equal,
-        Some(TokenKind::NotEqual) => Relation::NotEqual,
-        _ => return Err(Refusal::Fault(FaultKind::Expected)),
+    let Some(kind) = cursor.peek() else {
+        return Err(Refusal::Fault(FaultKind::Expected));
+    };
+    let Some(relation) = relation_of(kind) else {
+        return Err(Refusal::Fault(FaultKind::Expected));
     };
     cursor.advance();
     Ok(relation)

@@ -5,7 +5,7 @@ use Rattle.og_pool.specs.declared.fault.PoolFault.TheVariants as faults
 use Rattle.og_pool.specs.declared.thread_fault.ThreadFault.{ThreadFault}
 use Rattle.og_pool.specs.declared.thread_fault.ThreadFault.TheVariants as threads
 
--- want of memory has no number
+-- refused memory has no number
 abbrev pub number_of_fault : PoolFault → Option ℕ
 number_of_fault faults.Memory = None
 number_of_fault faults.Spawn = Some 40

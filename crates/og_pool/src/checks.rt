@@ -191,24 +191,6 @@ impl<'a, 'c, G> Checks<'a, 'c, G> {
         Ok(None)
     }
 
-    // The status of the condition with these facts by a replay of its certificate.
-    fn fresh(
-        &self,
-        alloc: Global,
-        number: u32,
-        list: &FactList,
-        cert: &Cert,
-    ) -> Result<Status, AllocError>
-        requires within { (0 < number) × (number ≤ length self.now.conditions.now) }
-        requires facts { (c : _) → slice_get self.now.conditions.now (number - 1) ≡ Some c
-            → IsFacts (seen c) (Ok list.now) }
-        requires cert { certificate_of number (shown self.now.certs.now)
-            ≡ Some (plain_cert cert.now) }
-        ensures { IfOk result (λ s. s ≡ status_of self.now.conditions.now self.now.certs.now number) }
-    {
-        replayed(alloc, list, cert)
-    }
-
     // The status of the condition with these facts and this certificate. What came of a replay is
     // remembered where others have the certificate too.
     fn replayed_once(
@@ -230,13 +212,13 @@ impl<'a, 'c, G> Checks<'a, 'c, G> {
         ensures keeps { All (IsKnown self.now.conditions.now self.now.certs.now) replays.new.items }
     {
         if is_short(cert, list.as_slice().len()) || !self.certs.has_shared() {
-            return self.fresh(alloc, number, list, cert);
+            return replayed(alloc, list, cert);
         }
         let mark = self.mark(number, list);
         if let Some(status) = self.known(alloc, number, list, mark, replays)? {
             return Ok(status);
         }
-        let status = self.fresh(alloc, number, list, cert)?;
+        let status = replayed(alloc, list, cert)?;
         let latest = Replayed {
             number,
             mark,

@@ -2,7 +2,7 @@
 
 /// Hears of each condition before and after it. It has no part in the answers.
 pub trait Gate: Sync {
-    /// So many conditions are to be looked at.
+    /// The workers are about to look at this many conditions.
     fn begin(&self, _count: u32) {}
 
     /// A worker is about to look at the condition of this number, counted from 1.

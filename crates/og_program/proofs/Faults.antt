@@ -9,7 +9,7 @@ use Rattle.og_program.specs.declared.fault.Fault.{Fault}
 use Rattle.og_program.specs.declared.fault.Fault.TheVariants as faults
 use Rattle.og_program.specs.declared.outcome.Outcome.{Outcome}
 
--- want of memory, or of a thread
+-- refused memory, or a refused thread
 pub by_pool : (S : Type 0) (fault : PoolFault) → (fault ≡ pool.Spawn → S) → IsWant S (of_pool fault)
 by_pool S pool.Memory spawns = tt
 by_pool S pool.Spawn spawns = spawns refl

@@ -44,7 +44,7 @@ of_source_error source error refusal is why =
 pub of_input_error : (P : InputFault → Type 0) (error : InputError) (refusal : Refusal) → refusal ≡ of_input error → OnFault P error → OnInput P refusal
 of_input_error P error refusal is why = subst (OnInput P) (sym is) (input_refusal P error why)
 
--- neither is want of a thread
+-- neither is a refused thread
 source_spawns : (error : SourceError) → of_source error ≡ refusals.Spawn → ⊥
 source_spawns (sources.Fault fault) is = cc
 source_spawns sources.Memory is = cc

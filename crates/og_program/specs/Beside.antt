@@ -62,7 +62,7 @@ Remarks R answer = OnReport (λ report. (report.answer ≡ answer) × Noted R re
 
 -- ---- what a refusal of input becomes
 
--- the refusal for this fault; want of memory or of a thread has no outcome
+-- the refusal for this fault; refused memory or a refused thread has no outcome
 abbrev pub IsRefused : Text → List ℕ → Refusal → Outcome → Type 0
 IsRefused source certs (refusals.Input fault) outcome =
     OnReport (IsRefusal source certs fault) outcome

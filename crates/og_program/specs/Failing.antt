@@ -53,7 +53,7 @@ abbrev pub IsUnread : {A : Type 0} → Result A Fault → Type 0
 IsUnread (Ok a) = ⊥
 IsUnread (Err fault) = is_not_read fault ≡ true
 
--- want of memory, or of a thread
+-- refused memory, or a refused thread
 abbrev pub of_pool : PoolFault → Fault
 of_pool pool.Memory = faults.Memory
 of_pool pool.Spawn = faults.Spawn

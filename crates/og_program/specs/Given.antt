@@ -35,7 +35,7 @@ pub record IsTemplateRefusal (template : Text) (fault : ExpandFault) (report : R
   pub why : Noted (IsExpansionNote template fault) report
 
 -- the refusal of a source or of a template; of a word that gives no constant a value no line says
--- why; want of memory has no outcome
+-- why; refused memory has no outcome
 abbrev pub FollowsError : Text → MeaningError → Outcome → Type 0
 FollowsError text errors.Memory outcome = ⊥
 FollowsError text (errors.Source fault) outcome =

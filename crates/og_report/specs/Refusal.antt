@@ -11,7 +11,7 @@ place_of_refusal (refusal.Input fault) = place_of_input fault
 place_of_refusal refusal.Spawn = None
 place_of_refusal refusal.Memory = None
 
--- the line; want of threads or memory has none
+-- the line; refused threads or memory have none
 abbrev pub refusal_text : List ℕ → Refusal → List ℕ
 refusal_text source (refusal.Input fault) = refused_line source fault
 refusal_text source refusal.Spawn = []

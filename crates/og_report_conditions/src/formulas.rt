@@ -44,11 +44,7 @@ pub(crate) fn put_formula(
         Assert::Le(form) => put_compared(text, names, b"(<= ", form, b" 0)"),
         Assert::Eq(form) => put_compared(text, names, b"(= ", form, b" 0)"),
         Assert::Ne(form) => put_compared(text, names, b"(not (= ", form, b" 0))"),
-        Assert::Not(a) => {
-            text.extend_from_slice(b"(not ")?;
-            put_formula(text, names, a)?;
-            text.extend_from_slice(b")")
-        }
+        Assert::Not(a) => put_negated(text, names, a),
         Assert::And(all) => put_listed(text, names, b"(and true true", all),
         Assert::Or(all) => put_listed(text, names, b"(or false false", all),
         Assert::Imp(a, b) => {
@@ -59,6 +55,21 @@ pub(crate) fn put_formula(
             text.extend_from_slice(b")")
         }
     }
+}
+
+/// Adds that an assertion is false to the text.
+#[cycle(formulas)]
+pub(crate) fn put_negated(
+    text: &mut Vec<u8>,
+    names: &[Name],
+    assert: &Assert,
+) -> Result<(), AllocError>
+    ensures { OnOk result (text.new.items ≡ text.old.items
+        ++ (codes "(not " ++ (formula_text names.now (formula assert.now) ++ codes ")"))) }
+{
+    text.extend_from_slice(b"(not ")?;
+    put_formula(text, names, assert)?;
+    text.extend_from_slice(b")")
 }
 
 // Assertions after a word.

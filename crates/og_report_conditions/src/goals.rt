@@ -17,13 +17,29 @@ use og_text::Name;
 use og_typed::{Assert, Basic};
 use std::alloc::AllocError;
 
-/// Adds that a variable is an `i64` to the text.
-pub(crate) fn put_range(text: &mut Vec<u8>, names: &[Name], var: u32) -> Result<(), AllocError>
+// That a variable is an `i64`.
+fn put_range(text: &mut Vec<u8>, names: &[Name], var: u32) -> Result<(), AllocError>
     ensures { OnOk result (text.new.items ≡ text.old.items ++ range_text names.now var) }
 {
     text.extend_from_slice(b"(i64 ")?;
     put_variable(text, names, var)?;
     text.extend_from_slice(b")")
+}
+
+/// Adds that a variable is an `i64` to the text, between these words.
+pub(crate) fn put_range_between(
+    text: &mut Vec<u8>,
+    names: &[Name],
+    before: &[u8],
+    var: u32,
+    after: &[u8],
+) -> Result<(), AllocError>
+    ensures { OnOk result (text.new.items ≡ text.old.items
+        ++ (before.now ++ (range_text names.now var ++ after.now))) }
+{
+    text.extend_from_slice(before)?;
+    put_range(text, names, var)?;
+    text.extend_from_slice(after)
 }
 
 // A variable that is bound to a form.
@@ -43,9 +59,7 @@ fn put_ranged(text: &mut Vec<u8>, names: &[Name], var: u32, form: &Form) -> Resu
     ensures { OnOk result (text.new.items ≡ text.old.items ++ ranged_text names.now var form.now) }
 {
     put_bound(text, names, var, form)?;
-    text.extend_from_slice(b"(and ")?;
-    put_range(text, names, var)?;
-    text.extend_from_slice(b" ")
+    put_range_between(text, names, b"(and ", var, b" ")
 }
 
 // An assertion after these assignments.

@@ -5,7 +5,7 @@ ghost use Rattle.og_cond.specs.Seen.{part_of, parts_of, hypothesis_of};
 ghost use Rattle.og_cond.specs.Condition.{Starts};
 ghost use Rattle.og_report_conditions.specs.Script.{part_text, parts_text, choices_text, hypothesis_text, hypotheses_lines};
 
-use crate::formulas::put_formula;
+use crate::formulas::{put_formula, put_negated};
 use crate::terms::{put_number, put_variable};
 use og_cond::{Hypothesis, Part};
 use og_text::Name;
@@ -17,11 +17,7 @@ fn put_part(text: &mut Vec<u8>, names: &[Name], part: &Part) -> Result<(), Alloc
 {
     match part {
         Part::Yes(a) => put_formula(text, names, a),
-        Part::No(a) => {
-            text.extend_from_slice(b"(not ")?;
-            put_formula(text, names, a)?;
-            text.extend_from_slice(b")")
-        }
+        Part::No(a) => put_negated(text, names, a),
     }
 }
 

@@ -2,7 +2,7 @@
 
 ghost use Rattle.std.specs.Prelude.{◌≡◌, ◌≤◌, ◌++◌, length, IfOk, OnOk};
 ghost use Rattle.og_cond.specs.Seen.{seen};
-ghost use Rattle.og_report_conditions.specs.Listings.{numbers_in, opening_text, condition_text, is_wanted, wanted_text};
+ghost use Rattle.og_report_conditions.specs.Listings.{numbers_in, opening_text, is_wanted, wanted_text};
 
 use crate::form::Form;
 use crate::triples::put_triple;
@@ -34,25 +34,6 @@ pub(crate) fn opening(alloc: Global, form: Form, names: &[Name]) -> Result<Vec<u
     }
 }
 
-// A condition with its number.
-fn put_numbered(
-    text: &mut Vec<u8>,
-    lines: &Lines<'_>,
-    number: u32,
-    condition: &Condition,
-) -> Result<(), AllocError>
-    ensures { OnOk result (text.new.items ≡ text.old.items ++
-        condition_text lines.now.form lines.now.names.now lines.now.places.now number (seen condition.now)) }
-{
-    let (names, places) = (lines.names, lines.places);
-    let wide = u128::from(number);
-    match lines.form {
-        Form::Facts => put_condition(text, names, places, wide, condition),
-        Form::Triples => put_triple(text, names, places, number, condition),
-        Form::Script => crate::whole::put_condition(text, names, places, wide, condition),
-    }
-}
-
 // Whether this number is asked for.
 fn is_wanted(only: Option<&[u32]>, number: u32) -> bool
     ensures { result ≡ is_wanted (numbers_in only.entry) number }
@@ -73,9 +54,14 @@ pub(crate) fn put_wanted(
     ensures { OnOk result (text.new.items ≡ text.old.items ++
         wanted_text lines.now.form (numbers_in lines.now.only) lines.now.names.now lines.now.places.now number (seen condition.now)) }
 {
-    if is_wanted(lines.only, number) {
-        put_numbered(text, lines, number, condition)
-    } else {
-        Ok(())
+    if !is_wanted(lines.only, number) {
+        return Ok(());
+    }
+    let (names, places) = (lines.names, lines.places);
+    let wide = u128::from(number);
+    match lines.form {
+        Form::Facts => put_condition(text, names, places, wide, condition),
+        Form::Triples => put_triple(text, names, places, number, condition),
+        Form::Script => crate::whole::put_condition(text, names, places, wide, condition),
     }
 }

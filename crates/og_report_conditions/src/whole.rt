@@ -4,7 +4,7 @@ ghost use Rattle.std.specs.Prelude.{◌≡◌, ◌≤◌, ◌++◌, length, IfOk
 ghost use Rattle.og_cond.specs.Seen.{seen};
 ghost use Rattle.og_report_conditions.specs.Script.{prelude_text, ending_text, asked_lines, condition_lines, declared_line, range_line, variable_lines, variables_lines, opening_text};
 
-use crate::goals::{put_goal, put_range};
+use crate::goals::{put_goal, put_range_between};
 use crate::hypotheses::put_hypotheses;
 use crate::terms::put_variable;
 use og_cond::Condition;
@@ -75,9 +75,7 @@ fn put_declared(text: &mut Vec<u8>, names: &[Name], var: u32) -> Result<(), Allo
 fn put_range_line(text: &mut Vec<u8>, names: &[Name], var: u32) -> Result<(), AllocError>
     ensures { OnOk result (text.new.items ≡ text.old.items ++ range_line names.now var) }
 {
-    text.extend_from_slice(b"(assert ")?;
-    put_range(text, names, var)?;
-    text.extend_from_slice(b")\n")
+    put_range_between(text, names, b"(assert ", var, b")\n")
 }
 
 // A variable and its range.

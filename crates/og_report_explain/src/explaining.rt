@@ -230,6 +230,17 @@ fn too_large<'a>(
     }
 }
 
+/// A condition, and the outline of which it is one.
+#[derive(Clone, Copy)]
+pub struct Obligation<'o, 'a, 'c> {
+    /// The outline.
+    pub outline: &'a Outline,
+    /// Its index.
+    pub index: &'o Index<'a>,
+    /// The condition.
+    pub condition: &'o Condition<'c>,
+}
+
 /// Why the condition is false in the state: each part of the explanation is right, as
 /// `IsExplained` says. Where it says where processes stand, the assertion at each place is true.
 ///
@@ -249,33 +260,36 @@ pub fn explain<'a>(
     ensures allowed { IfOk result (λ e. AreAllowed outline.now state.now e.fault) }
 {
     let values = Values::of(alloc, state)?;
-    explained(alloc, outline, index, condition, &values)
+    let obligation = Obligation {
+        outline,
+        index,
+        condition,
+    };
+    obligation.explained(alloc, &values)
 }
 
-// Of the state's values.
-fn explained<'a>(
-    alloc: Global,
-    outline: &'a Outline,
-    index: &Index<'a>,
-    condition: &Condition,
-    values: &Values,
-) -> Result<Explanation<'a>, Unexplained>
-    requires { index.now ≡ outline.now }
-    ensures explained { IfOk result (IsExplained outline.now (seen condition.now) values.now) }
-    ensures allowed { IfOk result (λ e. AreAllowed outline.now values.now e.fault) }
-{
-    let test = test_of(index, condition, values)?;
-    let action = action_of(index, condition)?;
-    let places = known_at(alloc, outline, index, condition)?;
-    let known = known(alloc, outline, index, &places, values)?;
-    let after = after_of(alloc, condition, values)?;
-    let fault = fault_of(alloc, outline, index, condition, values, &after)?;
-    Ok(Explanation {
-        known,
-        starts: starts(outline, condition, values),
-        test,
-        action,
-        after,
-        fault,
-    })
+impl<'o, 'a, 'c> Obligation<'o, 'a, 'c> {
+    // Why the condition is false where the variables have these values.
+    fn explained(&self, alloc: Global, values: &Values) -> Result<Explanation<'a>, Unexplained>
+        requires { self.now.index.now ≡ self.now.outline.now }
+        ensures explained { IfOk result (IsExplained self.now.outline.now
+            (seen self.now.condition.now) values.now) }
+        ensures allowed { IfOk result (λ e. AreAllowed self.now.outline.now values.now e.fault) }
+    {
+        let (outline, index, condition) = (self.outline, self.index, self.condition);
+        let test = test_of(index, condition, values)?;
+        let action = action_of(index, condition)?;
+        let places = known_at(alloc, outline, index, condition)?;
+        let known = known(alloc, outline, index, &places, values)?;
+        let after = after_of(alloc, condition, values)?;
+        let fault = fault_of(alloc, outline, index, condition, values, &after)?;
+        Ok(Explanation {
+            known,
+            starts: starts(outline, condition, values),
+            test,
+            action,
+            after,
+            fault,
+        })
+    }
 }

@@ -14,7 +14,7 @@ mod stands;
 mod unexplained;
 
 pub use actor::Actors;
-pub use explaining::{explain, false_in, goal_note};
+pub use explaining::{Obligation, explain, false_in, goal_note};
 pub use explanation::{Explanation, Fault, Stand, Test};
 pub use lookup::{test_of, tested};
 pub use unexplained::Unexplained;

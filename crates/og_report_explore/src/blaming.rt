@@ -113,21 +113,28 @@ fn is_false(alloc: Global, condition: &Condition, state: &State) -> Result<bool,
     is_verdict(alloc, condition, &Verdict::False(copy))
 }
 
+// The state before the last step, and the last one.
+#[derive(Clone, Copy)]
+struct Transition<'t> {
+    before: &'t State,
+    last: &'t State,
+}
+
 // Whether the condition is one of the failure, and false there; and if so, whether before the step.
 fn is_blamed(
     alloc: Global,
     failure: Failure,
     belonging: Belonging,
     condition: &Condition,
-    before: &State,
-    last: &State,
+    transition: Transition,
 ) -> Result<Option<bool>, AllocError>
-    ensures { IfOk result (λ found. IfSome found
-        (λ side. IsFalseAt (seen condition.now) (if side then before.now else last.now))) }
+    ensures { IfOk result (λ found. IfSome found (λ side. IsFalseAt (seen condition.now)
+        (if side then transition.entry.before.now else transition.entry.last.now))) }
 {
     let Some(side) = failure.looks_at(condition, belonging) else {
         return Ok(None);
     };
+    let (before, last) = (transition.before, transition.last);
     let state = if side { before } else { last };
     if is_false(alloc, condition, state)? {
         Ok(Some(side))
@@ -142,15 +149,14 @@ fn first_false(
     failure: Failure,
     belonging: Belonging,
     conditions: &[Condition],
-    before: &State,
-    last: &State,
+    transition: Transition,
 ) -> Result<Option<Blame>, AllocError>
-    ensures { IfOk result (λ found.
-        IfSome found (IsBlame (map seen conditions.now) before.now last.now)) }
+    ensures { IfOk result (λ found. IfSome found (IsBlame (map seen conditions.now)
+        transition.entry.before.now transition.entry.last.now)) }
 {
     for index in 0..conditions.len() {
         let condition = &conditions[index];
-        if let Some(side) = is_blamed(alloc, failure, belonging, condition, before, last)? {
+        if let Some(side) = is_blamed(alloc, failure, belonging, condition, transition)? {
             return Ok(Some(Blame {
                 number: index + 1,
                 kind: condition.kind,
@@ -179,9 +185,10 @@ pub(crate) fn blame(
     ensures { IfOk result (λ found.
         IfSome found (IsBlame (map seen conditions.now) before.now last.now)) }
 {
-    let found = first_false(alloc, failure, Belonging::Place, conditions, before, last)?;
+    let transition = Transition { before, last };
+    let found = first_false(alloc, failure, Belonging::Place, conditions, transition)?;
     if found.is_some() {
         return Ok(found);
     }
-    first_false(alloc, failure, Belonging::Left, conditions, before, last)
+    first_false(alloc, failure, Belonging::Left, conditions, transition)
 }

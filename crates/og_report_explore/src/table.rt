@@ -125,41 +125,56 @@ pub fn put_did(text: &mut Vec<u8>, names: &[Name], effect: &Effect) -> Result<()
     }
 }
 
-// A cell of the row with this number.
-fn put_cell(
-    text: &mut Vec<u8>,
-    page: Page,
-    column: Column,
+// A row by its number, and what it is printed with.
+#[derive(Clone, Copy)]
+struct Line<'l, 'a> {
+    page: Page<'l>,
     number: u128,
-    row: &Row,
-) -> Result<(), AllocError>
-    requires { page.origins.now.places.now ≡ page.origins.now.source.now }
-    ensures { OnOk result (text.new.items ≡ text.old.items ++ cell_text page.entry.names.now
-        page.entry.origins.now.source.now page.entry.origins.now.rows page.entry.main column number row.now) }
-{
-    match column {
-        Column::Step => put_number(text, number),
-        Column::Process => put_number(text, u128::from(printed_number(page.main, row.process))),
-        Column::Place => page.origins.put_place(text, row.item.at),
-        Column::Statement => page.origins.put_quote(text, STATEMENT_LIMIT, row.item.at),
-    }
+    row: &'l Row<'a>,
 }
 
-// In a text of its own.
-fn cell(
-    alloc: Global,
-    page: Page,
-    column: Column,
-    number: u128,
-    row: &Row,
-) -> Result<Vec<u8>, AllocError>
-    requires { page.origins.now.places.now ≡ page.origins.now.source.now }
-    ensures { IfOk result (λ cell. cell.items ≡ cell_text page.entry.names.now page.entry.origins.now.source.now page.entry.origins.now.rows
-        page.entry.main column number row.now) }
-{
-    let mut cell = Vec::new(alloc);
-    put_cell(&mut cell, page, column, number, row)?;
-    Ok(cell)
+impl Line<'_, '_> {
+    // A cell of the row.
+    fn put_cell(&self, text: &mut Vec<u8>, column: Column) -> Result<(), AllocError>
+        requires { self.now.page.origins.now.places.now ≡ self.now.page.origins.now.source.now }
+        ensures { OnOk result (text.new.items ≡ text.old.items ++ cell_text self.now.page.names.now
+            self.now.page.origins.now.source.now self.now.page.origins.now.rows
+            self.now.page.main column self.now.number self.now.row.now) }
+    {
+        let (origins, row) = (self.page.origins, self.row);
+        match column {
+            Column::Step => put_number(text, self.number),
+            Column::Process => {
+                let process = printed_number(self.page.main, row.process);
+                put_number(text, u128::from(process))
+            }
+            Column::Place => origins.put_place(text, row.item.at),
+            Column::Statement => origins.put_quote(text, STATEMENT_LIMIT, row.item.at),
+        }
+    }
+
+    // In a text of its own.
+    fn cell(&self, alloc: Global, column: Column) -> Result<Vec<u8>, AllocError>
+        requires { self.now.page.origins.now.places.now ≡ self.now.page.origins.now.source.now }
+        ensures { IfOk result (λ cell. cell.items ≡ cell_text self.now.page.names.now
+            self.now.page.origins.now.source.now self.now.page.origins.now.rows
+            self.now.page.main column self.now.number self.now.row.now) }
+    {
+        let mut cell = Vec::new(alloc);
+        self.put_cell(&mut cell, column)?;
+        Ok(cell)
+    }
+
+    // As wide as its column.
+    fn put_wide(&self, text: &mut Vec<u8>, column: Column, width: usize) -> Result<(), AllocError>
+        requires { self.now.page.origins.now.places.now ≡ self.now.page.origins.now.source.now }
+        ensures { OnOk result (text.new.items ≡ text.old.items ++ padded width
+            (cell_text self.now.page.names.now self.now.page.origins.now.source.now
+            self.now.page.origins.now.rows self.now.page.main column self.now.number self.now.row.now)) }
+    {
+        let cell = self.cell(*text.allocator(), column)?;
+        put_padded(text, width, &cell)
+    }
 }
 
 // How wide the column is.
@@ -170,7 +185,8 @@ fn width(alloc: Global, page: Page, column: Column, rows: &[Row]) -> Result<usiz
 {
     let mut width = column.heading().len();
     for index in 0..rows.len() {
-        let cell = cell(alloc, page, column, index as u128 + 1, &rows[index])?;
+        let (number, row) = (index as u128 + 1, &rows[index]);
+        let cell = Line { page, number, row }.cell(alloc, column)?;
         width = width.max(cell.len());
     }
     Ok(width)
@@ -203,23 +219,6 @@ fn put_head(text: &mut Vec<u8>, widths: Widths) -> Result<(), AllocError>
     text.extend_from_slice(b"  sets\n")
 }
 
-// A cell of the row, as wide as its column.
-fn put_wide(
-    text: &mut Vec<u8>,
-    page: Page,
-    column: Column,
-    width: usize,
-    number: u128,
-    row: &Row,
-) -> Result<(), AllocError>
-    requires { page.origins.now.places.now ≡ page.origins.now.source.now }
-    ensures { OnOk result (text.new.items ≡ text.old.items ++ padded width (cell_text
-        page.entry.names.now page.entry.origins.now.source.now page.entry.origins.now.rows page.entry.main column number row.now)) }
-{
-    let cell = cell(*text.allocator(), page, column, number, row)?;
-    put_padded(text, width, &cell)
-}
-
 // The row with this number.
 fn put_row(
     text: &mut Vec<u8>,
@@ -232,10 +231,11 @@ fn put_row(
     ensures { OnOk result (text.new.items ≡ text.old.items ++ row_line page.entry.names.now
         page.entry.origins.now.source.now page.entry.origins.now.rows page.entry.main widths number row.now) }
 {
-    put_wide(text, page, Column::Step, widths.step, number, row)?;
-    put_wide(text, page, Column::Process, widths.process, number, row)?;
-    put_wide(text, page, Column::Place, widths.place, number, row)?;
-    put_wide(text, page, Column::Statement, widths.statement, number, row)?;
+    let line = Line { page, number, row };
+    line.put_wide(text, Column::Step, widths.step)?;
+    line.put_wide(text, Column::Process, widths.process)?;
+    line.put_wide(text, Column::Place, widths.place)?;
+    line.put_wide(text, Column::Statement, widths.statement)?;
     text.extend_from_slice(b"  ")?;
     put_did(text, page.names, &row.effect)?;
     text.extend_from_slice(b"\n")

@@ -7,8 +7,8 @@ ghost use Rattle.og_report_explore.specs.Texts.{when_text, part_of, what_text, p
 use crate::finding::{Blame, Fault, Finding};
 use crate::table::{Page, put_table};
 use crate::totals::{Totals, put_totals};
-use og_report_prove::{put_false, put_part, put_quoted, put_too_large};
-use og_report_text::{Origins, Places, Subject, put_number, put_values};
+use og_report_prove::{put_false, put_label, put_part, put_quoted, put_too_large};
+use og_report_text::{Origins, Places, Subject, put_number, put_number_between, put_values};
 use og_subst::Values;
 use og_text::Name;
 use og_typed::{Assert, Item, Part};
@@ -27,9 +27,7 @@ fn put_when(text: &mut Vec<u8>, steps: usize) -> Result<(), AllocError>
     if steps == 1 {
         return text.extend_from_slice(b" after 1 step\n");
     }
-    text.extend_from_slice(b" after ")?;
-    put_number(text, steps as u128)?;
-    text.extend_from_slice(b" steps\n")
+    put_number_between(text, b" after ", steps as u128, b" steps\n")
 }
 
 // A process by its number.
@@ -78,9 +76,7 @@ pub fn place_of(cobegin_at: u32, fault: &Fault) -> u32
 fn put_before(text: &mut Vec<u8>, steps: usize) -> Result<(), AllocError>
     ensures { OnOk result (text.new.items ≡ text.old.items ++ where_text true steps) }
 {
-    text.extend_from_slice(b" is false before step ")?;
-    put_number(text, steps as u128)?;
-    text.extend_from_slice(b"\n")
+    put_number_between(text, b" is false before step ", steps as u128, b"\n")
 }
 
 // Where the condition is false.
@@ -120,9 +116,7 @@ fn put_blame(
 fn put_ended(text: &mut Vec<u8>, number: u128) -> Result<(), AllocError>
     ensures { OnOk result (text.new.items ≡ text.old.items ++ ended_line number) }
 {
-    text.extend_from_slice(b"  process ")?;
-    put_number(text, number)?;
-    text.extend_from_slice(b" has ended\n")
+    put_number_between(text, b"  process ", number, b" has ended\n")
 }
 
 // Where a process waits.
@@ -211,9 +205,7 @@ fn put_all_line(
     ensures { OnOk result (text.new.items ≡ text.old.items
         ++ all_line names.now word.now values.now) }
 {
-    text.extend_from_slice(b"  ")?;
-    text.extend_from_slice(word)?;
-    text.extend_from_slice(b": ")?;
+    put_label(text, word)?;
     put_all_values(text, names, values)?;
     text.extend_from_slice(b"\n")
 }

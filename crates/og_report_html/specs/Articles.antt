@@ -1,5 +1,5 @@
 -- A block for each condition that is not proved.
-use Rattle.std.specs.Prelude.{ℕ, ◌+◌, ◌-◌, ◌==◌, slice_get, List, [], ◌∷◌, ◌++◌, length, Bool, if◌then◌else◌, Option, Some, None, unwrap_or, codes}
+use Rattle.std.specs.Prelude.{ℕ, ◌+◌, ◌-◌, ◌==◌, slice_get, List, [], ◌∷◌, ◌++◌, length, Bool, if◌then◌else◌, Option, Some, None, map, unwrap_or, codes}
 use Rattle.std.specs.Fmt.{decimal}
 use Rattle.og_text.specs.Place.{line_at}
 use Rattle.og_cond.specs.Condition.{Condition}
@@ -11,6 +11,7 @@ use Rattle.og_report_prove.specs.declared.diagnosis.Diagnosis.{Diagnosis}
 use Rattle.og_report_html.specs.Escapes.{escaped_text}
 use Rattle.og_report_html.specs.Findings.{finding_of, word}
 use Rattle.og_report_html.specs.Marks.{marked_place}
+use Rattle.og_report_html.specs.declared.articles.Frame.{Frame}
 use Rattle.og_report_html.specs.declared.finding.Finding.{Finding}
 use Rattle.og_report_html.specs.declared.target.Target.{Target}
 
@@ -69,3 +70,7 @@ module _ (utf8 : Bool) (beneath : List (List ℕ)) (names : List (List ℕ)) (so
   articles_text done (c ∷ cs) (t ∷ ts) [] = []
   articles_text done (c ∷ cs) (t ∷ ts) (g ∷ gs) =
       article_text (λ text. first_with names source rows text 1 done) (length done + 1) c t g & articles_text (done ++ t ∷ []) cs ts gs
+
+-- by what it is written with
+abbrev pub article_by : Frame → (List ℕ → Option ℕ) → ℕ → Condition → Diagnosis → Target → Option Finding → List ℕ
+article_by f = article_of f.utf8 (map (λ t. t.items) f.beneath.now) f.page.names.now f.page.origins.now.source.now f.page.origins.now.rows

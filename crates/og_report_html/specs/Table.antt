@@ -9,6 +9,8 @@ use Rattle.og_report_html.specs.declared.constants.TheConstants.{BEFORE_TABLE, A
 use Rattle.og_report_html.specs.declared.finding.Finding.{Finding}
 use Rattle.og_report_html.specs.declared.finding.Finding.TheVariants as finding
 use Rattle.og_report_html.specs.declared.table.Disturbance.{Disturbance}
+use Rattle.og_report_html.specs.declared.table.Role.{Role}
+use Rattle.og_report_html.specs.declared.table.Role.TheVariants as roles
 use Rattle.og_report_html.specs.declared.target.Interference.{Interference}
 use Rattle.og_report_html.specs.declared.target.Target.{Target}
 
@@ -32,6 +34,11 @@ is_by p c = p == c.interference.actor
 
 abbrev pub is_on : ℕ → Disturbance → Bool
 is_on p c = p == c.interference.other
+
+-- with this of this process
+abbrev pub has_role : Role → ℕ → Disturbance → Bool
+has_role roles.Actor p = is_by p
+has_role roles.Other p = is_on p
 
 -- ---- the text written of them
 

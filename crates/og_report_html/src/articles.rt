@@ -5,15 +5,17 @@ ghost use Rattle.og_text.specs.Place.{line_at};
 ghost use Rattle.og_cond.specs.Seen.{seen};
 ghost use Rattle.og_cert_read.specs.Firsts.{found as number_of};
 ghost use Rattle.og_report_prove.specs.Effects.{after_diagnosis};
-ghost use Rattle.og_report_html.specs.Articles.{beneath_at, line_link, step_place, step_link, links_text, article_start, article_end, article, printed, article_of, article_text, articles_text};
+ghost use Rattle.og_report_html.specs.Articles.{beneath_at, line_link, step_place, step_link, links_text, article_start, article_end, printed, article_by, articles_text};
+ghost use Rattle.og_report_html.specs.Findings.{finding_of};
 
 use crate::escapes::put_escaped;
 use crate::finding::Finding;
+use crate::links::put_twice;
 use crate::marks::marked_place;
 use crate::target::Target;
 use og_cond::Condition;
 use og_report_prove::{Diagnosis, Firsts, Page, put_diagnosis};
-use og_report_text::{Places, put_number};
+use og_report_text::{Places, put_number_between};
 use std::alloc::{AllocError, Global};
 
 /// What the blocks are written with.
@@ -43,11 +45,7 @@ impl<'a, 'b> Frame<'a, 'b> {
 fn put_line_link(text: &mut Vec<u8>, line: u32) -> Result<(), AllocError>
     ensures { OnOk result (text.new.items ≡ text.old.items ++ line_link line) }
 {
-    text.extend_from_slice(b"<a href=#L")?;
-    put_number(text, line as u128)?;
-    text.extend_from_slice(b">line ")?;
-    put_number(text, line as u128)?;
-    text.extend_from_slice(b"</a>")
+    put_twice(text, b"<a href=#L", line as u128, b">line ", b"</a>")
 }
 
 // A link to the line of the step, where it is another one.
@@ -85,13 +83,9 @@ fn put_links(
 fn put_article_start(text: &mut Vec<u8>, number: u128, finding: Finding) -> Result<(), AllocError>
     ensures { OnOk result (text.new.items ≡ text.old.items ++ article_start number finding) }
 {
-    text.extend_from_slice(b"<article id=c")?;
-    put_number(text, number)?;
-    text.extend_from_slice(b" class=")?;
+    put_number_between(text, b"<article id=c", number, b" class=")?;
     finding.put_word(text)?;
-    text.extend_from_slice(b"><h3>Condition ")?;
-    put_number(text, number)?;
-    text.extend_from_slice(b": ")?;
+    put_number_between(text, b"><h3>Condition ", number, b": ")?;
     finding.put_word(text)?;
     text.extend_from_slice(b"</h3>\n<pre>")
 }
@@ -143,64 +137,60 @@ fn printed(
     Ok(text)
 }
 
-// The block of a condition that is not proved.
-fn put_block(
-    text: &mut Vec<u8>,
-    firsts: &mut Firsts,
-    frame: Frame,
+// A condition by its index, the finding on it, and where it belongs.
+#[derive(Clone, Copy)]
+struct Item<'i, 'c, 'd> {
     index: usize,
-    condition: &Condition,
-    diagnosis: &Diagnosis,
-    target: &Target,
-    finding: Finding,
-) -> Result<(), AllocError>
-    requires { frame.page.origins.now.places.now ≡ frame.page.origins.now.source.now }
-    ensures text { OnOk result (text.new.items ≡ text.old.items ++ article_of frame.entry.utf8
-        (map (λ t. t.items) frame.entry.beneath.now) frame.entry.page.names.now
-        frame.entry.page.origins.now.source.now frame.entry.page.origins.now.rows (λ t. number_of t
-        firsts.old) (index + 1) (seen condition.now) diagnosis.now target.now (Some finding)) }
-    ensures firsts { OnOk result ((t : List ℕ) → number_of t firsts.new
-        ≡ after_diagnosis frame.entry.page.names.now frame.entry.page.origins.now.source.now frame.entry.page.origins.now.rows diagnosis.now t (index + 1) (number_of t firsts.old)) }
-{
-    let alloc = *text.allocator();
-    let number = index as u128 + 1;
-    let printed = printed(alloc, frame.page, firsts, number, condition, diagnosis)?;
-    put_article_start(text, number, finding)?;
-    put_escaped(text, frame.utf8, &printed)?;
-    let beneath = frame.beneath(index);
-    put_article_end(
-        text,
-        beneath,
-        frame.page.origins.places,
-        condition,
-        diagnosis,
-        target,
-    )
+    condition: &'i Condition<'c>,
+    diagnosis: &'i Diagnosis<'d>,
+    target: &'i Target,
 }
 
-// But nothing of one that is proved.
-fn put_article(
-    text: &mut Vec<u8>,
-    firsts: &mut Firsts,
-    frame: Frame,
-    index: usize,
-    condition: &Condition,
-    diagnosis: &Diagnosis,
-    target: &Target,
-) -> Result<(), AllocError>
-    requires { frame.page.origins.now.places.now ≡ frame.page.origins.now.source.now }
-    ensures text { OnOk result (text.new.items ≡ text.old.items ++ article_text frame.entry.utf8
-        (map (λ t. t.items) frame.entry.beneath.now) frame.entry.page.names.now
-        frame.entry.page.origins.now.source.now frame.entry.page.origins.now.rows
-        (λ t. number_of t firsts.old) (index + 1) (seen condition.now) diagnosis.now target.now) }
-    ensures firsts { OnOk result ((t : List ℕ) → number_of t firsts.new
-        ≡ after_diagnosis frame.entry.page.names.now frame.entry.page.origins.now.source.now frame.entry.page.origins.now.rows diagnosis.now t (index + 1) (number_of t firsts.old)) }
-{
-    match Finding::of(diagnosis) {
-        None => Ok(()),
-        Some(finding) => put_block(
-            text, firsts, frame, index, condition, diagnosis, target, finding,
-        ),
+impl Item<'_, '_, '_> {
+    // The block of a condition that is not proved.
+    fn put_block(
+        &self,
+        text: &mut Vec<u8>,
+        firsts: &mut Firsts,
+        frame: Frame,
+        finding: Finding,
+    ) -> Result<(), AllocError>
+        requires { frame.page.origins.now.places.now ≡ frame.page.origins.now.source.now }
+        ensures text { OnOk result (text.new.items ≡ text.old.items ++ article_by frame.entry
+            (λ t. number_of t firsts.old) (self.now.index + 1) (seen self.now.condition.now)
+            self.now.diagnosis.now self.now.target.now (Some finding)) }
+        ensures firsts { OnOk result ((t : List ℕ) → number_of t firsts.new
+            ≡ after_diagnosis frame.entry.page.names.now frame.entry.page.origins.now.source.now frame.entry.page.origins.now.rows self.now.diagnosis.now t (self.now.index + 1) (number_of t firsts.old)) }
+    {
+        let (condition, diagnosis) = (self.condition, self.diagnosis);
+        let alloc = *text.allocator();
+        let number = self.index as u128 + 1;
+        let printed = printed(alloc, frame.page, firsts, number, condition, diagnosis)?;
+        put_article_start(text, number, finding)?;
+        put_escaped(text, frame.utf8, &printed)?;
+        let beneath = frame.beneath(self.index);
+        let places = frame.page.origins.places;
+        put_article_end(text, beneath, places, condition, diagnosis, self.target)
+    }
+
+    // But nothing of one that is proved.
+    fn put_article(
+        &self,
+        text: &mut Vec<u8>,
+        firsts: &mut Firsts,
+        frame: Frame,
+    ) -> Result<(), AllocError>
+        requires { frame.page.origins.now.places.now ≡ frame.page.origins.now.source.now }
+        ensures text { OnOk result (text.new.items ≡ text.old.items ++ article_by frame.entry
+            (λ t. number_of t firsts.old) (self.now.index + 1) (seen self.now.condition.now)
+            self.now.diagnosis.now self.now.target.now (finding_of self.now.diagnosis.now)) }
+        ensures firsts { OnOk result ((t : List ℕ) → number_of t firsts.new
+            ≡ after_diagnosis frame.entry.page.names.now frame.entry.page.origins.now.source.now frame.entry.page.origins.now.rows self.now.diagnosis.now t (self.now.index + 1) (number_of t firsts.old)) }
+    {
+        match Finding::of(self.diagnosis) {
+            None => Ok(()),
+            Some(finding) => self.put_block(text, firsts, frame, finding),
+        }
     }
 }
 
@@ -222,16 +212,13 @@ pub(crate) fn put_articles(
 {
     let mut firsts = Firsts::new(*text.allocator());
     for index in 0..conditions.len() {
-        let (condition, target) = (&conditions[index], &targets[index]);
-        put_article(
-            text,
-            &mut firsts,
-            frame,
+        let item = Item {
             index,
-            condition,
-            &diagnoses[index],
-            target,
-        )?;
+            condition: &conditions[index],
+            diagnosis: &diagnoses[index],
+            target: &targets[index],
+        };
+        item.put_article(text, &mut firsts, frame)?;
     }
     Ok(())
 }

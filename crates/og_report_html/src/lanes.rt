@@ -6,7 +6,7 @@ ghost use Rattle.og_report_html.specs.Lanes.{gap, lane_head, numbered, main_head
 
 use crate::escapes::put_escaped;
 use og_report_explore::{Row, put_did};
-use og_report_text::{put_number, put_quote};
+use og_report_text::{put_number, put_number_between, put_quote};
 use og_text::Name;
 use std::alloc::AllocError;
 
@@ -24,16 +24,14 @@ pub(crate) struct Frame<'a> {
     pub(crate) lanes: usize,
 }
 
-// So many empty lanes.
+// Adds this many empty lanes.
 fn put_gap(text: &mut Vec<u8>, lanes: usize) -> Result<(), AllocError>
     ensures { OnOk result (text.new.items ≡ text.old.items ++ gap lanes) }
 {
     if lanes == 0 {
         return Ok(());
     }
-    text.extend_from_slice(b"<td colspan=")?;
-    put_number(text, lanes as u128)?;
-    text.extend_from_slice(b">")
+    put_number_between(text, b"<td colspan=", lanes as u128, b">")
 }
 
 // The head of a process's lane.

@@ -9,6 +9,7 @@ mod constants;
 mod escapes;
 mod finding;
 mod lanes;
+mod links;
 mod marks;
 mod mode;
 mod numbers;

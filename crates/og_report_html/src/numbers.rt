@@ -6,19 +6,15 @@ ghost use Rattle.og_report_html.specs.Findings.{is_found};
 ghost use Rattle.og_report_html.specs.Numbers.{number_link, number_where, number_links, numbers_line, numbers_of, numbers_text};
 
 use crate::finding::Finding;
+use crate::links::put_twice;
 use og_report_prove::Diagnosis;
-use og_report_text::put_number;
 use std::alloc::AllocError;
 
 // A link to the block of a condition.
 fn put_number_link(text: &mut Vec<u8>, number: u128) -> Result<(), AllocError>
     ensures { OnOk result (text.new.items ≡ text.old.items ++ number_link number) }
 {
-    text.extend_from_slice(b" <a href=#c")?;
-    put_number(text, number)?;
-    text.extend_from_slice(b">")?;
-    put_number(text, number)?;
-    text.extend_from_slice(b"</a>")
+    put_twice(text, b" <a href=#c", number, b">", b"</a>")
 }
 
 // Of a condition with this finding.

@@ -13,75 +13,66 @@ use og_report_text::put_number;
 use og_typed::Outline;
 use std::alloc::{AllocError, Global};
 
-// The chart of a run that gets there.
-fn chart_of(
-    alloc: Global,
-    outline: &Outline,
-    source: &[u8],
-    condition: u128,
-    run: &Run,
-) -> Result<Vec<u8>, AllocError>
-    ensures { IfOk result (λ text. IsChartOf outline.now source.now condition run.now text.items) }
-{
-    match run {
-        Run::Reached(witness) => chart(alloc, outline, source, condition, witness),
-        Run::Never | Run::Open => Ok(Vec::new(alloc)),
+// An outline, its text, and how far its runs were explored.
+#[derive(Clone, Copy)]
+struct Search<'s> {
+    outline: &'s Outline,
+    source: &'s [u8],
+    explored: Explored,
+}
+
+impl Search<'_> {
+    // The chart of a run that gets there.
+    fn chart_of(&self, alloc: Global, condition: u128, run: &Run) -> Result<Vec<u8>, AllocError>
+        ensures { IfOk result (λ text.
+            IsChartOf self.now.outline.now self.now.source.now condition run.now text.items) }
+    {
+        match run {
+            Run::Reached(witness) => chart(alloc, self.outline, self.source, condition, witness),
+            Run::Never | Run::Open => Ok(Vec::new(alloc)),
+        }
     }
-}
 
-// What `prove --runs` prints.
-fn line_of(
-    alloc: Global,
-    outline: &Outline,
-    source: &[u8],
-    explored: Explored,
-    run: &Run,
-) -> Result<Vec<u8>, AllocError>
-    ensures { IfOk result (λ text. text.items ≡ line_text outline.now source.now explored run.now) }
-{
-    let mut line = Vec::new(alloc);
-    put_run_line(&mut line, outline, explored, run)?;
-    let mut text = Vec::new(alloc);
-    text.extend_from_slice(b"<p class=run>")?;
-    put_escaped(&mut text, is_utf8(source), &line)?;
-    text.extend_from_slice(b"</p>\n")?;
-    Ok(text)
-}
+    // What `prove --runs` prints.
+    fn line_of(&self, alloc: Global, run: &Run) -> Result<Vec<u8>, AllocError>
+        ensures { IfOk result (λ text. text.items
+            ≡ line_text self.now.outline.now self.now.source.now self.now.explored run.now) }
+    {
+        let mut line = Vec::new(alloc);
+        put_run_line(&mut line, self.outline, self.explored, run)?;
+        let mut text = Vec::new(alloc);
+        text.extend_from_slice(b"<p class=run>")?;
+        put_escaped(&mut text, is_utf8(self.source), &line)?;
+        text.extend_from_slice(b"</p>\n")?;
+        Ok(text)
+    }
 
-// The line, and the chart.
-fn run_text(
-    alloc: Global,
-    outline: &Outline,
-    source: &[u8],
-    explored: Explored,
-    condition: u128,
-    run: &Run,
-) -> Result<Vec<u8>, AllocError>
-    ensures { IfOk result (λ text.
-        IsRunText outline.now source.now explored condition run.now text.items) }
-{
-    let mut text = line_of(alloc, outline, source, explored, run)?;
-    let chart = chart_of(alloc, outline, source, condition, run)?;
-    text.extend_from_slice(&chart)?;
-    Ok(text)
-}
+    // The line, and the chart.
+    fn run_text(&self, alloc: Global, condition: u128, run: &Run) -> Result<Vec<u8>, AllocError>
+        ensures { IfOk result (λ text. IsRunText self.now.outline.now self.now.source.now
+            self.now.explored condition run.now text.items) }
+    {
+        let mut text = self.line_of(alloc, run)?;
+        let chart = self.chart_of(alloc, condition, run)?;
+        text.extend_from_slice(&chart)?;
+        Ok(text)
+    }
 
-// Of a false condition alone.
-fn run_part(
-    alloc: Global,
-    outline: &Outline,
-    source: &[u8],
-    explored: Explored,
-    condition: u128,
-    diagnosis: &Diagnosis,
-    run: &Run,
-) -> Result<Vec<u8>, AllocError>
-    ensures { IfOk result (λ text.
-        IsRunPart outline.now source.now explored condition diagnosis.now run.now text.items) }
-{
-    match diagnosis {
-        Diagnosis::False(_) => run_text(alloc, outline, source, explored, condition, run),
-        Diagnosis::Proved | Diagnosis::Open => Ok(Vec::new(alloc)),
+    // Of a false condition alone.
+    fn run_part(
+        &self,
+        alloc: Global,
+        condition: u128,
+        diagnosis: &Diagnosis,
+        run: &Run,
+    ) -> Result<Vec<u8>, AllocError>
+        ensures { IfOk result (λ text. IsRunPart self.now.outline.now self.now.source.now
+            self.now.explored condition diagnosis.now run.now text.items) }
+    {
+        match diagnosis {
+            Diagnosis::False(_) => self.run_text(alloc, condition, run),
+            Diagnosis::Proved | Diagnosis::Open => Ok(Vec::new(alloc)),
+        }
     }
 }
 
@@ -103,18 +94,15 @@ pub fn run_parts(
     ensures { IfOk result (λ texts. AreRunParts outline.now source.now explored 1 diagnoses.now runs.now
         (map (λ t. t.items) texts.items)) }
 {
+    let search = Search {
+        outline,
+        source,
+        explored,
+    };
     let mut texts = Vec::with_capacity(alloc, diagnoses.len())?;
     for index in 0..diagnoses.len() {
         let condition = index as u128 + 1;
-        let text = run_part(
-            alloc,
-            outline,
-            source,
-            explored,
-            condition,
-            &diagnoses[index],
-            &runs[index],
-        )?;
+        let text = search.run_part(alloc, condition, &diagnoses[index], &runs[index])?;
         texts.push(text)?;
     }
     Ok(texts)

@@ -5,6 +5,7 @@ ghost use Rattle.og_report_html.specs.Marks.{found};
 ghost use Rattle.og_report_html.specs.Source.{link_start, assertion_start, statement_start, ending, starting, closing, line_number, line_start, byte_text, source_text};
 
 use crate::escapes::put_byte;
+use crate::links::put_twice;
 use crate::marks::{Mark, Marks};
 use crate::mode::{Mode, Spot};
 use og_report_text::put_number;
@@ -97,11 +98,7 @@ fn put_closing(text: &mut Vec<u8>, old: Mode, new: Mode) -> Result<(), AllocErro
 fn put_line_number(text: &mut Vec<u8>, line: u32) -> Result<(), AllocError>
     ensures { OnOk result (text.new.items ≡ text.old.items ++ line_number line) }
 {
-    text.extend_from_slice(b"<span class=n id=L")?;
-    put_number(text, line as u128)?;
-    text.extend_from_slice(b">")?;
-    put_number(text, line as u128)?;
-    text.extend_from_slice(b"</span>")
+    put_twice(text, b"<span class=n id=L", line as u128, b">", b"</span>")
 }
 
 // Before the first byte of the line.

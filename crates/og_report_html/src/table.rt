@@ -3,7 +3,7 @@
 ghost use Rattle.std.specs.Prelude.{◌≡◌, ◌++◌, ◌<◌, ◌^◌, length, IfOk, OnOk};
 ghost use Rattle.std.specs.List.{filter};
 ghost use Rattle.og_report_html.specs.Findings.{is_found};
-ghost use Rattle.og_report_html.specs.Table.{disturbance_of, disturbances_from, is_by, is_on, count_text, share_text, cell_text, cells_text, row_text, rows_text, column_head, column_heads, head_rows, whole_table, is_none, is_shown, table_of, table_text};
+ghost use Rattle.og_report_html.specs.Table.{disturbance_of, disturbances_from, is_by, is_on, has_role, count_text, share_text, cell_text, cells_text, row_text, rows_text, column_head, column_heads, head_rows, whole_table, is_none, is_shown, table_of, table_text};
 
 use crate::constants::{AFTER_TABLE, BEFORE_TABLE, MOST_PROCESSES};
 use crate::finding::Finding;
@@ -21,6 +21,15 @@ pub(crate) struct Disturbance {
     pub(crate) interference: Interference,
 }
 
+/// What of a process a condition of interference is about.
+#[derive(Clone, Copy, Debug, PartialEq, Eq)]
+pub(crate) enum Role {
+    /// Its step.
+    Actor,
+    /// Its assertion.
+    Other,
+}
+
 impl Disturbance {
     // Whether the step is one of this process.
     fn is_by(&self, process: usize) -> bool
@@ -34,6 +43,16 @@ impl Disturbance {
         ensures { result ≡ is_on process self.now }
     {
         process == self.interference.other as usize
+    }
+
+    // Whether it is about this of this process.
+    fn has_role(&self, role: Role, process: usize) -> bool
+        ensures { result ≡ has_role role process self.now }
+    {
+        match role {
+            Role::Actor => self.is_by(process),
+            Role::Other => self.is_on(process),
+        }
     }
 }
 
@@ -84,32 +103,18 @@ fn disturbances_of(
     Ok(found)
 }
 
-// Those with a step of this process.
-fn those_by(
+// Those that are about this of this process.
+fn those_of(
     alloc: Global,
     disturbances: &[Disturbance],
+    role: Role,
     process: usize,
 ) -> Result<Vec<Disturbance>, AllocError>
-    ensures { IfOk result (λ v. v.items ≡ filter (is_by process) disturbances.now) }
+    ensures { IfOk result (λ v. v.items ≡ filter (has_role role process) disturbances.now) }
 {
     disturbances
         .iter()
-        .filter(|each| each.is_by(process))
-        .copied()
-        .collect(alloc)
-}
-
-// Those with an assertion of this process.
-fn those_on(
-    alloc: Global,
-    disturbances: &[Disturbance],
-    process: usize,
-) -> Result<Vec<Disturbance>, AllocError>
-    ensures { IfOk result (λ v. v.items ≡ filter (is_on process) disturbances.now) }
-{
-    disturbances
-        .iter()
-        .filter(|each| each.is_on(process))
+        .filter(|each| each.has_role(role, process))
         .copied()
         .collect(alloc)
 }
@@ -155,20 +160,38 @@ struct Disturbances<'a> {
     unknown: &'a [Disturbance],
 }
 
-// Of steps of one process, those on assertions of another.
-fn put_cell(
-    text: &mut Vec<u8>,
-    disturbances: Disturbances,
-    process: usize,
-) -> Result<(), AllocError>
-    ensures { OnOk result (text.new.items ≡ text.old.items
-        ++ cell_text disturbances.entry.wrong.now disturbances.entry.unknown.now process) }
-{
-    let wrong = those_on(*text.allocator(), disturbances.wrong, process)?;
-    let unknown = those_on(*text.allocator(), disturbances.unknown, process)?;
-    text.extend_from_slice(b"<td>")?;
-    put_share(text, Finding::False, &wrong)?;
-    put_share(text, Finding::Open, &unknown)
+impl Disturbances<'_> {
+    // Of steps of one process, those on assertions of another.
+    fn put_cell(&self, text: &mut Vec<u8>, process: usize) -> Result<(), AllocError>
+        ensures { OnOk result (text.new.items ≡ text.old.items
+            ++ cell_text self.now.wrong.now self.now.unknown.now process) }
+    {
+        let alloc = *text.allocator();
+        let wrong = those_of(alloc, self.wrong, Role::Other, process)?;
+        let unknown = those_of(alloc, self.unknown, Role::Other, process)?;
+        text.extend_from_slice(b"<td>")?;
+        put_share(text, Finding::False, &wrong)?;
+        put_share(text, Finding::Open, &unknown)
+    }
+
+    // The row of a process.
+    fn put_row(&self, text: &mut Vec<u8>, count: usize, process: usize) -> Result<(), AllocError>
+        ensures { OnOk result (text.new.items ≡ text.old.items
+            ++ row_text count self.now.wrong.now self.now.unknown.now process) }
+    {
+        let alloc = *text.allocator();
+        let wrong = those_of(alloc, self.wrong, Role::Actor, process)?;
+        let unknown = those_of(alloc, self.unknown, Role::Actor, process)?;
+        let disturbances = Disturbances {
+            wrong: &wrong,
+            unknown: &unknown,
+        };
+        text.extend_from_slice(b"<tr><th scope=row>")?;
+        put_number(text, process as u128 + 1)?;
+        text.extend_from_slice(b"</th>")?;
+        put_cells(text, disturbances, count)?;
+        text.extend_from_slice(b"</tr>\n")
+    }
 }
 
 // The cells of all processes.
@@ -177,32 +200,9 @@ fn put_cells(text: &mut Vec<u8>, disturbances: Disturbances, count: usize) -> Re
         ++ cells_text disturbances.entry.wrong.now disturbances.entry.unknown.now count) }
 {
     for process in 0..count {
-        put_cell(text, disturbances, process)?;
+        disturbances.put_cell(text, process)?;
     }
     Ok(())
-}
-
-// The row of a process.
-fn put_row(
-    text: &mut Vec<u8>,
-    disturbances: Disturbances,
-    count: usize,
-    process: usize,
-) -> Result<(), AllocError>
-    ensures { OnOk result (text.new.items ≡ text.old.items
-        ++ row_text count disturbances.entry.wrong.now disturbances.entry.unknown.now process) }
-{
-    let wrong = those_by(*text.allocator(), disturbances.wrong, process)?;
-    let unknown = those_by(*text.allocator(), disturbances.unknown, process)?;
-    let disturbances = Disturbances {
-        wrong: &wrong,
-        unknown: &unknown,
-    };
-    text.extend_from_slice(b"<tr><th scope=row>")?;
-    put_number(text, process as u128 + 1)?;
-    text.extend_from_slice(b"</th>")?;
-    put_cells(text, disturbances, count)?;
-    text.extend_from_slice(b"</tr>\n")
 }
 
 // The rows of all processes.
@@ -211,7 +211,7 @@ fn put_rows(text: &mut Vec<u8>, disturbances: Disturbances, count: usize) -> Res
         ++ rows_text count disturbances.entry.wrong.now disturbances.entry.unknown.now) }
 {
     for process in 0..count {
-        put_row(text, disturbances, count, process)?;
+        disturbances.put_row(text, count, process)?;
     }
     Ok(())
 }

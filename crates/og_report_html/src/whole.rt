@@ -22,20 +22,24 @@ use og_report_text::{Origins, Places};
 use og_typed::Outline;
 use std::alloc::{AllocError, Global};
 
+// All conditions, the findings on them, and where they belong.
+#[derive(Clone, Copy)]
+struct Listing<'l, 'c, 'd> {
+    conditions: &'l [Condition<'c>],
+    diagnoses: &'l [Diagnosis<'d>],
+    targets: &'l [Target],
+}
+
 // The source, marked by the findings on the conditions.
-fn put_marked(
-    text: &mut Vec<u8>,
-    source: &[u8],
-    conditions: &[Condition],
-    diagnoses: &[Diagnosis],
-    targets: &[Target],
-) -> Result<(), AllocError>
+fn put_marked(text: &mut Vec<u8>, source: &[u8], listing: Listing) -> Result<(), AllocError>
     requires short { length source.now ≤ 2 ^ 20 }
-    requires each { length diagnoses.now ≡ length conditions.now }
-    requires targets { length targets.now ≡ length conditions.now }
+    requires each { length listing.diagnoses.now ≡ length listing.conditions.now }
+    requires targets { length listing.targets.now ≡ length listing.conditions.now }
     ensures { OnOk result (text.new.items ≡ text.old.items ++ source_text (is_utf8 source.now)
-        (mark_at (map seen conditions.now) diagnoses.now targets.now) source.now) }
+        (mark_at (map seen listing.entry.conditions.now) listing.entry.diagnoses.now
+        listing.entry.targets.now) source.now) }
 {
+    let (conditions, diagnoses, targets) = (listing.conditions, listing.diagnoses, listing.targets);
     let marks = marks_of(*text.allocator(), conditions, diagnoses, targets)?;
     put_source(text, is_utf8(source), &marks, source)
 }
@@ -68,17 +72,17 @@ fn put_blocks(
     outline: &Outline,
     source: &[u8],
     additions: Additions,
-    conditions: &[Condition],
-    diagnoses: &[Diagnosis],
-    targets: &[Target],
+    listing: Listing,
 ) -> Result<(), AllocError>
     requires short { length source.now ≤ 2 ^ 20 }
-    requires each { length diagnoses.now ≡ length conditions.now }
-    requires targets { length targets.now ≡ length conditions.now }
+    requires each { length listing.diagnoses.now ≡ length listing.conditions.now }
+    requires targets { length listing.targets.now ≡ length listing.conditions.now }
     ensures { OnOk result (text.new.items ≡ text.old.items ++ blocks_text outline.now source.now
         additions.entry.before.now (map (λ t. t.items) additions.entry.beneath.now)
-        (map seen conditions.now) diagnoses.now targets.now) }
+        (map seen listing.entry.conditions.now) listing.entry.diagnoses.now
+        listing.entry.targets.now) }
 {
+    let (conditions, diagnoses, targets) = (listing.conditions, listing.diagnoses, listing.targets);
     let utf8 = is_utf8(source);
     let places = Places::new(*text.allocator(), source)?;
     let origins = Origins::own(source, &places);
@@ -120,17 +124,20 @@ pub fn page(
         additions.entry.before.now (map (λ t. t.items) additions.entry.beneath.now)
         (map seen conditions.now) diagnoses.now targets.now) }
 {
+    let listing = Listing {
+        conditions,
+        diagnoses,
+        targets,
+    };
     let mut text = Vec::new(alloc);
     text.extend_from_slice(START)?;
     put_totals(&mut text, diagnoses)?;
     text.extend_from_slice(BEFORE_SOURCE)?;
-    put_marked(&mut text, source, conditions, diagnoses, targets)?;
+    put_marked(&mut text, source, listing)?;
     text.extend_from_slice(AFTER_SOURCE)?;
     put_table(&mut text, outline.processes().len(), diagnoses, targets)?;
     text.extend_from_slice(BEFORE_BLOCKS)?;
-    put_blocks(
-        &mut text, outline, source, additions, conditions, diagnoses, targets,
-    )?;
+    put_blocks(&mut text, outline, source, additions, listing)?;
     text.extend_from_slice(END)?;
     Ok(text)
 }

@@ -4,6 +4,8 @@ pub mod Floats
 pub mod Joins
 pub mod Keys
 pub mod Lists
+pub mod OfBlock
+mod Openings
 pub mod Puts
 pub mod Says
 pub mod Texts

@@ -8,6 +8,7 @@ use Rattle.og_report_text.specs.Places.{◌&◌}
 use Rattle.og_report_text.specs.Origins.{Rows, place_text_at, quoted_at}
 use Rattle.og_typed.specs.Seen.{note_of, statement_of}
 use Rattle.og_typed.specs.Sites as plain
+use Rattle.og_typed.specs.declared.sites.Part.{Part}
 use Rattle.og_typed.specs.declared.sites.StatementSite.{StatementSite}
 use Rattle.og_report_text.specs.Assertions.{assertion_text}
 use Rattle.og_report_text.specs.Conjuncts.{known_text}
@@ -41,6 +42,10 @@ test_word false = codes "test false"
 abbrev pub test_line : List ℕ → Rows → Option Test → List ℕ
 test_line source rows None = []
 test_line source rows (Some test) = quoted_line source rows (test_word test.holds) (statement_of test.site).piece.at
+
+-- a process, a word and a place
+abbrev pub standing_text : List ℕ → Rows → Part → List ℕ → ℕ → List ℕ
+standing_text source rows part word at = codes "  " & part_text false part & word & place_text_at source rows at
 
 -- where a process waits, and where it has ended
 abbrev pub waits_line : List ℕ → Rows → plain.StatementSite → List ℕ

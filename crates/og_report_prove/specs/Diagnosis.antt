@@ -1,5 +1,5 @@
 -- The finding on a condition.
-use Rattle.std.specs.Prelude.{◌≡◌, ℤ, List, [], ◌∷◌, ⊤}
+use Rattle.std.specs.Prelude.{◌≡◌, ℤ, List, [], ◌∷◌, ⊤, Result, Ok, Err}
 use Rattle.og_typed.specs.Syntax.{Program}
 use Rattle.og_cond.specs.Condition.{Condition}
 use Rattle.og_cond.specs.Valid.{IsValid}
@@ -7,6 +7,8 @@ use Rattle.og_find.specs.Found.{IsFalseAt}
 use Rattle.og_find.specs.declared.verdict.Verdict.{Verdict}
 use Rattle.og_find.specs.declared.verdict.Verdict.TheVariants as verdicts
 use Rattle.og_report_explain.specs.Explanations.{AreAllowed, IsExplained}
+use Rattle.og_report_explain.specs.declared.unexplained.Unexplained.{Unexplained}
+use Rattle.og_report_explain.specs.declared.unexplained.Unexplained.TheVariants as unexplained
 use Rattle.og_report_prove.specs.Numbers.{fault_numbers}
 use Rattle.og_report_prove.specs.declared.block.Block.{Block}
 use Rattle.og_report_prove.specs.declared.diagnosis.Diagnosis.{Diagnosis}
@@ -31,6 +33,12 @@ AreDiagnoses o [] [] = ⊤
 AreDiagnoses o [] (t ∷ ts) = ⊥
 AreDiagnoses o (c ∷ cs) [] = ⊥
 AreDiagnoses o (c ∷ cs) (t ∷ ts) = IsDiagnosis o c t × AreDiagnoses o cs ts
+
+-- false with this block, or open where there is no explanation; refused memory gives no finding
+abbrev pub IsOfBlock : Result Block Unexplained → Diagnosis → Type 0
+IsOfBlock (Ok block) t = t ≡ diagnosis.False block
+IsOfBlock (Err unexplained.Open) t = t ≡ diagnosis.Open
+IsOfBlock (Err unexplained.Memory) t = ⊥
 
 -- false in this state, or open
 abbrev pub IsOfState : List ℤ → Diagnosis → Type 0

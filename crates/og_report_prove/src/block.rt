@@ -4,8 +4,9 @@ ghost use Rattle.std.specs.Prelude.{◌≡◌, ◌++◌, OnOk};
 ghost use Rattle.og_report_prove.specs.Blocks.{head_lines, true_lines, block_text};
 
 use crate::lines::{
-    put_action, put_fault, put_known_lines, put_more_line, put_test, put_values_line,
+    Shown, put_action, put_fault, put_known_lines, put_more_line, put_test, put_values_line,
 };
+use crate::reporting::Page;
 use crate::sentences::put_sentence;
 use og_cond::Kind;
 use og_report_explain::{Actors, Explanation};
@@ -43,6 +44,22 @@ pub struct Details<'a> {
     pub assigned: Vec<u32>,
 }
 
+impl<'a> Block<'a> {
+    // These variables with their values in the state.
+    fn state_of<'s>(&'s self, names: &'s [Name], vars: &'s [u32]) -> Shown<'s>
+        ensures names { result.names.now ≡ names.now }
+        ensures values { result.values.now ≡ self.now.values }
+        ensures vars { result.vars.now ≡ vars.now }
+    {
+        let values = &self.values;
+        Shown {
+            names,
+            values,
+            vars,
+        }
+    }
+}
+
 // The sentence and the state.
 fn put_head(text: &mut Vec<u8>, names: &[Name], block: &Block) -> Result<(), AllocError>
     ensures { OnOk result (text.new.items ≡ text.old.items ++ head_lines names.now block.now) }
@@ -51,25 +68,21 @@ fn put_head(text: &mut Vec<u8>, names: &[Name], block: &Block) -> Result<(), All
     let details = &block.details;
     put_sentence(text, details.kind, &details.actors)?;
     text.extend_from_slice(b"\n")?;
-    put_values_line(text, names, b"state", &block.values, &details.state)?;
-    put_more_line(text, names, b"besides", &block.values, &details.besides)
+    put_values_line(text, b"state", block.state_of(names, &details.state))?;
+    put_more_line(text, b"besides", block.state_of(names, &details.besides))
 }
 
 // The assertions true there.
-fn put_true(
-    text: &mut Vec<u8>,
-    names: &[Name],
-    origins: &Origins,
-    block: &Block,
-) -> Result<(), AllocError>
-    requires { origins.now.places.now ≡ origins.now.source.now }
-    ensures { OnOk result (text.new.items ≡ text.old.items
-        ++ true_lines names.now origins.now.source.now origins.now.rows block.now) }
+fn put_true(text: &mut Vec<u8>, page: Page, block: &Block) -> Result<(), AllocError>
+    requires { page.origins.now.places.now ≡ page.origins.now.source.now }
+    ensures { OnOk result (text.new.items ≡ text.old.items ++ true_lines page.entry.names.now
+        page.entry.origins.now.source.now page.entry.origins.now.rows block.now) }
 {
+    let (names, origins) = (page.names, page.origins);
     let details = &block.details;
     let explanation = &details.explanation;
     put_known_lines(text, names, origins, &details.focus, &explanation.known)?;
-    put_more_line(text, names, b"initially", &block.values, &details.initial)?;
+    put_more_line(text, b"initially", block.state_of(names, &details.initial))?;
     put_test(text, origins, explanation.test)
 }
 
@@ -88,10 +101,11 @@ pub fn put_block(
     ensures { OnOk result (text.new.items ≡ text.old.items
         ++ block_text names.now origins.now.source.now origins.now.rows block.now) }
 {
+    let page = Page { names, origins };
     let details = &block.details;
     let explanation = &details.explanation;
     put_head(text, names, block)?;
-    put_true(text, names, origins, block)?;
+    put_true(text, page, block)?;
     put_action(text, names, origins, explanation, &details.assigned)?;
-    put_fault(text, names, origins, &explanation.fault)
+    put_fault(text, page, &explanation.fault)
 }

@@ -7,14 +7,14 @@ ghost use Rattle.og_typed.specs.Plain.{noted};
 ghost use Rattle.og_report_text.specs.Conjuncts.{conjuncts};
 ghost use Rattle.og_report_prove.specs.Numbers.{false_numbers, fault_numbers};
 ghost use Rattle.og_report_explain.specs.Explanations.{AreAllowed};
-ghost use Rattle.og_report_prove.specs.Diagnosis.{IsBlock, IsDiagnosis, IsOfState, IsAllowed, Follows};
+ghost use Rattle.og_report_prove.specs.Diagnosis.{IsBlock, IsDiagnosis, IsOfBlock, IsAllowed, Follows};
 
 use crate::block::{Block, Details};
 use crate::focus::Vars;
 use og_cond::Condition;
 use og_find::Verdict;
 use og_linear::State;
-use og_report_explain::{Actors, Explanation, Fault, Unexplained, explain};
+use og_report_explain::{Actors, Explanation, Fault, Obligation, Unexplained, explain};
 use og_report_text::add_conjuncts;
 use og_subst::{Action, Values};
 use og_typed::{Index, Note, Outline};
@@ -86,20 +86,19 @@ fn fault_numbers(alloc: Global, explanation: &Explanation) -> Result<Vec<usize>,
     }
 }
 
-// The block of a condition by what explains that it is false, and the numbers of the false
-// conjuncts.
-fn block_with<'a>(
+// The rest of the block of a condition, by what explains that it is false, and the numbers of the
+// false conjuncts.
+fn details_of<'a>(
     alloc: Global,
     outline: &Outline,
     index: &Index<'a>,
     condition: &Condition,
-    values: Values,
     explanation: Explanation<'a>,
     conjuncts: Vec<usize>,
-) -> Result<Block<'a>, AllocError>
-    ensures { IfOk result (λ b. (b.details.value.kind ≡ condition.now.kind) × (b.values ≡ values)
-        × (b.details.value.explanation ≡ explanation.entry)
-        × (b.details.value.conjuncts.items ≡ conjuncts.items)) }
+) -> Result<Box<Details<'a>>, AllocError>
+    ensures { IfOk result (λ d. (d.value.kind ≡ condition.now.kind)
+        × (d.value.explanation ≡ explanation.entry)
+        × (d.value.conjuncts.items ≡ conjuncts.items)) }
 {
     let mut focus = Vars::of_fault(alloc, condition, &explanation.fault)?;
     let vars = focus.list(alloc)?;
@@ -119,7 +118,7 @@ fn block_with<'a>(
         assigned,
     };
     let details = Box::new(alloc, details)?;
-    Ok(Block { values, details })
+    Ok(details)
 }
 
 /// The block of a condition that is false in a state, with these values, by what explains that.
@@ -139,56 +138,44 @@ pub fn block_of<'a>(
         × (b.details.value.conjuncts.items ≡ fault_numbers explanation.entry.after explanation.entry.fault)) }
 {
     let numbers = fault_numbers(alloc, &explanation)?;
-    let block = block_with(
-        alloc,
-        outline,
-        index,
-        condition,
-        values,
-        explanation,
-        numbers,
-    )?;
-    Ok(block)
+    let details = details_of(alloc, outline, index, condition, explanation, numbers)?;
+    Ok(Block { values, details })
 }
 
 // The block of a condition that is false in the state.
 fn block_at<'a>(
     alloc: Global,
-    outline: &'a Outline,
-    index: &Index<'a>,
-    condition: &Condition,
+    obligation: &Obligation<'_, 'a, '_>,
     state: &State,
 ) -> Result<Block<'a>, Unexplained>
-    requires index { index.now ≡ outline.now }
-    requires is_false { IsFalseAt (seen condition.now) state.now }
-    ensures block { IfOk result (IsBlock outline.now (seen condition.now)) }
+    requires index { obligation.now.index.now ≡ obligation.now.outline.now }
+    requires is_false { IsFalseAt (seen obligation.now.condition.now) state.now }
+    ensures block { IfOk result (IsBlock obligation.now.outline.now
+        (seen obligation.now.condition.now)) }
     ensures state { IfOk result (λ b. b.values ≡ state.now) }
     ensures allowed { IfOk result (λ b.
-        AreAllowed outline.now state.now b.details.value.explanation.fault) }
+        AreAllowed obligation.now.outline.now state.now b.details.value.explanation.fault) }
 {
+    let (outline, index, condition) = (obligation.outline, obligation.index, obligation.condition);
     let explanation = explain(alloc, outline, index, condition, state)?;
     let values = Values::of(alloc, state)?;
     block_of(alloc, outline, index, condition, values, explanation)
 }
 
-// The report of a condition that is false in the state.
-fn false_diagnosis<'a>(
-    alloc: Global,
-    outline: &'a Outline,
-    index: &Index<'a>,
-    condition: &Condition,
-    state: &State,
-) -> Result<Diagnosis<'a>, AllocError>
-    requires index { index.now ≡ outline.now }
-    requires is_false { IsFalseAt (seen condition.now) state.now }
-    ensures diagnosis { IfOk result (IsDiagnosis outline.now (seen condition.now)) }
-    ensures state { IfOk result (IsOfState state.now) }
-    ensures allowed { IfOk result (IsAllowed outline.now) }
-{
-    match block_at(alloc, outline, index, condition, state) {
-        Ok(block) => Ok(Diagnosis::False(block)),
-        Err(Unexplained::Open) => Ok(Diagnosis::Open),
-        Err(Unexplained::Memory) => Err(AllocError),
+impl<'a> Diagnosis<'a> {
+    /// The finding on a condition that is false, by its block: open where there is none.
+    ///
+    /// # Errors
+    ///
+    /// An allocation was refused when the block was made.
+    pub fn of_block(block: Result<Block<'a>, Unexplained>) -> Result<Diagnosis<'a>, AllocError>
+        ensures { IfOk result (IsOfBlock block.entry) }
+    {
+        match block {
+            Ok(block) => Ok(Diagnosis::False(block)),
+            Err(Unexplained::Open) => Ok(Diagnosis::Open),
+            Err(Unexplained::Memory) => Err(AllocError),
+        }
     }
 }
 
@@ -213,9 +200,14 @@ pub fn diagnose<'a>(
     ensures allowed { IfOk result (IsAllowed outline.now) }
     ensures follows { IfOk result (Follows verdict.now) }
 {
+    let obligation = Obligation {
+        outline,
+        index,
+        condition,
+    };
     match verdict {
         Verdict::True(_) => Ok(Diagnosis::Proved),
-        Verdict::False(state) => false_diagnosis(alloc, outline, index, condition, state),
+        Verdict::False(state) => Diagnosis::of_block(block_at(alloc, &obligation, state)),
         Verdict::Open => Ok(Diagnosis::Open),
     }
 }

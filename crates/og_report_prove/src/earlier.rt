@@ -6,7 +6,7 @@ ghost use Rattle.og_report_text.specs.Seen.{formulas_of};
 ghost use Rattle.og_report_prove.specs.Effects.{effect_of, together, alike_line, effect_text};
 
 use og_report_explain::{Explanation, Fault};
-use og_report_text::{Origins, put_assertion, put_conjuncts, put_number};
+use og_report_text::{Origins, put_assertion, put_conjuncts, put_number_between};
 use og_text::Name;
 use og_typed::Assert;
 use std::alloc::{AllocError, Global};
@@ -45,9 +45,7 @@ pub(crate) fn put_alike(
     ensures { OnOk result (text.new.items ≡ text.old.items
         ++ alike_line names.now k (formulas_of found.now)) }
 {
-    text.extend_from_slice(b"  as condition ")?;
-    put_number(text, k)?;
-    text.extend_from_slice(b": ")?;
+    put_number_between(text, b"  as condition ", k, b": ")?;
     put_together(text, names, found)?;
     text.extend_from_slice(b"\n")
 }

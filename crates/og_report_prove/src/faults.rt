@@ -9,6 +9,7 @@ ghost use Rattle.og_report_prove.specs.Json.{state_data, after_data, conjunct_da
 
 use crate::block::Block;
 use crate::diagnosis::Diagnosis;
+use crate::unproved::Entry;
 use crate::values::{digits_value, name_of, put_values, text_of};
 use og_report_explain::Fault;
 use og_report_text::{Places, list_value, put_assertion, set_number};
@@ -100,51 +101,42 @@ fn large_value(alloc: Global, names: &[Name], var: u32, value: i128) -> Result<V
 }
 
 /// The state of a false condition.
-pub(crate) fn state_member(
-    alloc: Global,
-    names: &[Name],
-    diagnosis: &Diagnosis,
-) -> Result<Option<Value>, AllocError>
-    ensures { IfOk result (λ found. option_map view found ≡ state_member names.now diagnosis.now) }
+pub(crate) fn state_member(alloc: Global, entry: &Entry) -> Result<Option<Value>, AllocError>
+    ensures { IfOk result (λ found.
+        option_map view found ≡ state_member entry.now.names.now entry.now.diagnosis.now) }
 {
-    match diagnosis {
-        Diagnosis::False(block) => Ok(Some(state_value(alloc, names, block)?)),
+    match entry.diagnosis {
+        Diagnosis::False(block) => Ok(Some(state_value(alloc, entry.names, block)?)),
         Diagnosis::Proved | Diagnosis::Open => Ok(None),
     }
 }
 
 /// What the action of a false condition assigns, where an assertion is false then.
-pub(crate) fn after_member(
-    alloc: Global,
-    names: &[Name],
-    diagnosis: &Diagnosis,
-) -> Result<Option<Value>, AllocError>
-    ensures { IfOk result (λ found. option_map view found ≡ after_member names.now diagnosis.now) }
+pub(crate) fn after_member(alloc: Global, entry: &Entry) -> Result<Option<Value>, AllocError>
+    ensures { IfOk result (λ found.
+        option_map view found ≡ after_member entry.now.names.now entry.now.diagnosis.now) }
 {
-    let Diagnosis::False(block) = diagnosis else {
+    let Diagnosis::False(block) = entry.diagnosis else {
         return Ok(None);
     };
     let explanation = &block.details.explanation;
     match (&explanation.fault, &explanation.action) {
-        (Fault::False(..), Some(_)) => Ok(Some(after_value(alloc, names, block)?)),
+        (Fault::False(..), Some(_)) => Ok(Some(after_value(alloc, entry.names, block)?)),
         _ => Ok(None),
     }
 }
 
 /// The assertion that is false.
-pub(crate) fn false_member(
-    alloc: Global,
-    names: &[Name],
-    places: &Places,
-    diagnosis: &Diagnosis,
-) -> Result<Option<Value>, AllocError>
-    ensures { IfOk result (λ v. option_map view v ≡ false_member names.now places.now diagnosis.now) }
+pub(crate) fn false_member(alloc: Global, entry: &Entry) -> Result<Option<Value>, AllocError>
+    ensures { IfOk result (λ v. option_map view v
+        ≡ false_member entry.now.names.now entry.now.places.now entry.now.diagnosis.now) }
 {
-    let Diagnosis::False(block) = diagnosis else {
+    let Diagnosis::False(block) = entry.diagnosis else {
         return Ok(None);
     };
     match &block.details.explanation.fault {
         Fault::False(note, found) => {
+            let (names, places) = (entry.names, entry.places);
             Ok(Some(conjuncts_value(alloc, names, places, note, found)?))
         }
         Fault::TooLarge(..) | Fault::Blocked(_) => Ok(None),
@@ -152,18 +144,15 @@ pub(crate) fn false_member(
 }
 
 /// The value that is no `i64`.
-pub(crate) fn too_large_member(
-    alloc: Global,
-    names: &[Name],
-    diagnosis: &Diagnosis,
-) -> Result<Option<Value>, AllocError>
-    ensures { IfOk result (λ found. option_map view found ≡ too_large_member names.now diagnosis.now) }
+pub(crate) fn too_large_member(alloc: Global, entry: &Entry) -> Result<Option<Value>, AllocError>
+    ensures { IfOk result (λ found.
+        option_map view found ≡ too_large_member entry.now.names.now entry.now.diagnosis.now) }
 {
-    let Diagnosis::False(block) = diagnosis else {
+    let Diagnosis::False(block) = entry.diagnosis else {
         return Ok(None);
     };
     match &block.details.explanation.fault {
-        Fault::TooLarge(var, value) => Ok(Some(large_value(alloc, names, *var, *value)?)),
+        Fault::TooLarge(var, value) => Ok(Some(large_value(alloc, entry.names, *var, *value)?)),
         Fault::False(..) | Fault::Blocked(_) => Ok(None),
     }
 }

@@ -21,7 +21,7 @@ pub use block::{Block, Details, put_block};
 pub use diagnosis::{Diagnosis, block_of, diagnose};
 pub use earlier::Firsts;
 pub use faults::conjunct_values;
-pub use lines::{put_false, put_quoted, put_too_large};
+pub use lines::{put_false, put_label, put_quoted, put_too_large};
 pub use objects::{json, totals_value};
 pub use reporting::{
     Page, Totals, is_safe, is_unblocked, put_diagnosis, put_number_line, put_totals, put_yes_line,

@@ -2,27 +2,32 @@
 
 ghost use Rattle.std.specs.Prelude.{◌≡◌, ◌++◌, OnOk};
 ghost use Rattle.og_typed.specs.Plain.{formula, noted};
-ghost use Rattle.og_typed.specs.Seen.{note_of, statement_of};
-ghost use Rattle.og_report_prove.specs.Blocks.{place_text, quoted_line, test_line, waits_line, ended_line, stand_line, stand_lines, word_text, values_line, more_line, known_line, known_lines, after_line, action_lines, false_line, false_lines, too_large_line, fault_lines};
+ghost use Rattle.og_typed.specs.Seen.{statement_of};
+ghost use Rattle.og_report_prove.specs.Blocks.{place_text, quoted_line, test_line, standing_text, waits_line, stand_line, stand_lines, word_text, values_line, more_line, known_line, known_lines, after_line, action_lines, false_line, false_lines, too_large_line, fault_lines};
 
 use crate::block::Block;
+use crate::reporting::Page;
 use crate::sentences::put_part;
 use og_report_explain::{Explanation, Fault, Stand, Test};
 use og_report_text::{Origins, put_assertion, put_known, put_value, put_values};
 use og_subst::Values;
 use og_text::Name;
-use og_typed::{Assert, Note, NoteSite, StatementSite};
+use og_typed::{Assert, Note, Part, StatementSite};
 use std::alloc::AllocError;
 
 /// The most bytes of a quote.
 const QUOTE_LIMIT: usize = 72;
 
-// A word, before the conjuncts it is about.
-fn put_word(text: &mut Vec<u8>, word: &[u8]) -> Result<(), AllocError>
-    ensures { OnOk result (text.new.items ≡ text.old.items ++ word_text word.now) }
+/// Adds a label after two blanks, and a colon, before what the line has.
+///
+/// # Errors
+///
+/// An allocation was refused; the text has what it had, and perhaps a part of this.
+pub fn put_label(text: &mut Vec<u8>, label: &[u8]) -> Result<(), AllocError>
+    ensures { OnOk result (text.new.items ≡ text.old.items ++ word_text label.now) }
 {
     text.extend_from_slice(b"  ")?;
-    text.extend_from_slice(word)?;
+    text.extend_from_slice(label)?;
     text.extend_from_slice(b": ")
 }
 
@@ -59,37 +64,40 @@ pub fn put_quoted(
     text.extend_from_slice(b"\n")
 }
 
+/// Variables with their values, as a line has them.
+#[derive(Clone, Copy)]
+pub(crate) struct Shown<'s> {
+    /// The names of all variables.
+    pub(crate) names: &'s [Name],
+    /// The values of all variables.
+    pub(crate) values: &'s Values,
+    /// Those that the line has.
+    pub(crate) vars: &'s [u32],
+}
+
 /// Adds a word and values.
 pub(crate) fn put_values_line(
     text: &mut Vec<u8>,
-    names: &[Name],
     word: &[u8],
-    values: &Values,
-    vars: &[u32],
+    shown: Shown,
 ) -> Result<(), AllocError>
     ensures { OnOk result (text.new.items ≡ text.old.items
-        ++ values_line names.now word.now values.now vars.now) }
+        ++ values_line shown.entry.names.now word.now shown.entry.values.now shown.entry.vars.now) }
 {
-    put_word(text, word)?;
-    put_values(text, names, values.as_slice(), vars)?;
+    put_label(text, word)?;
+    put_values(text, shown.names, shown.values.as_slice(), shown.vars)?;
     text.extend_from_slice(b"\n")
 }
 
 /// Adds the same, where there are variables.
-pub(crate) fn put_more_line(
-    text: &mut Vec<u8>,
-    names: &[Name],
-    word: &[u8],
-    values: &Values,
-    vars: &[u32],
-) -> Result<(), AllocError>
+pub(crate) fn put_more_line(text: &mut Vec<u8>, word: &[u8], shown: Shown) -> Result<(), AllocError>
     ensures { OnOk result (text.new.items ≡ text.old.items
-        ++ more_line names.now word.now values.now vars.now) }
+        ++ more_line shown.entry.names.now word.now shown.entry.values.now shown.entry.vars.now) }
 {
-    if vars.is_empty() {
+    if shown.vars.is_empty() {
         return Ok(());
     }
-    put_values_line(text, names, word, values, vars)
+    put_values_line(text, word, shown)
 }
 
 // What an assertion says.
@@ -151,19 +159,14 @@ pub(crate) fn put_test(
 }
 
 // What the action assigns.
-fn put_after(
-    text: &mut Vec<u8>,
-    names: &[Name],
-    values: &Values,
-    vars: &[u32],
-) -> Result<(), AllocError>
+fn put_after(text: &mut Vec<u8>, shown: Shown) -> Result<(), AllocError>
     ensures { OnOk result (text.new.items ≡ text.old.items
-        ++ after_line names.now values.now vars.now) }
+        ++ after_line shown.entry.names.now shown.entry.values.now shown.entry.vars.now) }
 {
-    if vars.is_empty() {
+    if shown.vars.is_empty() {
         return text.extend_from_slice(b"  after: no change\n");
     }
-    put_values_line(text, names, b"after", values, vars)
+    put_values_line(text, b"after", shown)
 }
 
 /// Adds the step and what it assigns.
@@ -183,7 +186,15 @@ pub(crate) fn put_action(
         None => Ok(()),
         Some(site) => {
             put_quoted(text, b"step", origins, site.item.at)?;
-            put_after(text, names, &explanation.after, vars)
+            let values = &explanation.after;
+            put_after(
+                text,
+                Shown {
+                    names,
+                    values,
+                    vars,
+                },
+            )
         }
     }
 }
@@ -240,9 +251,27 @@ pub fn put_too_large(
 ) -> Result<(), AllocError>
     ensures { OnOk result (text.new.items ≡ text.old.items ++ too_large_line names.now var value) }
 {
-    put_word(text, b"too large")?;
+    put_label(text, b"too large")?;
     put_value(text, names, var, value)?;
     text.extend_from_slice(b"\n")
+}
+
+// Where a process is, after two blanks.
+fn put_standing(
+    text: &mut Vec<u8>,
+    origins: &Origins,
+    part: Part,
+    word: &[u8],
+    at: u32,
+) -> Result<(), AllocError>
+    requires { origins.now.places.now ≡ origins.now.source.now }
+    ensures { OnOk result (text.new.items ≡ text.old.items ++ standing_text origins.now.source.now
+        origins.now.rows part word.now at) }
+{
+    text.extend_from_slice(b"  ")?;
+    put_part(text, false, part)?;
+    text.extend_from_slice(word)?;
+    origins.put_place(text, at)
 }
 
 // Where a process waits.
@@ -251,25 +280,9 @@ fn put_waits(text: &mut Vec<u8>, origins: &Origins, site: &StatementSite) -> Res
     ensures { OnOk result (text.new.items ≡ text.old.items
         ++ waits_line origins.now.source.now origins.now.rows (statement_of site.now)) }
 {
-    text.extend_from_slice(b"  ")?;
-    put_part(text, false, site.part)?;
-    text.extend_from_slice(b" waits at ")?;
-    origins.put_place(text, site.item.at)?;
+    put_standing(text, origins, site.part, b" waits at ", site.item.at)?;
     text.extend_from_slice(b": ")?;
     origins.put_quote(text, QUOTE_LIMIT, site.item.at)?;
-    text.extend_from_slice(b"\n")
-}
-
-// Where a process has ended.
-fn put_ended(text: &mut Vec<u8>, origins: &Origins, site: &NoteSite) -> Result<(), AllocError>
-    requires { origins.now.places.now ≡ origins.now.source.now }
-    ensures { OnOk result (text.new.items ≡ text.old.items
-        ++ ended_line origins.now.source.now origins.now.rows (note_of site.now)) }
-{
-    text.extend_from_slice(b"  ")?;
-    put_part(text, false, site.part)?;
-    text.extend_from_slice(b" has ended at ")?;
-    origins.put_place(text, site.note.at)?;
     text.extend_from_slice(b"\n")
 }
 
@@ -281,7 +294,10 @@ fn put_stand(text: &mut Vec<u8>, origins: &Origins, stand: &Stand) -> Result<(),
 {
     match stand {
         Stand::Waits(site) => put_waits(text, origins, site),
-        Stand::Ended(site) => put_ended(text, origins, site),
+        Stand::Ended(site) => {
+            put_standing(text, origins, site.part, b" has ended at ", site.note.at)?;
+            text.extend_from_slice(b"\n")
+        }
     }
 }
 
@@ -298,19 +314,14 @@ fn put_stands(text: &mut Vec<u8>, origins: &Origins, stands: &[Stand]) -> Result
 }
 
 /// Adds the false conjuncts.
-pub(crate) fn put_fault(
-    text: &mut Vec<u8>,
-    names: &[Name],
-    origins: &Origins,
-    fault: &Fault,
-) -> Result<(), AllocError>
-    requires { origins.now.places.now ≡ origins.now.source.now }
-    ensures { OnOk result (text.new.items ≡ text.old.items
-        ++ fault_lines names.now origins.now.source.now origins.now.rows fault.now) }
+pub(crate) fn put_fault(text: &mut Vec<u8>, page: Page, fault: &Fault) -> Result<(), AllocError>
+    requires { page.origins.now.places.now ≡ page.origins.now.source.now }
+    ensures { OnOk result (text.new.items ≡ text.old.items ++ fault_lines page.entry.names.now
+        page.entry.origins.now.source.now page.entry.origins.now.rows fault.now) }
 {
     match fault {
-        Fault::False(note, found) => put_false(text, names, origins, note.at, found),
-        Fault::TooLarge(var, value) => put_too_large(text, names, *var, *value),
-        Fault::Blocked(stands) => put_stands(text, origins, stands),
+        Fault::False(note, found) => put_false(text, page.names, page.origins, note.at, found),
+        Fault::TooLarge(var, value) => put_too_large(text, page.names, *var, *value),
+        Fault::Blocked(stands) => put_stands(text, page.origins, stands),
     }
 }

@@ -12,7 +12,7 @@ use crate::diagnosis::Diagnosis;
 use crate::earlier::{Firsts, effect_of, effect_text, number_or_add, put_alike};
 use crate::together::repeats;
 use og_cond::Condition;
-use og_report_text::{Origins, Places, Rows, put_number};
+use og_report_text::{Origins, Places, Rows, put_number, put_number_between};
 use og_text::Name;
 use og_typed::Outline;
 use std::alloc::{AllocError, Global};
@@ -24,9 +24,7 @@ fn put_more(text: &mut Vec<u8>, more: usize) -> Result<(), AllocError>
     if more == 0 {
         return Ok(());
     }
-    text.extend_from_slice(b" (and ")?;
-    put_number(text, more as u128)?;
-    text.extend_from_slice(b" more)")
+    put_number_between(text, b" (and ", more as u128, b" more)")
 }
 
 // The finding on a condition, and on how many more with it.
@@ -96,24 +94,31 @@ fn put_body(
     }
 }
 
+// A condition by its number from 1, and the finding on it.
+#[derive(Clone, Copy)]
+struct Item<'i, 'c, 'd> {
+    number: u128,
+    condition: &'i Condition<'c>,
+    diagnosis: &'i Diagnosis<'d>,
+}
+
 // The report of a condition, and of how many more with it.
 fn put_one(
     text: &mut Vec<u8>,
     firsts: &mut Firsts,
     page: Page,
-    number: u128,
-    condition: &Condition,
+    item: Item,
     more: usize,
-    diagnosis: &Diagnosis,
 ) -> Result<(), AllocError>
     requires { page.origins.now.places.now ≡ page.origins.now.source.now }
     ensures text { OnOk result (text.new.items ≡ text.old.items ++ one_text page.entry.names.now
         page.entry.origins.now.source.now page.entry.origins.now.rows (λ t. number_of t firsts.old)
-        number (seen condition.now) more diagnosis.now) }
+        item.entry.number (seen item.entry.condition.now) more item.entry.diagnosis.now) }
     ensures firsts { OnOk result ((t : List ℕ) → number_of t firsts.new
-        ≡ after_diagnosis page.entry.names.now page.entry.origins.now.source.now page.entry.origins.now.rows diagnosis.now t number (number_of t firsts.old)) }
+        ≡ after_diagnosis page.entry.names.now page.entry.origins.now.source.now page.entry.origins.now.rows item.entry.diagnosis.now t item.entry.number (number_of t firsts.old)) }
 {
-    match diagnosis {
+    let (number, condition) = (item.number, item.condition);
+    match item.diagnosis {
         Diagnosis::Proved => Ok(()),
         Diagnosis::False(block) => {
             put_head(text, page.origins, number, condition, b"false", more)?;
@@ -146,9 +151,14 @@ pub fn put_diagnosis(
     ensures firsts { OnOk result ((t : List ℕ) → number_of t firsts.new
         ≡ after_diagnosis page.entry.names.now page.entry.origins.now.source.now page.entry.origins.now.rows (shown more diagnosis.now) t number (number_of t firsts.old)) }
 {
+    let item = Item {
+        number,
+        condition,
+        diagnosis,
+    };
     match more {
         None => Ok(()),
-        Some(more) => put_one(text, firsts, page, number, condition, more, diagnosis),
+        Some(more) => put_one(text, firsts, page, item, more),
     }
 }
 

@@ -40,26 +40,11 @@ fn put_actor(text: &mut Vec<u8>, head: bool, actor: Option<Part>) -> Result<(), 
     }
 }
 
-// Whether the sentence begins with who makes the step.
+// Whether the sentence begins with who makes the step: nothing stands before that.
 fn begins(kind: Kind) -> bool
     ensures { result ≡ begins kind }
 {
-    match kind {
-        Kind::Start
-        | Kind::Then
-        | Kind::Else
-        | Kind::Join
-        | Kind::Enter
-        | Kind::Again
-        | Kind::Leave => true,
-        Kind::Prologue
-        | Kind::Step
-        | Kind::Range
-        | Kind::Interfere
-        | Kind::End
-        | Kind::Epilogue
-        | Kind::Blocking => false,
-    }
+    opening(kind).is_empty()
 }
 
 // What stands before who makes the step.

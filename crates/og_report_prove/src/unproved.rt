@@ -27,69 +27,80 @@ fn status_word(diagnosis: &Diagnosis) -> &'static str
     }
 }
 
-// Sets the state and the status.
-fn put_last(
-    members: &mut Map<String, Value>,
-    alloc: Global,
-    names: &[Name],
-    diagnosis: &Diagnosis,
-) -> Result<(), AllocError>
-    requires { members.old.entries ≡ [] }
-    ensures { OnOk result (members_view members.new.entries ≡ last_members names.now diagnosis.now) }
-{
-    let too_large = too_large_member(alloc, names, diagnosis)?;
-    put_optional(members, alloc, "too_large", too_large)?;
-    set_text(members, alloc, "status", status_word(diagnosis))?;
-    let state = state_member(alloc, names, diagnosis)?;
-    put_optional(members, alloc, "state", state)
+/// A condition by its number from 1, the finding on it, and what both are reported with.
+#[derive(Clone, Copy)]
+pub(crate) struct Entry<'e, 'c, 'd> {
+    /// The names of the variables.
+    pub(crate) names: &'e [Name],
+    /// The places of the source.
+    pub(crate) places: &'e Places<'e>,
+    pub(crate) number: u64,
+    pub(crate) condition: &'e Condition<'c>,
+    pub(crate) diagnosis: &'e Diagnosis<'d>,
 }
 
-// Sets the place, the number and the kind, and the false conjuncts.
-fn put_middle(
-    members: &mut Map<String, Value>,
-    alloc: Global,
-    names: &[Name],
-    places: &Places,
-    number: u64,
-    condition: &Condition,
-    diagnosis: &Diagnosis,
-) -> Result<(), AllocError>
-    requires { members_view members.old.entries ≡ last_members names.now diagnosis.now }
-    ensures { OnOk result (members_view members.new.entries
-        ≡ middle_members names.now places.now number (seen condition.now) diagnosis.now) }
-{
-    let place = places.position(condition.at);
-    set_number(members, alloc, "line", place.line as u64)?;
-    set_text(members, alloc, "kind", condition.kind.name())?;
-    let found = false_member(alloc, names, places, diagnosis)?;
-    put_optional(members, alloc, "false", found)?;
-    set_number(members, alloc, "condition", number)?;
-    set_number(members, alloc, "column", place.column as u64)
-}
+impl Entry<'_, '_, '_> {
+    // Sets the state and the status.
+    fn put_last(&self, members: &mut Map<String, Value>, alloc: Global) -> Result<(), AllocError>
+        requires { members.old.entries ≡ [] }
+        ensures { OnOk result (members_view members.new.entries
+            ≡ last_members self.now.names.now self.now.diagnosis.now) }
+    {
+        let too_large = too_large_member(alloc, self)?;
+        put_optional(members, alloc, "too_large", too_large)?;
+        set_text(members, alloc, "status", status_word(self.diagnosis))?;
+        let state = state_member(alloc, self)?;
+        put_optional(members, alloc, "state", state)
+    }
 
-// Sets what the action assigns, and its place in interference.
-fn put_first(
-    members: &mut Map<String, Value>,
-    alloc: Global,
-    names: &[Name],
-    places: &Places,
-    number: u64,
-    condition: &Condition,
-    diagnosis: &Diagnosis,
-) -> Result<(), AllocError>
-    requires { members_view members.old.entries
-        ≡ middle_members names.now places.now number (seen condition.now) diagnosis.now }
-    ensures { OnOk result (object (members_view members.new.entries)
-        ≡ diagnosis_data names.now places.now number (seen condition.now) diagnosis.now) }
-{
-    let after = after_member(alloc, names, diagnosis)?;
-    put_optional(members, alloc, "after", after)?;
-    let Some(at) = condition.action_at else {
-        return Ok(());
-    };
-    let action = places.position(at);
-    set_number(members, alloc, "action_line", action.line as u64)?;
-    set_number(members, alloc, "action_column", action.column as u64)
+    // Sets the place, the number and the kind, and the false conjuncts.
+    fn put_middle(&self, members: &mut Map<String, Value>, alloc: Global) -> Result<(), AllocError>
+        requires { members_view members.old.entries
+            ≡ last_members self.now.names.now self.now.diagnosis.now }
+        ensures { OnOk result (members_view members.new.entries
+            ≡ middle_members self.now.names.now self.now.places.now self.now.number
+            (seen self.now.condition.now) self.now.diagnosis.now) }
+    {
+        let place = self.places.position(self.condition.at);
+        set_number(members, alloc, "line", place.line as u64)?;
+        set_text(members, alloc, "kind", self.condition.kind.name())?;
+        let found = false_member(alloc, self)?;
+        put_optional(members, alloc, "false", found)?;
+        set_number(members, alloc, "condition", self.number)?;
+        set_number(members, alloc, "column", place.column as u64)
+    }
+
+    // Sets what the action assigns, and its place in interference.
+    fn put_first(&self, members: &mut Map<String, Value>, alloc: Global) -> Result<(), AllocError>
+        requires { members_view members.old.entries
+            ≡ middle_members self.now.names.now self.now.places.now self.now.number
+            (seen self.now.condition.now) self.now.diagnosis.now }
+        ensures { OnOk result (object (members_view members.new.entries)
+            ≡ diagnosis_data self.now.names.now self.now.places.now self.now.number
+            (seen self.now.condition.now) self.now.diagnosis.now) }
+    {
+        let after = after_member(alloc, self)?;
+        put_optional(members, alloc, "after", after)?;
+        let Some(at) = self.condition.action_at else {
+            return Ok(());
+        };
+        let action = self.places.position(at);
+        set_number(members, alloc, "action_line", action.line as u64)?;
+        set_number(members, alloc, "action_column", action.column as u64)
+    }
+
+    // The value of the condition.
+    fn value(&self, alloc: Global) -> Result<Value, AllocError>
+        ensures { IfOk result (λ v. view v
+            ≡ diagnosis_data self.now.names.now self.now.places.now self.now.number
+            (seen self.now.condition.now) self.now.diagnosis.now) }
+    {
+        let mut members = Map::new(alloc);
+        self.put_last(&mut members, alloc)?;
+        self.put_middle(&mut members, alloc)?;
+        self.put_first(&mut members, alloc)?;
+        Ok(Value::Object(members))
+    }
 }
 
 /// The value of a condition, by its number from 1.
@@ -108,27 +119,14 @@ pub fn diagnosis_value(
     ensures { IfOk result (λ v.
         view v ≡ diagnosis_data names.now places.now number (seen condition.now) diagnosis.now) }
 {
-    let mut members = Map::new(alloc);
-    put_last(&mut members, alloc, names, diagnosis)?;
-    put_middle(
-        &mut members,
-        alloc,
+    let entry = Entry {
         names,
         places,
         number,
         condition,
         diagnosis,
-    )?;
-    put_first(
-        &mut members,
-        alloc,
-        names,
-        places,
-        number,
-        condition,
-        diagnosis,
-    )?;
-    Ok(Value::Object(members))
+    };
+    entry.value(alloc)
 }
 
 // Adds the value of a condition, where that is not proved.

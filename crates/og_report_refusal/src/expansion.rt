@@ -112,68 +112,63 @@ fn put_reason(text: &mut Vec<u8>, reason: &str) -> Result<(), AllocError>
     text.extend_from_slice(b"\n")
 }
 
-// The file with the place, and the refusal.
-fn placed_head(
-    alloc: Global,
-    name: &str,
-    source: &[u8],
-    fault: &ExpandFault,
-    at: u32,
-) -> Result<Vec<u8>, AllocError>
-    requires { length source.now ≤ 2 ^ 20 }
-    ensures { IfOk result (λ text. text.items ≡ (shown_name name.now ++ place_text source.now
-        (Some at)) ++ refusal_text (number_of_fault fault.now) (name_of_fault fault.now)) }
-{
-    let mut text = Vec::new(alloc);
-    put_name(&mut text, name)?;
-    put_place(&mut text, source, at)?;
-    put_refusal(&mut text, fault.number(), fault.name())?;
-    Ok(text)
+// The name of a template, its text and its fault.
+#[derive(Clone, Copy)]
+struct Remark<'r> {
+    name: &'r str,
+    source: &'r [u8],
+    fault: &'r ExpandFault,
 }
 
-// The file, and the refusal.
-fn unplaced_head(alloc: Global, name: &str, fault: &ExpandFault) -> Result<Vec<u8>, AllocError>
-    ensures { IfOk result (λ text. text.items ≡ shown_name name.now
-        ++ refusal_text (number_of_fault fault.now) (name_of_fault fault.now)) }
-{
-    let mut text = Vec::new(alloc);
-    put_name(&mut text, name)?;
-    put_refusal(&mut text, fault.number(), fault.name())?;
-    Ok(text)
-}
+impl Remark<'_> {
+    // The file with the place, and the refusal.
+    fn placed_head(&self, alloc: Global, at: u32) -> Result<Vec<u8>, AllocError>
+        requires { length self.now.source.now ≤ 2 ^ 20 }
+        ensures { IfOk result (λ text. text.items
+            ≡ (shown_name self.now.name.now ++ place_text self.now.source.now (Some at))
+            ++ refusal_text (number_of_fault self.now.fault.now) (name_of_fault self.now.fault.now)) }
+    {
+        let mut text = Vec::new(alloc);
+        put_name(&mut text, self.name)?;
+        put_place(&mut text, self.source, at)?;
+        put_refusal(&mut text, self.fault.number(), self.fault.name())?;
+        Ok(text)
+    }
 
-// The message at a place.
-fn placed(
-    alloc: Global,
-    name: &str,
-    source: &[u8],
-    fault: &ExpandFault,
-    at: u32,
-) -> Result<Vec<u8>, AllocError>
-    requires { length source.now ≤ 2 ^ 20 }
-    ensures { IfOk result (λ text. IsRemarkAt name.now source.now (number_of_fault fault.now)
-        (name_of_fault fault.now) (Some at) text.items) }
-{
-    let mut text = placed_head(alloc, name, source, fault, at)?;
-    put_quote(&mut text, source, at)?;
-    put_reason(&mut text, reason(*fault))?;
-    Ok(text)
-}
+    // The file, and the refusal.
+    fn unplaced_head(&self, alloc: Global) -> Result<Vec<u8>, AllocError>
+        ensures { IfOk result (λ text. text.items ≡ shown_name self.now.name.now
+            ++ refusal_text (number_of_fault self.now.fault.now) (name_of_fault self.now.fault.now)) }
+    {
+        let mut text = Vec::new(alloc);
+        put_name(&mut text, self.name)?;
+        put_refusal(&mut text, self.fault.number(), self.fault.name())?;
+        Ok(text)
+    }
 
-// The message without a place.
-fn unplaced(
-    alloc: Global,
-    name: &str,
-    source: &[u8],
-    fault: &ExpandFault,
-) -> Result<Vec<u8>, AllocError>
-    ensures { IfOk result (λ text. IsRemarkAt name.now source.now (number_of_fault fault.now)
-        (name_of_fault fault.now) None text.items) }
-{
-    let mut text = unplaced_head(alloc, name, fault)?;
-    text.extend_from_slice(b"  ")?;
-    put_reason(&mut text, reason(*fault))?;
-    Ok(text)
+    // The message at a place.
+    fn placed(&self, alloc: Global, at: u32) -> Result<Vec<u8>, AllocError>
+        requires { length self.now.source.now ≤ 2 ^ 20 }
+        ensures { IfOk result (λ text. IsRemarkAt self.now.name.now self.now.source.now
+            (number_of_fault self.now.fault.now) (name_of_fault self.now.fault.now) (Some at)
+            text.items) }
+    {
+        let mut text = self.placed_head(alloc, at)?;
+        put_quote(&mut text, self.source, at)?;
+        put_reason(&mut text, reason(*self.fault))?;
+        Ok(text)
+    }
+
+    // The message without a place.
+    fn unplaced(&self, alloc: Global) -> Result<Vec<u8>, AllocError>
+        ensures { IfOk result (λ text. IsRemarkAt self.now.name.now self.now.source.now
+            (number_of_fault self.now.fault.now) (name_of_fault self.now.fault.now) None text.items) }
+    {
+        let mut text = self.unplaced_head(alloc)?;
+        text.extend_from_slice(b"  ")?;
+        put_reason(&mut text, reason(*self.fault))?;
+        Ok(text)
+    }
 }
 
 /// The message about a template of this name with a fault: the file with the place, the fault's
@@ -191,11 +186,16 @@ pub fn expansion_remark(
 ) -> Result<Vec<u8>, AllocError>
     ensures { IfOk result (λ text. IsExpansionRemark name.now source.now fault.now text.items) }
 {
+    let remark = Remark {
+        name,
+        source,
+        fault,
+    };
     if SOURCE_LIMIT < source.len() {
-        return unplaced(alloc, name, source, fault);
+        return remark.unplaced(alloc);
     }
     match fault.place() {
-        Some(at) => placed(alloc, name, source, fault, at),
-        None => unplaced(alloc, name, source, fault),
+        Some(at) => remark.placed(alloc, at),
+        None => remark.unplaced(alloc),
     }
 }

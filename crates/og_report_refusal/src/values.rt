@@ -27,16 +27,6 @@ const AUXILIARY: &str = " is an auxiliary: the outline gives it its value at the
 
 const SCHEDULE: &str = "a schedule is numbers of processes with commas between them, as 1,2,1";
 
-// The form of the words.
-fn form(gives: Gives) -> &'static str
-    ensures { result.now ≡ form_text gives }
-{
-    match gives {
-        Gives::Values => "a word that gives a value is NAME=INT",
-        Gives::Ranges => "a word that gives values is NAME=INT or NAME=LO..HI",
-    }
-}
-
 // A name in quotes, and the claim about it.
 fn quoted(alloc: Global, name: &str, rest: &str) -> Result<Vec<u8>, AllocError>
     ensures { IfOk result (λ text. text.items ≡ quoted_text name.now rest.now) }
@@ -48,59 +38,61 @@ fn quoted(alloc: Global, name: &str, rest: &str) -> Result<Vec<u8>, AllocError>
     Ok(text)
 }
 
-// Why a text gives a variable of this name no value.
-fn number_reason(
-    alloc: Global,
-    gives: Gives,
-    name: &str,
-    number: &str,
-) -> Result<Vec<u8>, AllocError>
-    ensures { IfOk result (λ text. IsNumberReason gives name.now number.now text.items) }
-{
-    match gives {
-        Gives::Ranges => Vec::from_slice(alloc, RANGES.as_bytes()),
-        Gives::Values => match integer(number) {
-            None => Vec::from_slice(alloc, VALUES.as_bytes()),
-            Some(_) => quoted(alloc, name, " has a value already"),
-        },
+impl Gives {
+    // The form of the words.
+    fn form(self) -> &'static str
+        ensures { result.now ≡ form_text self }
+    {
+        match self {
+            Gives::Values => "a word that gives a value is NAME=INT",
+            Gives::Ranges => "a word that gives values is NAME=INT or NAME=LO..HI",
+        }
     }
-}
 
-// Why a name and a text give no value.
-fn variable_reason(
-    alloc: Global,
-    gives: Gives,
-    outline: &Outline,
-    name: &str,
-    number: &str,
-) -> Result<Vec<u8>, AllocError>
-    ensures { IfOk result (λ text. IsVariableReason gives outline.now name.now number.now text.items
-        (number_in outline.now.names name.now)) }
-{
-    match number_of(outline.names(), name) {
-        None => quoted(alloc, name, " is not declared"),
-        Some(var) => {
-            if var < outline.vars() as usize {
-                number_reason(alloc, gives, name, number)
-            } else {
-                quoted(alloc, name, AUXILIARY)
+    // Why a text gives a variable of this name no value.
+    fn number_reason(self, alloc: Global, name: &str, number: &str) -> Result<Vec<u8>, AllocError>
+        ensures { IfOk result (λ text. IsNumberReason self name.now number.now text.items) }
+    {
+        match self {
+            Gives::Ranges => Vec::from_slice(alloc, RANGES.as_bytes()),
+            Gives::Values => match integer(number) {
+                None => Vec::from_slice(alloc, VALUES.as_bytes()),
+                Some(_) => quoted(alloc, name, " has a value already"),
+            },
+        }
+    }
+
+    // Why a name and a text give no value.
+    fn variable_reason(
+        self,
+        alloc: Global,
+        outline: &Outline,
+        name: &str,
+        number: &str,
+    ) -> Result<Vec<u8>, AllocError>
+        ensures { IfOk result (λ text. IsVariableReason self outline.now name.now number.now
+            text.items (number_in outline.now.names name.now)) }
+    {
+        match number_of(outline.names(), name) {
+            None => quoted(alloc, name, " is not declared"),
+            Some(var) => {
+                if var < outline.vars() as usize {
+                    self.number_reason(alloc, name, number)
+                } else {
+                    quoted(alloc, name, AUXILIARY)
+                }
             }
         }
     }
-}
 
-// Why a word gives no value.
-fn word_reason(
-    alloc: Global,
-    gives: Gives,
-    outline: &Outline,
-    word: &str,
-) -> Result<Vec<u8>, AllocError>
-    ensures { IfOk result (λ text. IsWordReason gives outline.now word.now text.items) }
-{
-    match word.split_once('=') {
-        None => Vec::from_slice(alloc, form(gives).as_bytes()),
-        Some((name, number)) => variable_reason(alloc, gives, outline, name, number),
+    // Why a word gives no value.
+    fn reason(self, alloc: Global, outline: &Outline, word: &str) -> Result<Vec<u8>, AllocError>
+        ensures { IfOk result (λ text. IsWordReason self outline.now word.now text.items) }
+    {
+        match word.split_once('=') {
+            None => Vec::from_slice(alloc, self.form().as_bytes()),
+            Some((name, number)) => self.variable_reason(alloc, outline, name, number),
+        }
     }
 }
 
@@ -140,6 +132,6 @@ pub fn value_remark(
 ) -> Result<Vec<u8>, AllocError>
     ensures { IfOk result (λ line. IsValueRemark gives outline.now word.now line.items) }
 {
-    let reason = word_reason(alloc, gives, outline, word)?;
+    let reason = gives.reason(alloc, outline, word)?;
     line_of(alloc, &reason)
 }

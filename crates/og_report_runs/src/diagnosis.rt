@@ -11,7 +11,7 @@ ghost use Rattle.og_report_runs.specs.RunDiagnosis.{IsPlaced, IsDiagnosisAt, Lea
 use crate::stuck::stands_at;
 use crate::witness::Witness;
 use og_cond::Condition;
-use og_report_explain::{Explanation, Fault, Stand, Unexplained, explain};
+use og_report_explain::{Explanation, Fault, Obligation, Stand, Unexplained, explain};
 use og_report_prove::{Block, Diagnosis, block_of};
 use og_step::Moment;
 use og_subst::Values;
@@ -34,53 +34,63 @@ fn with_stands<'a>(explanation: Explanation<'a>, stands: Vec<Stand<'a>>) -> Expl
     }
 }
 
-// Why the condition is false at the moment. Where that says where processes stand, the moment has
-// them there.
-fn explained<'a>(
-    alloc: Global,
-    outline: &'a Outline,
-    index: &Index<'a>,
-    condition: &Condition,
-    moment: &Moment<'a>,
-) -> Result<Explanation<'a>, Unexplained>
-    requires index { index.now ≡ outline.now }
-    requires outline { moment.now.outline ≡ outline.now }
-    requires reached { IsReached outline.now moment.now.moment }
-    ensures explained { IfOk result (IsExplained outline.now (seen condition.now)
-        moment.now.moment.state) }
-    ensures places { IfOk result (λ e. IsPlaced outline.now moment.now.moment e.fault) }
-{
-    let explanation = explain(alloc, outline, index, condition, moment.state())?;
-    let Fault::Blocked(_) = &explanation.fault else {
-        return Ok(explanation);
-    };
-    if !moment.is_stuck() {
-        return Err(Unexplained::Open);
-    }
-    let stands = stands_at(alloc, outline, index, moment)?;
-    Ok(with_stands(explanation, stands))
+// A condition at a moment of its outline.
+#[derive(Clone, Copy)]
+struct Met<'m, 'a, 'c> {
+    obligation: Obligation<'m, 'a, 'c>,
+    moment: &'m Moment<'a>,
 }
 
-// The block of a condition that is false at the moment.
-fn block_at<'a>(
-    alloc: Global,
-    outline: &'a Outline,
-    index: &Index<'a>,
-    condition: &Condition,
-    moment: &Moment<'a>,
-) -> Result<Block<'a>, Unexplained>
-    requires index { index.now ≡ outline.now }
-    requires outline { moment.now.outline ≡ outline.now }
-    requires reached { IsReached outline.now moment.now.moment }
-    requires is_false { IsFalseAt (seen condition.now) moment.now.moment.state }
-    ensures block { IfOk result (IsBlock outline.now (seen condition.now)) }
-    ensures state { IfOk result (λ b. b.values ≡ moment.now.moment.state) }
-    ensures places { IfOk result (λ b.
-        IsPlaced outline.now moment.now.moment b.details.value.explanation.fault) }
-{
-    let explanation = explained(alloc, outline, index, condition, moment)?;
-    let values = Values::of(alloc, moment.state())?;
-    block_of(alloc, outline, index, condition, values, explanation)
+impl<'m, 'a, 'c> Met<'m, 'a, 'c> {
+    // Why the condition is false at the moment. Where that says where processes stand, the moment
+    // has them there.
+    fn explained(&self, alloc: Global) -> Result<Explanation<'a>, Unexplained>
+        requires index { self.now.obligation.index.now ≡ self.now.obligation.outline.now }
+        requires outline { self.now.moment.now.outline ≡ self.now.obligation.outline.now }
+        requires reached { IsReached self.now.obligation.outline.now self.now.moment.now.moment }
+        ensures explained { IfOk result (IsExplained self.now.obligation.outline.now
+            (seen self.now.obligation.condition.now) self.now.moment.now.moment.state) }
+        ensures places { IfOk result (λ e.
+            IsPlaced self.now.obligation.outline.now self.now.moment.now.moment e.fault) }
+    {
+        let (outline, index) = (self.obligation.outline, self.obligation.index);
+        let (condition, moment) = (self.obligation.condition, self.moment);
+        let explanation = explain(alloc, outline, index, condition, moment.state())?;
+        let Fault::Blocked(_) = &explanation.fault else {
+            return Ok(explanation);
+        };
+        if !moment.is_stuck() {
+            return Err(Unexplained::Open);
+        }
+        let stands = stands_at(alloc, outline, index, moment)?;
+        Ok(with_stands(explanation, stands))
+    }
+
+    // The block of the condition, which is false at the moment.
+    fn block(&self, alloc: Global) -> Result<Block<'a>, Unexplained>
+        requires index { self.now.obligation.index.now ≡ self.now.obligation.outline.now }
+        requires outline { self.now.moment.now.outline ≡ self.now.obligation.outline.now }
+        requires reached { IsReached self.now.obligation.outline.now self.now.moment.now.moment }
+        requires is_false { IsFalseAt (seen self.now.obligation.condition.now)
+            self.now.moment.now.moment.state }
+        ensures block { IfOk result (IsBlock self.now.obligation.outline.now
+            (seen self.now.obligation.condition.now)) }
+        ensures state { IfOk result (λ b. b.values ≡ self.now.moment.now.moment.state) }
+        ensures places { IfOk result (λ b. IsPlaced self.now.obligation.outline.now
+            self.now.moment.now.moment b.details.value.explanation.fault) }
+    {
+        let (outline, index) = (self.obligation.outline, self.obligation.index);
+        let explanation = self.explained(alloc)?;
+        let values = Values::of(alloc, self.moment.state())?;
+        block_of(
+            alloc,
+            outline,
+            index,
+            self.obligation.condition,
+            values,
+            explanation,
+        )
+    }
 }
 
 // The report of a condition that is false at the moment.
@@ -98,11 +108,13 @@ fn diagnosis_at<'a>(
     ensures diagnosis { IfOk result (IsDiagnosis outline.now (seen condition.now)) }
     ensures moment { IfOk result (IsDiagnosisAt outline.now moment.now.moment) }
 {
-    match block_at(alloc, outline, index, condition, moment) {
-        Ok(block) => Ok(Diagnosis::False(block)),
-        Err(Unexplained::Open) => Ok(Diagnosis::Open),
-        Err(Unexplained::Memory) => Err(AllocError),
-    }
+    let obligation = Obligation {
+        outline,
+        index,
+        condition,
+    };
+    let met = Met { obligation, moment };
+    Diagnosis::of_block(met.block(alloc))
 }
 
 /// The report of a condition by a run that gets to a state in which it is false: that state and its

@@ -6,7 +6,7 @@ ghost use Rattle.og_report_runs.specs.Lines.{steps_text, history_text, way_text,
 use crate::witness::{Run, Witness};
 use og_linear::State;
 use og_report_explore::printed_number;
-use og_report_text::{put_number, put_values};
+use og_report_text::{put_number, put_number_between, put_values};
 use og_subst::Values;
 use og_text::Name;
 use og_typed::Outline;
@@ -135,39 +135,38 @@ fn put_from(
     put_start(text, outline, values)
 }
 
-// The run.
-fn put_witness(
-    text: &mut Vec<u8>,
-    outline: &Outline,
-    many: bool,
-    witness: &Witness,
-) -> Result<(), AllocError>
-    ensures { OnOk result (text.new.items ≡ text.old.items
-        ++ witness_text outline.now many witness.now) }
-{
-    outline.follows_rule();
-    let main = outline.processes().len() as u32;
-    put_way(text, main, &witness.history)?;
-    put_from(text, outline, many, &witness.values)
+// An outline, and how far its runs were explored.
+#[derive(Clone, Copy)]
+struct Search<'s> {
+    outline: &'s Outline,
+    explored: Explored,
 }
 
-// The result of the search for runs.
-fn put_run(
-    text: &mut Vec<u8>,
-    outline: &Outline,
-    explored: Explored,
-    run: &Run,
-) -> Result<(), AllocError>
-    ensures { OnOk result (text.new.items ≡ text.old.items
-        ++ run_text outline.now (nat_lt 1 explored.starts) explored.moments run.now) }
-{
-    match run {
-        Run::Reached(witness) => put_witness(text, outline, 1 < explored.starts, witness),
-        Run::Never => text.extend_from_slice(b"no run from these starts gets there"),
-        Run::Open => {
-            text.extend_from_slice(b"no run met it within ")?;
-            put_number(text, u128::from(explored.moments))?;
-            text.extend_from_slice(b" moments")
+impl Search<'_> {
+    // The run.
+    fn put_witness(&self, text: &mut Vec<u8>, witness: &Witness) -> Result<(), AllocError>
+        ensures { OnOk result (text.new.items ≡ text.old.items
+            ++ witness_text self.now.outline.now (nat_lt 1 self.now.explored.starts) witness.now) }
+    {
+        let outline = self.outline;
+        outline.follows_rule();
+        let main = outline.processes().len() as u32;
+        put_way(text, main, &witness.history)?;
+        put_from(text, outline, 1 < self.explored.starts, &witness.values)
+    }
+
+    // The result of the search for runs.
+    fn put_run(&self, text: &mut Vec<u8>, run: &Run) -> Result<(), AllocError>
+        ensures { OnOk result (text.new.items ≡ text.old.items ++ run_text self.now.outline.now
+            (nat_lt 1 self.now.explored.starts) self.now.explored.moments run.now) }
+    {
+        match run {
+            Run::Reached(witness) => self.put_witness(text, witness),
+            Run::Never => text.extend_from_slice(b"no run from these starts gets there"),
+            Run::Open => {
+                let moments = u128::from(self.explored.moments);
+                put_number_between(text, b"no run met it within ", moments, b" moments")
+            }
         }
     }
 }
@@ -187,6 +186,7 @@ pub fn put_run_line(
         ++ run_line outline.now (nat_lt 1 explored.starts) explored.moments run.now) }
 {
     text.extend_from_slice(b"  ")?;
-    put_run(text, outline, explored, run)?;
+    let search = Search { outline, explored };
+    search.put_run(text, run)?;
     text.extend_from_slice(b"\n")
 }

@@ -113,25 +113,33 @@ fn with_run(
     }
 }
 
+// A condition by its number from 1, the finding on it, and the result of the search for runs.
+#[derive(Clone, Copy)]
+struct Entry<'e, 'c, 'd> {
+    number: u64,
+    condition: &'e Condition<'c>,
+    diagnosis: &'e Diagnosis<'d>,
+    run: &'e Run,
+}
+
 // Adds the value of a condition, where that is not proved.
 fn add_unproved(
     values: &mut Vec<Value>,
     outline: &Outline,
     places: &Places,
-    number: u64,
-    condition: &Condition,
-    diagnosis: &Diagnosis,
-    run: &Run,
+    entry: Entry,
 ) -> Result<(), AllocError>
     ensures { OnOk result (map view values.new.items ≡ map view values.old.items
-        ++ (if is_proved diagnosis.now then [] else with_run outline.now diagnosis.now run.now (diagnosis_data outline.now.names places.now number (seen condition.now) diagnosis.now) ∷ [])) }
+        ++ (if is_proved entry.entry.diagnosis.now then [] else with_run outline.now entry.entry.diagnosis.now entry.entry.run.now (diagnosis_data outline.now.names places.now entry.entry.number (seen entry.entry.condition.now) entry.entry.diagnosis.now) ∷ [])) }
 {
+    let (condition, diagnosis) = (entry.condition, entry.diagnosis);
     if diagnosis.is_proved() {
         return Ok(());
     }
     let alloc = *values.allocator();
-    let value = diagnosis_value(alloc, outline.names(), places, number, condition, diagnosis)?;
-    values.push(with_run(alloc, outline, diagnosis, run, value)?)?;
+    let names = outline.names();
+    let value = diagnosis_value(alloc, names, places, entry.number, condition, diagnosis)?;
+    values.push(with_run(alloc, outline, diagnosis, entry.run, value)?)?;
     Ok(())
 }
 
@@ -151,16 +159,13 @@ fn unproved_values(
 {
     let mut values = Vec::new(alloc);
     for index in 0..conditions.len() {
-        let number = index as u64 + 1;
-        add_unproved(
-            &mut values,
-            outline,
-            places,
-            number,
-            &conditions[index],
-            &diagnoses[index],
-            &runs[index],
-        )?;
+        let entry = Entry {
+            number: index as u64 + 1,
+            condition: &conditions[index],
+            diagnosis: &diagnoses[index],
+            run: &runs[index],
+        };
+        add_unproved(&mut values, outline, places, entry)?;
     }
     Ok(values)
 }
@@ -178,21 +183,28 @@ fn explored_value(alloc: Global, explored: Explored, runs: &[Run]) -> Result<Val
     Ok(Value::Object(members))
 }
 
+// All conditions, the findings on them, and the results of the search for runs.
+#[derive(Clone, Copy)]
+struct Findings<'f, 'c, 'd> {
+    conditions: &'f [Condition<'c>],
+    diagnoses: &'f [Diagnosis<'d>],
+    runs: &'f [Run],
+}
+
 // The whole report.
 fn report_value(
     alloc: Global,
     outline: &Outline,
     places: &Places,
     explored: Explored,
-    conditions: &[Condition],
-    diagnoses: &[Diagnosis],
-    runs: &[Run],
+    findings: Findings,
 ) -> Result<Value, AllocError>
-    requires each { length diagnoses.now ≡ length conditions.now }
-    requires run { length runs.now ≡ length conditions.now }
-    ensures { IfOk result (λ v. view v
-        ≡ report_data outline.now places.now explored (map seen conditions.now) diagnoses.now runs.now) }
+    requires each { length findings.diagnoses.now ≡ length findings.conditions.now }
+    requires run { length findings.runs.now ≡ length findings.conditions.now }
+    ensures { IfOk result (λ v. view v ≡ report_data outline.now places.now explored
+        (map seen findings.entry.conditions.now) findings.entry.diagnoses.now findings.entry.runs.now) }
 {
+    let (conditions, diagnoses, runs) = (findings.conditions, findings.diagnoses, findings.runs);
     let unproved = unproved_values(alloc, outline, places, conditions, diagnoses, runs)?;
     let totals = totals_value(alloc, diagnoses, list_value(unproved))?;
     with_member(
@@ -226,8 +238,11 @@ pub fn json(
         ≡ json_text outline.now source.now explored (map seen conditions.now) diagnoses.now runs.now) }
 {
     let places = Places::new(alloc, source)?;
-    let value = report_value(
-        alloc, outline, &places, explored, conditions, diagnoses, runs,
-    )?;
+    let findings = Findings {
+        conditions,
+        diagnoses,
+        runs,
+    };
+    let value = report_value(alloc, outline, &places, explored, findings)?;
     bytes_of(alloc, &value)
 }

@@ -38,29 +38,6 @@ pub(crate) fn read_alike(
     Ok(text.as_slice() == other.as_slice())
 }
 
-/// Whether process p is active at an assertion that reads as this one.
-///
-/// # Errors
-///
-/// An allocation was refused.
-pub(crate) fn is_at(
-    alloc: Global,
-    outline: &Outline,
-    moment: &Moment,
-    p: u32,
-    note: &Note,
-) -> Result<bool, AllocError>
-    requires { moment.now.outline ≡ outline.now }
-    ensures { IfOk result (λ yes.
-        IsTrue yes ↔ IsAt outline.now moment.now.moment p (noted note.now)) }
-{
-    if !moment.is_active(p) {
-        return Ok(false);
-    }
-    let yes = read_alike(alloc, outline.names(), moment.current(p), &note.assertion)?;
-    Ok(yes)
-}
-
 // The action of what process p does next, if that is one.
 fn next_action<'a>(moment: &Moment<'a>, p: u32) -> Option<Action<'a>>
     ensures { option_map action_tree result ≡ next_action (todo moment.now.moment p) }
@@ -82,29 +59,53 @@ fn is_same(first: &Option<Action>, second: &Option<Action>) -> bool
     }
 }
 
-/// Whether process p is active before a statement that reads as this one.
-///
-/// # Errors
-///
-/// An allocation was refused.
-pub(crate) fn is_before(
-    alloc: Global,
-    outline: &Outline,
-    moment: &Moment,
-    p: u32,
-    site: &StatementSite,
-) -> Result<bool, AllocError>
-    requires { moment.now.outline ≡ outline.now }
-    ensures { IfOk result (λ yes.
-        IsTrue yes ↔ IsBefore outline.now moment.now.moment p (statement_of site.now).piece) }
-{
-    if !is_at(alloc, outline, moment, p, &site.item.before)? {
-        return Ok(false);
+/// A process of an outline at a moment.
+#[derive(Clone, Copy)]
+pub(crate) struct ProcessAt<'m, 'a> {
+    pub(crate) outline: &'m Outline,
+    pub(crate) moment: &'m Moment<'a>,
+    /// Its number.
+    pub(crate) p: u32,
+}
+
+impl ProcessAt<'_, '_> {
+    /// Whether the process is active at an assertion that reads as this one.
+    ///
+    /// # Errors
+    ///
+    /// An allocation was refused.
+    pub(crate) fn is_at(&self, alloc: Global, note: &Note) -> Result<bool, AllocError>
+        requires { self.now.moment.now.outline ≡ self.now.outline.now }
+        ensures { IfOk result (λ yes. IsTrue yes
+            ↔ IsAt self.now.outline.now self.now.moment.now.moment self.now.p (noted note.now)) }
+    {
+        let (outline, moment, p) = (self.outline, self.moment, self.p);
+        if !moment.is_active(p) {
+            return Ok(false);
+        }
+        let yes = read_alike(alloc, outline.names(), moment.current(p), &note.assertion)?;
+        Ok(yes)
     }
-    let next = next_action(moment, p);
-    let action = Action::of(&site.item.stmt);
-    let yes = is_same(&next, &action);
-    Ok(yes)
+
+    /// Whether the process is active before a statement that reads as this one.
+    ///
+    /// # Errors
+    ///
+    /// An allocation was refused.
+    pub(crate) fn is_before(&self, alloc: Global, site: &StatementSite) -> Result<bool, AllocError>
+        requires { self.now.moment.now.outline ≡ self.now.outline.now }
+        ensures { IfOk result (λ yes. IsTrue yes
+            ↔ IsBefore self.now.outline.now self.now.moment.now.moment self.now.p
+            (statement_of site.now).piece) }
+    {
+        if !self.is_at(alloc, &site.item.before)? {
+            return Ok(false);
+        }
+        let next = next_action(self.moment, self.p);
+        let action = Action::of(&site.item.stmt);
+        let yes = is_same(&next, &action);
+        Ok(yes)
+    }
 }
 
 /// Whether the processes stand there. Of a step that leaves a branch or a body nothing is asked.
@@ -123,27 +124,25 @@ pub(crate) fn stands(
 {
     match place {
         Place::Before(site) => {
-            is_before(alloc, outline, moment, number_of(outline, site.part), site)
+            let p = number_of(outline, site.part);
+            let process = ProcessAt { outline, moment, p };
+            process.is_before(alloc, site)
         }
         Place::Between(site, note) => {
-            if !is_before(alloc, outline, moment, number_of(outline, site.part), site)? {
+            let p = number_of(outline, site.part);
+            let process = ProcessAt { outline, moment, p };
+            if !process.is_before(alloc, site)? {
                 return Ok(false);
             }
-            is_at(
-                alloc,
-                outline,
-                moment,
-                number_of(outline, note.part),
-                note.note,
-            )
+            let p = number_of(outline, note.part);
+            let other = ProcessAt { outline, moment, p };
+            other.is_at(alloc, note.note)
         }
-        Place::At(note) => is_at(
-            alloc,
-            outline,
-            moment,
-            number_of(outline, note.part),
-            note.note,
-        ),
+        Place::At(note) => {
+            let p = number_of(outline, note.part);
+            let process = ProcessAt { outline, moment, p };
+            process.is_at(alloc, note.note)
+        }
         Place::Exit(..) | Place::Left(_) => Ok(true),
         Place::Ended => Ok(moment.is_finished()),
         Place::Stuck => Ok(moment.is_stuck()),

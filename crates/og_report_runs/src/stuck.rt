@@ -8,7 +8,7 @@ ghost use Rattle.og_report_text.specs.Assertions.{assertion_text};
 ghost use Rattle.og_report_runs.specs.RunDiagnosis.{next_test, IsNext, StandsAt, AreStandsAt};
 
 use crate::placing::number_of;
-use crate::standing::{is_at, is_before, read_alike};
+use crate::standing::{ProcessAt, read_alike};
 use og_report_explain::{Stand, Unexplained, test_of, tested};
 use og_step::Moment;
 use og_subst::Values;
@@ -42,93 +42,81 @@ fn are_alike(
     }
 }
 
-// Whether process p stands before this statement, and what it tests next reads as the test there.
-fn is_next(
-    alloc: Global,
-    outline: &Outline,
-    moment: &Moment,
-    p: u32,
-    site: &StatementSite,
-) -> Result<bool, AllocError>
-    requires { moment.now.outline ≡ outline.now }
-    ensures { IfOk result (λ yes.
-        IsTrue yes → IsNext outline.now moment.now.moment p (statement_of site.now).piece) }
-{
-    if !is_before(alloc, outline, moment, p, site)? {
-        return Ok(false);
-    }
-    let test = test_of(&site.item.stmt);
-    are_alike(alloc, outline.names(), next_test(moment, p), test)
+// A process at a moment of a stuck program, and the index of its outline.
+#[derive(Clone, Copy)]
+struct Seat<'m, 'a> {
+    process: ProcessAt<'m, 'a>,
+    index: &'m Index<'a>,
 }
 
-// The statement at the byte offset `at`, where process p waits there.
-fn waits_at<'a>(
-    alloc: Global,
-    outline: &Outline,
-    index: &Index<'a>,
-    moment: &Moment<'a>,
-    p: u32,
-    at: u32,
-) -> Result<Option<Stand<'a>>, AllocError>
-    requires index { index.now ≡ outline.now }
-    requires outline { moment.now.outline ≡ outline.now }
-    ensures { IfOk result (λ found. IfSome found (StandsAt outline.now moment.now.moment p)) }
-{
-    let values = Values::of(alloc, moment.state())?;
-    let Some(test) = tested(index, at, false, &values) else {
-        return Ok(None);
-    };
-    let site = test.site;
-    if number_of(outline, site.part) != p {
-        return Ok(None);
+impl<'m, 'a> Seat<'m, 'a> {
+    // Where the moment has the process, which waits or has ended at the byte offset `end`.
+    fn stand_of(&self, alloc: Global, end: u32) -> Result<Option<Stand<'a>>, AllocError>
+        requires index { self.now.index.now ≡ self.now.process.outline.now }
+        requires outline { self.now.process.moment.now.outline ≡ self.now.process.outline.now }
+        ensures { IfOk result (λ found. IfSome found (StandsAt self.now.process.outline.now
+            self.now.process.moment.now.moment self.now.process.p)) }
+    {
+        match self.process.moment.head(self.process.p) {
+            Some(item) => self.waits_at(alloc, item.at),
+            None => self.ended_at(alloc, end),
+        }
     }
-    if !is_next(alloc, outline, moment, p, &site)? {
-        return Ok(None);
-    }
-    Ok(Some(Stand::Waits(site)))
-}
 
-// The assertion at the byte offset `at`, where process p has ended there.
-fn ended_at<'a>(
-    alloc: Global,
-    outline: &Outline,
-    index: &Index<'a>,
-    moment: &Moment<'a>,
-    p: u32,
-    at: u32,
-) -> Result<Option<Stand<'a>>, AllocError>
-    requires index { index.now ≡ outline.now }
-    requires outline { moment.now.outline ≡ outline.now }
-    ensures { IfOk result (λ found. IfSome found (StandsAt outline.now moment.now.moment p)) }
-{
-    let Some(site) = index.note(at) else {
-        return Ok(None);
-    };
-    if number_of(outline, site.part) != p || !moment.is_done(p) {
-        return Ok(None);
+    // The statement at the byte offset `at`, where the process waits there.
+    fn waits_at(&self, alloc: Global, at: u32) -> Result<Option<Stand<'a>>, AllocError>
+        requires index { self.now.index.now ≡ self.now.process.outline.now }
+        requires outline { self.now.process.moment.now.outline ≡ self.now.process.outline.now }
+        ensures { IfOk result (λ found. IfSome found (StandsAt self.now.process.outline.now
+            self.now.process.moment.now.moment self.now.process.p)) }
+    {
+        let values = Values::of(alloc, self.process.moment.state())?;
+        let Some(test) = tested(self.index, at, false, &values) else {
+            return Ok(None);
+        };
+        let site = test.site;
+        if number_of(self.process.outline, site.part) != self.process.p {
+            return Ok(None);
+        }
+        if !self.is_next(alloc, &site)? {
+            return Ok(None);
+        }
+        Ok(Some(Stand::Waits(site)))
     }
-    if !is_at(alloc, outline, moment, p, site.note)? {
-        return Ok(None);
-    }
-    Ok(Some(Stand::Ended(site)))
-}
 
-// Where the moment has process p, which waits or has ended at the byte offset `end`.
-fn stand_of<'a>(
-    alloc: Global,
-    outline: &Outline,
-    index: &Index<'a>,
-    moment: &Moment<'a>,
-    p: u32,
-    end: u32,
-) -> Result<Option<Stand<'a>>, AllocError>
-    requires index { index.now ≡ outline.now }
-    requires outline { moment.now.outline ≡ outline.now }
-    ensures { IfOk result (λ found. IfSome found (StandsAt outline.now moment.now.moment p)) }
-{
-    match moment.head(p) {
-        Some(item) => waits_at(alloc, outline, index, moment, p, item.at),
-        None => ended_at(alloc, outline, index, moment, p, end),
+    // Whether the process stands before this statement, and what it tests next reads as the test
+    // there.
+    fn is_next(&self, alloc: Global, site: &StatementSite) -> Result<bool, AllocError>
+        requires { self.now.process.moment.now.outline ≡ self.now.process.outline.now }
+        ensures { IfOk result (λ yes. IsTrue yes → IsNext self.now.process.outline.now
+            self.now.process.moment.now.moment self.now.process.p (statement_of site.now).piece) }
+    {
+        if !self.process.is_before(alloc, site)? {
+            return Ok(false);
+        }
+        let test = test_of(&site.item.stmt);
+        let next = next_test(self.process.moment, self.process.p);
+        are_alike(alloc, self.process.outline.names(), next, test)
+    }
+
+    // The assertion at the byte offset `at`, where the process has ended there.
+    fn ended_at(&self, alloc: Global, at: u32) -> Result<Option<Stand<'a>>, AllocError>
+        requires index { self.now.index.now ≡ self.now.process.outline.now }
+        requires outline { self.now.process.moment.now.outline ≡ self.now.process.outline.now }
+        ensures { IfOk result (λ found. IfSome found (StandsAt self.now.process.outline.now
+            self.now.process.moment.now.moment self.now.process.p)) }
+    {
+        let (outline, moment, p) = (self.process.outline, self.process.moment, self.process.p);
+        let Some(site) = self.index.note(at) else {
+            return Ok(None);
+        };
+        if number_of(outline, site.part) != p || !moment.is_done(p) {
+            return Ok(None);
+        }
+        if !self.process.is_at(alloc, site.note)? {
+            return Ok(None);
+        }
+        Ok(Some(Stand::Ended(site)))
     }
 }
 
@@ -153,7 +141,15 @@ pub(crate) fn stands_at<'a>(
     let mut stands = Vec::new(alloc);
     for p in 0..processes.len() {
         let end = processes[p].last.at;
-        let Some(stand) = stand_of(alloc, outline, index, moment, p as u32, end)? else {
+        let seat = Seat {
+            process: ProcessAt {
+                outline,
+                moment,
+                p: p as u32,
+            },
+            index,
+        };
+        let Some(stand) = seat.stand_of(alloc, end)? else {
             return Err(Unexplained::Open);
         };
         stands.push(stand)?;

@@ -1,3 +1,4 @@
 pub mod Cuts
 pub mod Terms
 pub mod Ends
+pub mod Joins

@@ -32,7 +32,7 @@ of_certs certs.Memory = errors.Memory
 
 -- ---- what it says
 
--- P of the fault; want of memory says nothing
+-- P of the fault; refused memory says nothing
 abbrev pub OnFault : (InputFault → Type 0) → InputError → Type 0
 OnFault P (errors.Fault fault) = P fault
 OnFault P errors.Memory = ⊤

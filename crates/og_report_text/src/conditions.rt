@@ -5,44 +5,17 @@ ghost use Rattle.og_cond.specs.Limits.{condition_limit};
 ghost use Rattle.og_cond.specs.Seen.{seen};
 ghost use Rattle.og_facts.specs.Facts.{facts_of};
 ghost use Rattle.og_facts.specs.Plain.{plain_fact};
-ghost use Rattle.og_report_text.specs.Listing.{places_text, header_text, facts_lines, answer_lines, condition_lines, conditions_lines, IsListing};
+ghost use Rattle.og_report_text.specs.Listing.{facts_lines, answer_lines, condition_lines, conditions_lines, IsListing};
 
 use crate::facts::put_fact;
+use crate::heading::put_heading;
 use crate::places::Places;
-use crate::words::{put_action_place, put_number, put_position};
+use crate::words::put_number;
 use og_cond::{Condition, ConditionsError, conditions};
 use og_facts::{Fact, FactsError, facts};
 use og_text::Name;
 use og_typed::Outline;
 use std::alloc::{AllocError, Global};
-
-// The places of a condition.
-fn put_places(text: &mut Vec<u8>, places: &Places, condition: &Condition) -> Result<(), AllocError>
-    ensures { OnOk result (text.new.items ≡ text.old.items
-        ++ places_text places.now (seen condition.now)) }
-{
-    text.extend_from_slice(b" at ")?;
-    put_position(text, places.position(condition.at))?;
-    put_action_place(text, places, condition.action_at)?;
-    text.extend_from_slice(b"\n")
-}
-
-// The number, the kind and the places of a condition.
-fn put_header(
-    text: &mut Vec<u8>,
-    places: &Places,
-    number: u128,
-    condition: &Condition,
-) -> Result<(), AllocError>
-    ensures { OnOk result (text.new.items ≡ text.old.items
-        ++ header_text places.now number (seen condition.now)) }
-{
-    text.extend_from_slice(b"cond ")?;
-    put_number(text, number)?;
-    text.extend_from_slice(b" ")?;
-    text.extend_from_slice(condition.kind.name().as_bytes())?;
-    put_places(text, places, condition)
-}
 
 // A line for each fact, numbered from 1.
 fn put_facts(text: &mut Vec<u8>, names: &[Name], facts: &[Fact]) -> Result<(), AllocError>
@@ -89,7 +62,7 @@ pub fn put_condition(
     ensures { OnOk result (text.new.items ≡ text.old.items
         ++ condition_lines names.now places.now number (seen condition.now)) }
 {
-    put_header(text, places, number, condition)?;
+    put_heading(text, places, number, condition)?;
     put_answer(text, names, condition)
 }
 

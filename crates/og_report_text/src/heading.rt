@@ -5,7 +5,7 @@ ghost use Rattle.og_cond.specs.Seen.{seen};
 ghost use Rattle.og_report_text.specs.Listing.{header_text, places_text};
 
 use crate::places::Places;
-use crate::words::{put_action_place, put_number, put_position};
+use crate::words::{put_action_place, put_number_between, put_position};
 use og_cond::Condition;
 use std::alloc::AllocError;
 
@@ -34,9 +34,7 @@ pub fn put_heading(
     ensures { OnOk result (text.new.items ≡ text.old.items
         ++ header_text places.now number (seen condition.now)) }
 {
-    text.extend_from_slice(b"cond ")?;
-    put_number(text, number)?;
-    text.extend_from_slice(b" ")?;
+    put_number_between(text, b"cond ", number, b" ")?;
     text.extend_from_slice(condition.kind.name().as_bytes())?;
     put_places(text, places, condition)
 }

@@ -41,4 +41,4 @@ pub use relations::{Relation, put_relation};
 pub use row::{Row, Rows};
 pub use subject::Subject;
 pub use values::{put_names, put_value, put_values};
-pub use words::{put_action_place, put_number, put_position};
+pub use words::{put_action_place, put_number, put_number_between, put_position};

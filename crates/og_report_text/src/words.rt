@@ -20,6 +20,25 @@ pub fn put_number(text: &mut Vec<u8>, number: u128) -> Result<(), AllocError>
     text.extend_from_slice(digits.as_bytes())
 }
 
+/// Adds the number in decimal to the text, between these words.
+///
+/// # Errors
+///
+/// An allocation was refused; the text has what it had, and perhaps a part of this.
+pub fn put_number_between(
+    text: &mut Vec<u8>,
+    before: &[u8],
+    number: u128,
+    after: &[u8],
+) -> Result<(), AllocError>
+    ensures { OnOk result (text.new.items ≡ text.old.items
+        ++ (before.now ++ (decimal number ++ after.now))) }
+{
+    text.extend_from_slice(before)?;
+    put_number(text, number)?;
+    text.extend_from_slice(after)
+}
+
 /// Adds the line and the column to the text, with a colon between them.
 ///
 /// # Errors

@@ -135,7 +135,7 @@ fits_listed at cards p c all there = let within = slice_get_within cards p (list
 
 -- the answer to taking a card in, about the cards and the process
 pub listed_there : (cards : List Listed) (p : ℕ) (k w : View) → k ≡ keeper cards → w ≡ holder p w.card → slice_get k.cards w.process ≡ Some (listed w.card true) → slice_get cards p ≡ Some (listed w.card true)
-listed_there cards p k w k_is w_is told = subst (λ (q : ℕ). slice_get cards q ≡ Some (listed w.card true)) (ap (λ (v : View). v.process) w_is) (subst (λ (v : View). slice_get v.cards w.process ≡ Some (listed w.card true)) k_is told)
+listed_there cards p k w k_is w_is there = subst (λ (q : ℕ). slice_get cards q ≡ Some (listed w.card true)) (ap (λ (v : View). v.process) w_is) (subst (λ (v : View). slice_get v.cards w.process ≡ Some (listed w.card true)) k_is there)
 
 pub keeper_there : (cards : List Listed) (p : ℕ) (k w after : View) → k ≡ keeper cards → w ≡ holder p w.card → after ≡ keeper (slice_set k.cards w.process (listed w.card false)) → after ≡ keeper (set cards p (listed w.card false))
 keeper_there cards p k w after k_is w_is is = is ∙ (λ i. keeper (slice_set (k_is i).cards (ap (λ (v : View). v.process) w_is i) (listed w.card false)))

@@ -72,7 +72,7 @@ confirms_keep given slots id me keeps_all has s r wide at small =
     let mine = r.fits id v at in
     let here = mine.0 keeps_all in
     let there = mine.1 has in
-    let told : slice_get v.cards p ≡ Some (listed v.card true) = subst (λ (l : List Listed). slice_get l p ≡ Some (listed v.card true)) (sym here.1) there in
+    let there_now : slice_get v.cards p ≡ Some (listed v.card true) = subst (λ (l : List Listed). slice_get l p ≡ Some (listed v.card true)) (sym here.1) there in
     let cards : List Listed = set v.cards p (listed v.card false) in
     let w : View = keeper cards in (
       w,
@@ -90,7 +90,7 @@ confirms_keep given slots id me keeps_all has s r wide at small =
             ((λ _. (here.0, refl)), (λ h. absurd (off h)));
         alone = alone_set s.views id w (λ by other a b _ _ e f. r.alone by other a b e f) (λ j u _ _ h _ _. off h);
       },
-      (told, refl),
+      (there_now, refl),
     )
 
 pub takes_keep : (given : Given) (id : ℕ) (v : View) (other : ℕ) (w : View) → v.keeps ≡ true → w.keeps ≡ false → Joins (Kept given) id v other w (with_card v w) nobody

@@ -68,14 +68,14 @@ moved_parts false false false true e = absurd (cc)
 moved_parts false false false false e = (refl, refl, refl)
 
 -- the board's word for the stepper's turn
-abbrev pub told : Turn → RunTurn
-told turn.Moved = Moved
-told turn.Waits = Waits
-told turn.Done = Done
-told turn.Overflow = Overflow
-told turn.Early = Early
+abbrev pub run_turn : Turn → RunTurn
+run_turn turn.Moved = Moved
+run_turn turn.Waits = Waits
+run_turn turn.Done = Done
+run_turn turn.Overflow = Overflow
+run_turn turn.Early = Early
 
-pub turned : (g : Given) (h : List ℕ) (m : Moment) (p : ℕ) (t : Turn) → HasRoom g h m p → t ≡ turn_of m p → IsTurnAt g h m p (told t)
+pub turned : (g : Given) (h : List ℕ) (m : Moment) (p : ℕ) (t : Turn) → HasRoom g h m p → t ≡ turn_of m p → IsTurnAt g h m p (run_turn t)
 turned g h m p turn.Moved room e =
     let parts = moved_parts (is_empty (todo m p)) (is_early m p) (waits m p) (overflows m p) (sym e) in ((room, parts.0), parts.2, parts.1)
 turned g h m p turn.Waits room e =

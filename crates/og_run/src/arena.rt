@@ -99,7 +99,7 @@ fn take_in(tokens: &Tokens, keeper: &mut Token<(), View>, token: Token<(), View>
         × (token.table_id ≡ tokens.now.shared.table_id) × (tokens.now.shared.table_id.words ≡ 1) }
     requires keeper { keeper.old.me.0.keeps ≡ true }
     requires token { (token.me.1 ≡ []) × (token.me.0.keeps ≡ false) × (token.me.0.holds ≡ true) }
-    ensures told { slice_get keeper.old.me.0.cards token.me.0.process
+    ensures card { slice_get keeper.old.me.0.cards token.me.0.process
         ≡ Some (listed token.me.0.card true) }
     ensures kept { (keeper.new.table_id ≡ keeper.old.table_id)
         × (keeper.new.me ≡ (

@@ -31,6 +31,13 @@ struct Ordering<'v> {
     chain: &'v [Link],
 }
 
+/// A half of the values.
+#[derive(Clone, Copy)]
+enum Half {
+    Lower,
+    Upper,
+}
+
 /// Numbers that are one more than there are values from the least one on, and those of the list up
 /// to the next one, by the half of the values in which each is taken to be.
 #[derive(Drop)]
@@ -89,6 +96,23 @@ impl<'v> Sorting<'v> {
     fn next(&self) -> Option<usize> {
         let next = self.low.len().saturating_add(self.high.len());
         self.list.get(next).copied()
+    }
+
+    // Takes a number to be in a half.
+    fn add(&mut self, half: Half, number: usize) -> Result<(), AllocError> {
+        match half {
+            Half::Lower => self.low.push(number)?,
+            Half::Upper => self.high.push(number)?,
+        }
+        Ok(())
+    }
+
+    // Takes the last number of a half to be in neither.
+    fn remove(&mut self, half: Half) {
+        let _ = match half {
+            Half::Lower => self.low.pop(),
+            Half::Upper => self.high.pop(),
+        };
     }
 }
 
@@ -249,41 +273,34 @@ impl Refuter<'_, '_> {
         let number = sorting.next().ok_or(Unrefuted::Levels)?;
         let own = self.member(number)?;
         let form = self.at_most(own.var, sorting.middle)?;
-        let first = self.lower(below, number, sorting)?;
-        let second = self.raise(below, number, sorting)?;
+        let first = self.refute_in(below, number, Half::Lower, sorting)?;
+        let second = self.refute_in(below, number, Half::Upper, sorting)?;
         Ok(branch(self.alloc, below, form, first, second)?)
     }
 
-    // Refutes that a number is in the lower half.
-    #[cycle(halving)]
-    fn lower(
-        &mut self,
-        level: u32,
-        number: usize,
-        sorting: &mut Sorting,
-    ) -> Result<Tree, Unrefuted> {
-        let own = self.member(number)?;
-        self.set(number, own.with_most(assumed_at(level)));
-        sorting.low.push(number)?;
-        let tree = self.halve(level, sorting)?;
-        sorting.low.pop();
-        self.set(number, own);
-        Ok(tree)
+    // Sets the bound that a number has in a half, as it is assumed at this level.
+    fn assume(&mut self, level: u32, number: usize, own: Member, half: Half) {
+        let bounded = match half {
+            Half::Lower => own.with_most(assumed_at(level)),
+            Half::Upper => own.with_least(assumed_at(level)),
+        };
+        self.set(number, bounded);
     }
 
-    // Refutes that a number is above the lower half.
+    // Refutes that a number is in a half.
     #[cycle(halving)]
-    fn raise(
+    fn refute_in(
         &mut self,
         level: u32,
         number: usize,
+        half: Half,
         sorting: &mut Sorting,
     ) -> Result<Tree, Unrefuted> {
         let own = self.member(number)?;
-        self.set(number, own.with_least(assumed_at(level)));
-        sorting.high.push(number)?;
+        self.assume(level, number, own, half);
+        sorting.add(half, number)?;
         let tree = self.halve(level, sorting)?;
-        sorting.high.pop();
+        sorting.remove(half);
         self.set(number, own);
         Ok(tree)
     }

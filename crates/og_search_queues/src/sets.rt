@@ -91,26 +91,6 @@ impl Refuter<'_, '_, '_> {
         self.shown(below, form, &facts, tree)
     }
 
-    // What refutes those that wait, where the counter has this least value.
-    fn refute_waiting(
-        &mut self,
-        level: u32,
-        sets: Sets,
-        waiting: &[Waiting],
-        least: i128,
-    ) -> Result<Tree, Unrefuted> {
-        let values = Values {
-            least: least.saturating_add(1),
-            most: sets.most,
-        };
-        match sets.known {
-            Some(known) if known.value == least => {
-                self.refute_pigeons(level, waiting, values, Some(known.place))
-            }
-            _ => self.refute_above_shown(level, waiting, values, least),
-        }
-    }
-
     // The least value of the counter.
     fn least_of(&self, sets: Sets, through: usize) -> i128 {
         let least = self.queue.least.saturating_add(through as i128);
@@ -120,7 +100,8 @@ impl Refuter<'_, '_, '_> {
         }
     }
 
-    // Refutes the entries so far, where more wait than there are values left.
+    // Refutes the entries so far, where more wait than there are values left above this least value
+    // of the counter.
     fn refute_full(
         &mut self,
         level: u32,
@@ -131,7 +112,16 @@ impl Refuter<'_, '_, '_> {
         if waiting.is_empty() {
             return self.refute_through(sets.counter);
         }
-        self.refute_waiting(level, sets, waiting, least)
+        let values = Values {
+            least: least.saturating_add(1),
+            most: sets.most,
+        };
+        match sets.known {
+            Some(known) if known.value == least => {
+                self.refute_pigeons(level, waiting, values, Some(known.place))
+            }
+            _ => self.refute_above_shown(level, waiting, values, least),
+        }
     }
 
     /// Refutes a list of entries, below this level.

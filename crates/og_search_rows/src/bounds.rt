@@ -27,26 +27,25 @@ pub enum Side {
 }
 
 impl Side {
+    // The first side where the coefficient is above 0, else the second.
+    fn by_sign(coefficient: i128, first: Side, second: Side) -> Side
+        ensures { result ≡ (if int_lt (pos 0) coefficient then first else second) }
+    {
+        if coefficient > 0 { first } else { second }
+    }
+
     /// The side on which a term with this coefficient is least.
     pub fn of_least(coefficient: i128) -> Side
         ensures { result ≡ (if int_lt (pos 0) coefficient then Lower else Upper) }
     {
-        if coefficient > 0 {
-            Side::Lower
-        } else {
-            Side::Upper
-        }
+        Side::by_sign(coefficient, Side::Lower, Side::Upper)
     }
 
     /// The side on which a term with this coefficient is greatest.
     pub fn of_greatest(coefficient: i128) -> Side
         ensures { result ≡ (if int_lt (pos 0) coefficient then Upper else Lower) }
     {
-        if coefficient > 0 {
-            Side::Upper
-        } else {
-            Side::Lower
-        }
+        Side::by_sign(coefficient, Side::Upper, Side::Lower)
     }
 }
 

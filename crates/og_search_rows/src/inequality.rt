@@ -4,7 +4,7 @@ ghost use Rattle.std.specs.Prelude.{◌≡◌, ℤ, pos, List, [], ◌∷◌, �
 ghost use Rattle.std.specs.List.{list_any};
 ghost use Rattle.og_linear.specs.Linear.{val};
 ghost use Rattle.og_linear.specs.Replaced as replaced;
-ghost use Rattle.og_search_rows.specs.Inequality.{form_of, left_side, Holds, sum_at, part_at};
+ghost use Rattle.og_search_rows.specs.Inequality.{form_of, left_side, Holds, sum_at, part_at, IsSum};
 
 use crate::marks::{last_bits, next_mark};
 use crate::model::Model;
@@ -308,9 +308,7 @@ impl Inequality {
         first: Scaled,
         second: Scaled,
     ) -> Result<Option<Inequality>, AllocError>
-        ensures { IfOk result (λ found. IfSome found (λ f. (s : List ℤ)
-            → left_side f s ≡ first.entry.times *ℤ left_side first.entry.form.now s
-            +ℤ second.entry.times *ℤ left_side second.entry.form.now s)) }
+        ensures { IfOk result (λ found. IfSome found (IsSum first.entry second.entry)) }
     {
         let (a, b) = (first.form.constant, second.form.constant);
         let Some(constant) = mixed(first.times, a, second.times, b) else {
@@ -332,7 +330,7 @@ impl Inequality {
         })
     }
 
-    /// So many times the inequality.
+    /// The inequality multiplied by a number.
     pub fn times(&self, times: i128) -> Scaled<'_>
         ensures times { result.times ≡ times }
         ensures form { result.form.now ≡ self.now }

@@ -5,6 +5,7 @@ ghost use Rattle.std.specs.Prelude.{◌≡◌, ◌<◌, ◌≤◌, length, true,
 use crate::Special;
 use crate::binders::binder_to_colon;
 use crate::cursor::Cursor;
+use crate::limits::deeper;
 use crate::lists::{boxed, put};
 use crate::sums::sum;
 use crate::tree::{Assertion, Binder, Conjunction, Disjunction, Factor, Note, Sum, TermKind, Unit};
@@ -64,13 +65,13 @@ fn use_of(alloc: Global, sum: Sum) -> Option<Unit> {
 }
 
 // What begins as a sum: a comparison, or the use of a named assertion.
-fn comparison(alloc: Global, depth: u32, cursor: &mut Cursor) -> Result<Unit, Refusal>
+fn comparison(depth: u32, cursor: &mut Cursor) -> Result<Unit, Refusal>
     ensures { length cursor.new ≤ length cursor.old }
 {
-    let left = sum(alloc, depth, cursor)?;
+    let left = sum(depth, cursor)?;
     match cursor.relation() {
-        Some(relation) => Ok(Unit::Compare(left, relation, sum(alloc, depth, cursor)?)),
-        None => match use_of(alloc, left) {
+        Some(relation) => Ok(Unit::Compare(left, relation, sum(depth, cursor)?)),
+        None => match use_of(cursor.alloc(), left) {
             Some(unit) => Ok(unit),
             None => Err(Refusal::Fault(FaultKind::Expected)),
         },
@@ -79,30 +80,30 @@ fn comparison(alloc: Global, depth: u32, cursor: &mut Cursor) -> Result<Unit, Re
 
 // What follows `not`.
 #[cycle(assertions)]
-fn closed(alloc: Global, depth: u32, cursor: &mut Cursor) -> Result<Unit, Refusal>
+fn closed(depth: u32, cursor: &mut Cursor) -> Result<Unit, Refusal>
     ensures { length cursor.new ≤ length cursor.old }
 {
     if cursor.is_at_special(Special::All) || cursor.is_at_special(Special::Any) {
         return Err(Refusal::Fault(FaultKind::Expected));
     }
-    unit(alloc, depth, cursor)
+    unit(depth, cursor)
 }
 
 #[cycle(assertions)]
-fn negation(alloc: Global, depth: u32, cursor: &mut Cursor) -> Result<Unit, Refusal>
+fn negation(depth: u32, cursor: &mut Cursor) -> Result<Unit, Refusal>
     ensures { length cursor.new ≤ length cursor.old }
 {
     let span = cursor.expect(&TokenKind::Not)?;
-    let inner = boxed(alloc, closed(alloc, depth, cursor))?;
+    let inner = boxed(cursor.alloc(), closed(depth, cursor))?;
     Ok(Unit::Not(span, inner))
 }
 
 #[cycle(assertions)]
-fn group(alloc: Global, depth: u32, cursor: &mut Cursor) -> Result<Unit, Refusal>
+fn group(depth: u32, cursor: &mut Cursor) -> Result<Unit, Refusal>
     ensures { length cursor.new ≤ length cursor.old }
 {
     let span = cursor.expect(&TokenKind::OpenParen)?;
-    let inner = boxed(alloc, assertion(alloc, depth, cursor))?;
+    let inner = boxed(cursor.alloc(), assertion(depth, cursor))?;
     cursor.expect(&TokenKind::CloseParen)?;
     Ok(Unit::Group(span, inner))
 }
@@ -116,31 +117,29 @@ fn quantifier(all: bool, span: Span, binder: Binder, inner: Box<Unit>) -> Unit {
 
 // What follows `all` or `some`.
 #[cycle(assertions)]
-fn quantified(alloc: Global, depth: u32, all: bool, cursor: &mut Cursor) -> Result<Unit, Refusal>
+fn quantified(depth: u32, all: bool, cursor: &mut Cursor) -> Result<Unit, Refusal>
     ensures { length cursor.new ≤ length cursor.old }
 {
     let span = cursor.span();
     cursor.advance();
-    let binder = binder_to_colon(alloc, depth, cursor)?;
-    let inner = boxed(alloc, unit(alloc, depth, cursor))?;
+    let binder = binder_to_colon(depth, cursor)?;
+    let inner = boxed(cursor.alloc(), unit(depth, cursor))?;
     Ok(quantifier(all, span, binder, inner))
 }
 
 // What `not`, `(`, `all` or `some` opens, where `depth` levels are left.
 #[cycle(assertions)]
-fn opened(alloc: Global, depth: u32, cursor: &mut Cursor) -> Result<Unit, Refusal>
+fn opened(depth: u32, cursor: &mut Cursor) -> Result<Unit, Refusal>
     ensures { length cursor.new ≤ length cursor.old }
 {
-    if depth == 0 {
-        return Err(Refusal::Fault(FaultKind::TooDeep));
-    }
+    let depth = deeper(depth)?;
     if cursor.is_at(&TokenKind::Not) {
-        return negation(alloc, depth - 1, cursor);
+        return negation(depth, cursor);
     }
     if cursor.is_at(&TokenKind::OpenParen) {
-        return group(alloc, depth - 1, cursor);
+        return group(depth, cursor);
     }
-    quantified(alloc, depth - 1, cursor.is_at_special(Special::All), cursor)
+    quantified(depth, cursor.is_at_special(Special::All), cursor)
 }
 
 // Whether the next word opens a level in front of an assertion.
@@ -152,11 +151,11 @@ fn is_at_opening(cursor: &Cursor) -> bool {
 }
 
 #[cycle(assertions)]
-fn unit(alloc: Global, depth: u32, cursor: &mut Cursor) -> Result<Unit, Refusal>
+fn unit(depth: u32, cursor: &mut Cursor) -> Result<Unit, Refusal>
     ensures { length cursor.new ≤ length cursor.old }
 {
     if is_at_opening(cursor) {
-        return opened(alloc, depth, cursor);
+        return opened(depth, cursor);
     }
     let span = cursor.span();
     if cursor.eat(&TokenKind::True) {
@@ -165,63 +164,52 @@ fn unit(alloc: Global, depth: u32, cursor: &mut Cursor) -> Result<Unit, Refusal>
     if cursor.eat(&TokenKind::False) {
         return Ok(Unit::False(span));
     }
-    comparison(alloc, depth, cursor)
+    comparison(depth, cursor)
 }
 
 #[cycle(assertions)]
-fn conjunction(alloc: Global, depth: u32, cursor: &mut Cursor) -> Result<Conjunction, Refusal>
+fn conjunction(depth: u32, cursor: &mut Cursor) -> Result<Conjunction, Refusal>
     ensures { length cursor.new ≤ length cursor.old }
 {
-    let mut parts = Vec::new(alloc);
-    put(&mut parts, unit(alloc, depth, cursor))?;
+    let mut parts = Vec::new(cursor.alloc());
+    put(&mut parts, unit(depth, cursor))?;
     'more: while cursor.eat(&TokenKind::And) {
-        put(&mut parts, unit(alloc, depth, cursor))?;
+        put(&mut parts, unit(depth, cursor))?;
     }
     Ok(Conjunction { parts })
 }
 
 #[cycle(assertions)]
-fn disjunction(alloc: Global, depth: u32, cursor: &mut Cursor) -> Result<Disjunction, Refusal>
+fn disjunction(depth: u32, cursor: &mut Cursor) -> Result<Disjunction, Refusal>
     ensures { length cursor.new ≤ length cursor.old }
 {
-    let mut parts = Vec::new(alloc);
-    put(&mut parts, conjunction(alloc, depth, cursor))?;
+    let mut parts = Vec::new(cursor.alloc());
+    put(&mut parts, conjunction(depth, cursor))?;
     'more: while cursor.eat(&TokenKind::Or) {
-        put(&mut parts, conjunction(alloc, depth, cursor))?;
+        put(&mut parts, conjunction(depth, cursor))?;
     }
     Ok(Disjunction { parts })
 }
 
 // What `->` opens behind what has a quantifier or not, where `depth` levels are left.
 #[cycle(assertions)]
-fn implied(
-    alloc: Global,
-    depth: u32,
-    quantified: bool,
-    cursor: &mut Cursor,
-) -> Result<Assertion, Refusal>
+fn implied(depth: u32, quantified: bool, cursor: &mut Cursor) -> Result<Assertion, Refusal>
     ensures { length cursor.new ≤ length cursor.old }
 {
     if quantified {
         return Err(Refusal::Fault(FaultKind::Expected));
     }
-    if depth == 0 {
-        return Err(Refusal::Fault(FaultKind::TooDeep));
-    }
+    let depth = deeper(depth)?;
     cursor.expect(&TokenKind::Arrow)?;
-    assertion(alloc, depth - 1, cursor)
+    assertion(depth, cursor)
 }
 
 /// Reads an assertion with at most `depth` levels.
 #[cycle(assertions)]
-pub(crate) fn assertion(
-    alloc: Global,
-    depth: u32,
-    cursor: &mut Cursor,
-) -> Result<Assertion, Refusal>
+pub(crate) fn assertion(depth: u32, cursor: &mut Cursor) -> Result<Assertion, Refusal>
     ensures { length cursor.new ≤ length cursor.old }
 {
-    let left = disjunction(alloc, depth, cursor)?;
+    let left = disjunction(depth, cursor)?;
     let span = cursor.span();
     if !cursor.is_at(&TokenKind::Arrow) {
         return Ok(Assertion {
@@ -230,7 +218,7 @@ pub(crate) fn assertion(
         });
     }
     let quantified = has_quantifier(&left);
-    let right = boxed(alloc, implied(alloc, depth, quantified, cursor))?;
+    let right = boxed(cursor.alloc(), implied(depth, quantified, cursor))?;
     Ok(Assertion {
         left,
         implied: Some((span, right)),
@@ -238,25 +226,20 @@ pub(crate) fn assertion(
 }
 
 /// Reads an assertion and the word after it.
-pub(crate) fn test(
-    alloc: Global,
-    depth: u32,
-    word: &TokenKind,
-    cursor: &mut Cursor,
-) -> Result<Assertion, Refusal>
+pub(crate) fn test(depth: u32, word: &TokenKind, cursor: &mut Cursor) -> Result<Assertion, Refusal>
     ensures { length cursor.new ≤ length cursor.old }
 {
-    let test = assertion(alloc, depth, cursor)?;
+    let test = assertion(depth, cursor)?;
     cursor.expect(word)?;
     Ok(test)
 }
 
 /// Reads an assertion in braces.
-pub(crate) fn note(alloc: Global, depth: u32, cursor: &mut Cursor) -> Result<Note, Refusal>
+pub(crate) fn note(depth: u32, cursor: &mut Cursor) -> Result<Note, Refusal>
     ensures ok { OnOk result (length cursor.new < length cursor.old) }
     ensures less { length cursor.new ≤ length cursor.old }
 {
     let span = cursor.expect(&TokenKind::OpenBrace)?;
-    let assertion = test(alloc, depth, &TokenKind::CloseBrace, cursor)?;
+    let assertion = test(depth, &TokenKind::CloseBrace, cursor)?;
     Ok(Note { assertion, span })
 }

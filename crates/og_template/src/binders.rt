@@ -9,26 +9,25 @@ use crate::lists::{Listed, list};
 use crate::tree::{Binder, Bounds, Test};
 use og_parse::{FaultKind, Refusal};
 use og_text::TokenKind;
-use std::alloc::Global;
 
 /// Reads a range.
-pub(crate) fn bounds(alloc: Global, depth: u32, cursor: &mut Cursor) -> Result<Bounds, Refusal>
+pub(crate) fn bounds(depth: u32, cursor: &mut Cursor) -> Result<Bounds, Refusal>
     ensures { length cursor.new ≤ length cursor.old }
 {
     let span = cursor.span();
-    let low = expr(alloc, depth, cursor)?;
+    let low = expr(depth, cursor)?;
     cursor.expect_special(Special::Dots)?;
-    let high = expr(alloc, depth, cursor)?;
+    let high = expr(depth, cursor)?;
     Ok(Bounds { low, high, span })
 }
 
 impl Listed for Test {
-    fn read(alloc: Global, depth: u32, cursor: &mut Cursor) -> Result<Test, Refusal> {
-        let left = expr(alloc, depth, cursor)?;
+    fn read(depth: u32, cursor: &mut Cursor) -> Result<Test, Refusal> {
+        let left = expr(depth, cursor)?;
         let Some(relation) = cursor.relation() else {
             return Err(Refusal::Fault(FaultKind::Expected));
         };
-        let right = expr(alloc, depth, cursor)?;
+        let right = expr(depth, cursor)?;
         Ok(Test {
             left,
             relation,
@@ -38,35 +37,31 @@ impl Listed for Test {
 }
 
 // The tests after `where`, if it stands here.
-fn tests(alloc: Global, depth: u32, cursor: &mut Cursor) -> Result<Vec<Test>, Refusal>
+fn tests(depth: u32, cursor: &mut Cursor) -> Result<Vec<Test>, Refusal>
     ensures { length cursor.new ≤ length cursor.old }
 {
     if !cursor.eat_special(Special::Where) {
-        return Ok(Vec::new(alloc));
+        return Ok(Vec::new(cursor.alloc()));
     }
-    list(alloc, depth, &TokenKind::And, cursor)
+    list(depth, &TokenKind::And, cursor)
 }
 
 /// Reads a binder.
-pub(crate) fn binder(alloc: Global, depth: u32, cursor: &mut Cursor) -> Result<Binder, Refusal>
+pub(crate) fn binder(depth: u32, cursor: &mut Cursor) -> Result<Binder, Refusal>
     ensures { length cursor.new ≤ length cursor.old }
 {
-    let name = cursor.name(alloc)?;
+    let name = cursor.name()?;
     cursor.expect_special(Special::In)?;
-    let range = bounds(alloc, depth, cursor)?;
-    let tests = tests(alloc, depth, cursor)?;
+    let range = bounds(depth, cursor)?;
+    let tests = tests(depth, cursor)?;
     Ok(Binder { name, range, tests })
 }
 
 /// Reads a binder and the `:` after it.
-pub(crate) fn binder_to_colon(
-    alloc: Global,
-    depth: u32,
-    cursor: &mut Cursor,
-) -> Result<Binder, Refusal>
+pub(crate) fn binder_to_colon(depth: u32, cursor: &mut Cursor) -> Result<Binder, Refusal>
     ensures { length cursor.new ≤ length cursor.old }
 {
-    let binder = binder(alloc, depth, cursor)?;
+    let binder = binder(depth, cursor)?;
     cursor.expect_special(Special::Colon)?;
     Ok(binder)
 }

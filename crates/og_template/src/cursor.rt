@@ -4,14 +4,16 @@ ghost use Rattle.std.specs.Prelude.{◌≡◌, ◌<◌, ◌≤◌, drop, length,
 ghost use Rattle.std.specs.Bool.{MatchBool};
 
 use crate::{Special, Word, WordKind};
-use og_parse::{FaultKind, RawName, Refusal, Relation, Sign};
+use og_parse::{FaultKind, RawName, Refusal, Relation, Sign, relation_of};
 use og_text::{Name, Span, TokenKind};
 use std::alloc::Global;
 use std::marker::Model;
 
-/// A place in a list of words, seen as the words from there on.
+/// A place in a list of words, and the memory for what is read. Contracts see it as the words from
+/// there on.
 #[derive(Drop)]
 pub(crate) struct Cursor<'a> {
+    alloc: Global,
     rest: &'a [Word],
 }
 
@@ -25,10 +27,15 @@ impl<'a> Model for Cursor<'a> {
 }
 
 impl<'a> Cursor<'a> {
-    pub(crate) fn new(words: &'a [Word]) -> Cursor<'a>
+    pub(crate) fn new(alloc: Global, words: &'a [Word]) -> Cursor<'a>
         ensures { result ≡ words.now }
     {
-        Cursor { rest: words }
+        Cursor { alloc, rest: words }
+    }
+
+    // The memory for what is read.
+    pub(crate) fn alloc(&self) -> Global {
+        self.alloc
     }
 
     // The words from the place on.
@@ -142,13 +149,13 @@ impl<'a> Cursor<'a> {
     }
 
     // Reads a name.
-    pub(crate) fn name(&mut self, alloc: Global) -> Result<RawName, Refusal>
+    pub(crate) fn name(&mut self) -> Result<RawName, Refusal>
         ensures ok { OnOk result (length self.new < length self.old) }
         ensures less { length self.new ≤ length self.old }
     {
         match self.lexeme() {
             Some(TokenKind::Name(name)) => {
-                let bytes = Vec::from_slice(alloc, name.as_slice())?;
+                let bytes = Vec::from_slice(self.alloc, name.as_slice())?;
                 let span = self.span();
                 self.advance();
                 Ok(RawName {
@@ -192,15 +199,7 @@ impl<'a> Cursor<'a> {
     pub(crate) fn relation(&mut self) -> Option<Relation>
         ensures less { length self.new ≤ length self.old }
     {
-        let relation = match self.lexeme() {
-            Some(TokenKind::LessEqual) => Relation::LessEqual,
-            Some(TokenKind::Less) => Relation::Less,
-            Some(TokenKind::GreaterEqual) => Relation::GreaterEqual,
-            Some(TokenKind::Greater) => Relation::Greater,
-            Some(TokenKind::Equal) => Relation::Equal,
-            Some(TokenKind::NotEqual) => Relation::NotEqual,
-            _ => return None,
-        };
+        let relation = relation_of(self.lexeme()?)?;
         self.advance();
         Some(relation)
     }

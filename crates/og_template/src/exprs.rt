@@ -4,9 +4,10 @@ ghost use Rattle.std.specs.Prelude.{◌<◌, ◌≤◌, length, IfSome};
 
 use crate::Special;
 use crate::cursor::Cursor;
+use crate::limits::deeper;
 use crate::lists::{Listed, list, put};
 use crate::tree::{Expr, Link, Operator};
-use og_parse::{FaultKind, Refusal};
+use og_parse::Refusal;
 use og_text::{Span, TokenKind};
 use std::alloc::{AllocError, Global};
 
@@ -66,84 +67,76 @@ fn negated(alloc: Global, operand: Expr, minus: u32, end: u32) -> Result<Expr, A
 
 // What `(` opens, where `depth` levels are left.
 #[cycle(expressions)]
-fn group(alloc: Global, depth: u32, cursor: &mut Cursor) -> Result<Expr, Refusal>
+fn group(depth: u32, cursor: &mut Cursor) -> Result<Expr, Refusal>
     ensures { length cursor.new ≤ length cursor.old }
 {
-    if depth == 0 {
-        return Err(Refusal::Fault(FaultKind::TooDeep));
-    }
+    let depth = deeper(depth)?;
     cursor.expect(&TokenKind::OpenParen)?;
-    let inner = expr(alloc, depth - 1, cursor)?;
+    let inner = expr(depth, cursor)?;
     cursor.expect(&TokenKind::CloseParen)?;
     Ok(inner)
 }
 
 #[cycle(expressions)]
-fn operand(alloc: Global, depth: u32, cursor: &mut Cursor) -> Result<Expr, Refusal>
+fn operand(depth: u32, cursor: &mut Cursor) -> Result<Expr, Refusal>
     ensures { length cursor.new ≤ length cursor.old }
 {
     if cursor.is_at(&TokenKind::OpenParen) {
-        return group(alloc, depth, cursor);
+        return group(depth, cursor);
     }
     let span = cursor.span();
     if let Some(n) = cursor.number() {
         return Ok(Expr::Number(n, span));
     }
-    Ok(Expr::Name(cursor.name(alloc)?))
+    Ok(Expr::Name(cursor.name()?))
 }
 
 // The operators `*` and `mod` with their operands, as many as stand here.
 #[cycle(expressions)]
-fn factors(alloc: Global, depth: u32, cursor: &mut Cursor) -> Result<Vec<Link>, Refusal>
+fn factors(depth: u32, cursor: &mut Cursor) -> Result<Vec<Link>, Refusal>
     ensures { length cursor.new ≤ length cursor.old }
 {
-    let mut links = Vec::new(alloc);
+    let mut links = Vec::new(cursor.alloc());
     let mut span = cursor.span();
     'more: while let Some(operator) = multiplicative(cursor) {
-        put(
-            &mut links,
-            link(operator, span, operand(alloc, depth, cursor)),
-        )?;
+        put(&mut links, link(operator, span, operand(depth, cursor)))?;
         span = cursor.span();
     }
     Ok(links)
 }
 
 #[cycle(expressions)]
-fn product(alloc: Global, depth: u32, cursor: &mut Cursor) -> Result<Expr, Refusal>
+fn product(depth: u32, cursor: &mut Cursor) -> Result<Expr, Refusal>
     ensures { length cursor.new ≤ length cursor.old }
 {
-    let first = operand(alloc, depth, cursor)?;
-    let links = factors(alloc, depth, cursor)?;
-    Ok(chain(alloc, first, links)?)
+    let first = operand(depth, cursor)?;
+    let links = factors(depth, cursor)?;
+    Ok(chain(cursor.alloc(), first, links)?)
 }
 
 // A product, with a `-` before it or without.
 #[cycle(expressions)]
-fn signed(alloc: Global, depth: u32, cursor: &mut Cursor) -> Result<Expr, Refusal>
+fn signed(depth: u32, cursor: &mut Cursor) -> Result<Expr, Refusal>
     ensures { length cursor.new ≤ length cursor.old }
 {
     let span = cursor.span();
     let minus = cursor.eat(&TokenKind::Minus);
-    let first = product(alloc, depth, cursor)?;
+    let first = product(depth, cursor)?;
     if minus {
-        return Ok(negated(alloc, first, span.start, span.end)?);
+        return Ok(negated(cursor.alloc(), first, span.start, span.end)?);
     }
     Ok(first)
 }
 
 // The operators `+` and `-` with their operands, as many as stand here.
 #[cycle(expressions)]
-fn terms(alloc: Global, depth: u32, cursor: &mut Cursor) -> Result<Vec<Link>, Refusal>
+fn terms(depth: u32, cursor: &mut Cursor) -> Result<Vec<Link>, Refusal>
     ensures { length cursor.new ≤ length cursor.old }
 {
-    let mut links = Vec::new(alloc);
+    let mut links = Vec::new(cursor.alloc());
     let mut span = cursor.span();
     'more: while let Some(operator) = additive(cursor) {
-        put(
-            &mut links,
-            link(operator, span, product(alloc, depth, cursor)),
-        )?;
+        put(&mut links, link(operator, span, product(depth, cursor)))?;
         span = cursor.span();
     }
     Ok(links)
@@ -151,38 +144,34 @@ fn terms(alloc: Global, depth: u32, cursor: &mut Cursor) -> Result<Vec<Link>, Re
 
 /// Reads an expression with at most `depth` levels.
 #[cycle(expressions)]
-pub(crate) fn expr(alloc: Global, depth: u32, cursor: &mut Cursor) -> Result<Expr, Refusal>
+pub(crate) fn expr(depth: u32, cursor: &mut Cursor) -> Result<Expr, Refusal>
     ensures { length cursor.new ≤ length cursor.old }
 {
-    let first = signed(alloc, depth, cursor)?;
-    let links = terms(alloc, depth, cursor)?;
-    Ok(chain(alloc, first, links)?)
+    let first = signed(depth, cursor)?;
+    let links = terms(depth, cursor)?;
+    Ok(chain(cursor.alloc(), first, links)?)
 }
 
 impl Listed for Expr {
-    fn read(alloc: Global, depth: u32, cursor: &mut Cursor) -> Result<Expr, Refusal> {
-        expr(alloc, depth, cursor)
+    fn read(depth: u32, cursor: &mut Cursor) -> Result<Expr, Refusal> {
+        expr(depth, cursor)
     }
 }
 
 /// Reads expressions with `,` between them, up to the `)`.
-pub(crate) fn arguments(
-    alloc: Global,
-    depth: u32,
-    cursor: &mut Cursor,
-) -> Result<Vec<Expr>, Refusal>
+pub(crate) fn arguments(depth: u32, cursor: &mut Cursor) -> Result<Vec<Expr>, Refusal>
     ensures { length cursor.new ≤ length cursor.old }
 {
-    let all = list(alloc, depth, &TokenKind::Comma, cursor)?;
+    let all = list(depth, &TokenKind::Comma, cursor)?;
     cursor.expect(&TokenKind::CloseParen)?;
     Ok(all)
 }
 
 /// Reads an expression and the `]` after it.
-pub(crate) fn bracketed(alloc: Global, depth: u32, cursor: &mut Cursor) -> Result<Expr, Refusal>
+pub(crate) fn bracketed(depth: u32, cursor: &mut Cursor) -> Result<Expr, Refusal>
     ensures { length cursor.new ≤ length cursor.old }
 {
-    let value = expr(alloc, depth, cursor)?;
+    let value = expr(depth, cursor)?;
     cursor.expect_special(Special::CloseBracket)?;
     Ok(value)
 }

@@ -11,6 +11,7 @@ mod cursor;
 mod exprs;
 mod fault;
 mod front;
+mod limits;
 mod lists;
 mod mask;
 mod merge;

@@ -10,13 +10,13 @@ use std::alloc::Global;
 /// What stands in lists.
 pub(crate) trait Listed: Drop {
     /// Reads one, with at most `depth` levels of expressions.
-    fn read(alloc: Global, depth: u32, cursor: &mut Cursor) -> Result<Self, Refusal>
+    fn read(depth: u32, cursor: &mut Cursor) -> Result<Self, Refusal>
         ensures { length cursor.new ≤ length cursor.old };
 }
 
 impl Listed for RawName {
-    fn read(alloc: Global, _depth: u32, cursor: &mut Cursor) -> Result<RawName, Refusal> {
-        cursor.name(alloc)
+    fn read(_depth: u32, cursor: &mut Cursor) -> Result<RawName, Refusal> {
+        cursor.name()
     }
 }
 
@@ -33,17 +33,16 @@ pub(crate) fn boxed<T: Drop>(alloc: Global, read: Result<T, Refusal>) -> Result<
 
 /// Reads a list, with this separator between two: at least one.
 pub(crate) fn list<T: Listed>(
-    alloc: Global,
     depth: u32,
     separator: &TokenKind,
     cursor: &mut Cursor,
 ) -> Result<Vec<T>, Refusal>
     ensures { length cursor.new ≤ length cursor.old }
 {
-    let mut all = Vec::new(alloc);
-    put(&mut all, T::read(alloc, depth, cursor))?;
+    let mut all = Vec::new(cursor.alloc());
+    put(&mut all, T::read(depth, cursor))?;
     'more: while cursor.eat(separator) {
-        put(&mut all, T::read(alloc, depth, cursor))?;
+        put(&mut all, T::read(depth, cursor))?;
     }
     Ok(all)
 }

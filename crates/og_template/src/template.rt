@@ -7,13 +7,14 @@ use crate::binders::{binder, bounds};
 use crate::cursor::Cursor;
 use crate::exprs::expr;
 use crate::fault::{FaultKind, TemplateError};
+use crate::limits::Limits;
 use crate::lists::{Listed, list, put};
-use crate::statements::{Limits, rest_of_block, sequence};
+use crate::statements::{rest_of_block, sequence};
 use crate::tree::{
     Auxiliary, Binder, Bounds, Constant, Named, Note, Process, Sequence, Template, Variable,
 };
 use crate::{Special, Word};
-use og_parse::{FaultKind as Stop, RawName, Refusal};
+use og_parse::{FaultKind as Stop, Refusal};
 use og_text::{Span, TokenKind};
 use std::alloc::Global;
 
@@ -35,105 +36,69 @@ struct Center {
     processes: Vec<Process>,
 }
 
-// The declarations in a list, and the `;` behind it.
-fn declared_list<T: Listed>(alloc: Global, cursor: &mut Cursor) -> Result<Vec<T>, Refusal>
+// The list behind a word, up to this one, or none where its word was not found.
+fn list_if<T: Listed>(found: bool, end: &TokenKind, cursor: &mut Cursor) -> Result<Vec<T>, Refusal>
     ensures { length cursor.new ≤ length cursor.old }
 {
-    let all = list(alloc, LEVELS, &TokenKind::Comma, cursor)?;
-    cursor.expect(&TokenKind::Semicolon)?;
+    if !found {
+        return Ok(Vec::new(cursor.alloc()));
+    }
+    let all = list(LEVELS, &TokenKind::Comma, cursor)?;
+    cursor.expect(end)?;
     Ok(all)
 }
 
 impl Listed for Constant {
-    fn read(alloc: Global, depth: u32, cursor: &mut Cursor) -> Result<Constant, Refusal> {
-        let name = cursor.name(alloc)?;
+    fn read(depth: u32, cursor: &mut Cursor) -> Result<Constant, Refusal> {
+        let name = cursor.name()?;
         cursor.expect(&TokenKind::Equal)?;
-        let value = expr(alloc, depth, cursor)?;
+        let value = expr(depth, cursor)?;
         Ok(Constant { name, value })
     }
 }
 
-fn constants(alloc: Global, cursor: &mut Cursor) -> Result<Vec<Constant>, Refusal>
-    ensures { length cursor.new ≤ length cursor.old }
-{
-    if !cursor.eat_special(Special::Const) {
-        return Ok(Vec::new(alloc));
-    }
-    declared_list(alloc, cursor)
-}
-
 // The range in brackets, if one stands here.
-fn family(alloc: Global, depth: u32, cursor: &mut Cursor) -> Result<Option<Bounds>, Refusal>
+fn family(depth: u32, cursor: &mut Cursor) -> Result<Option<Bounds>, Refusal>
     ensures { length cursor.new ≤ length cursor.old }
 {
     if !cursor.eat_special(Special::OpenBracket) {
         return Ok(None);
     }
-    let range = bounds(alloc, depth, cursor)?;
+    let range = bounds(depth, cursor)?;
     cursor.expect_special(Special::CloseBracket)?;
     Ok(Some(range))
 }
 
 impl Listed for Variable {
-    fn read(alloc: Global, depth: u32, cursor: &mut Cursor) -> Result<Variable, Refusal> {
-        let name = cursor.name(alloc)?;
-        let family = family(alloc, depth, cursor)?;
+    fn read(depth: u32, cursor: &mut Cursor) -> Result<Variable, Refusal> {
+        let name = cursor.name()?;
+        let family = family(depth, cursor)?;
         Ok(Variable { name, family })
     }
 }
 
-fn variables(alloc: Global, cursor: &mut Cursor) -> Result<Vec<Variable>, Refusal>
-    ensures { length cursor.new ≤ length cursor.old }
-{
-    if !cursor.eat(&TokenKind::Var) {
-        return Ok(Vec::new(alloc));
-    }
-    declared_list(alloc, cursor)
-}
-
 impl Listed for Auxiliary {
-    fn read(alloc: Global, depth: u32, cursor: &mut Cursor) -> Result<Auxiliary, Refusal> {
-        let name = cursor.name(alloc)?;
-        let family = family(alloc, depth, cursor)?;
+    fn read(depth: u32, cursor: &mut Cursor) -> Result<Auxiliary, Refusal> {
+        let declared = Variable::read(depth, cursor)?;
         cursor.expect(&TokenKind::Equal)?;
-        let value = expr(alloc, depth, cursor)?;
+        let value = expr(depth, cursor)?;
         Ok(Auxiliary {
-            name,
-            family,
+            name: declared.name,
+            family: declared.family,
             value,
         })
     }
 }
 
-fn auxiliaries(alloc: Global, cursor: &mut Cursor) -> Result<Vec<Auxiliary>, Refusal>
-    ensures { length cursor.new ≤ length cursor.old }
-{
-    if !cursor.eat(&TokenKind::Aux) {
-        return Ok(Vec::new(alloc));
-    }
-    declared_list(alloc, cursor)
-}
-
-// The parameters in parentheses, if some stand here.
-fn parameters(alloc: Global, cursor: &mut Cursor) -> Result<Vec<RawName>, Refusal>
-    ensures { length cursor.new ≤ length cursor.old }
-{
-    if !cursor.eat(&TokenKind::OpenParen) {
-        return Ok(Vec::new(alloc));
-    }
-    let all = list(alloc, LEVELS, &TokenKind::Comma, cursor)?;
-    cursor.expect(&TokenKind::CloseParen)?;
-    Ok(all)
-}
-
 // A named assertion, behind its `let`.
-fn named(alloc: Global, cursor: &mut Cursor) -> Result<Named, Refusal>
+fn named(cursor: &mut Cursor) -> Result<Named, Refusal>
     ensures { length cursor.new ≤ length cursor.old }
 {
-    let name = cursor.name(alloc)?;
-    let parameters = parameters(alloc, cursor)?;
+    let name = cursor.name()?;
+    let found = cursor.eat(&TokenKind::OpenParen);
+    let parameters = list_if(found, &TokenKind::CloseParen, cursor)?;
     cursor.expect(&TokenKind::Equal)?;
-    let assertion = assertion(alloc, LEVELS, cursor)?;
+    let assertion = assertion(LEVELS, cursor)?;
     cursor.expect(&TokenKind::Semicolon)?;
     Ok(Named {
         name,
@@ -142,64 +107,69 @@ fn named(alloc: Global, cursor: &mut Cursor) -> Result<Named, Refusal>
     })
 }
 
-fn all_named(alloc: Global, cursor: &mut Cursor) -> Result<Vec<Named>, Refusal>
+fn all_named(cursor: &mut Cursor) -> Result<Vec<Named>, Refusal>
     ensures { length cursor.new ≤ length cursor.old }
 {
-    let mut all = Vec::new(alloc);
+    let mut all = Vec::new(cursor.alloc());
     'more: while cursor.eat_special(Special::Let) {
-        put(&mut all, named(alloc, cursor))?;
+        put(&mut all, named(cursor))?;
     }
     Ok(all)
 }
 
 // The statements between `begin` and `end`, before or after the processes, if there are some.
-fn main_part(alloc: Global, cursor: &mut Cursor) -> Result<Option<Sequence>, Refusal>
+fn main_part(cursor: &mut Cursor) -> Result<Option<Sequence>, Refusal>
     ensures { length cursor.new ≤ length cursor.old }
 {
     if !cursor.eat(&TokenKind::Begin) {
         return Ok(None);
     }
     let limits = Limits {
+        levels: LEVELS,
         depth: LEVELS,
         awaits: false,
     };
-    Ok(Some(rest_of_block(alloc, LEVELS, limits, cursor)?))
+    Ok(Some(rest_of_block(limits, cursor)?))
 }
 
 // The binder of a family of processes, if one stands here.
-fn process_binder(alloc: Global, depth: u32, cursor: &mut Cursor) -> Result<Option<Binder>, Refusal>
+fn process_binder(depth: u32, cursor: &mut Cursor) -> Result<Option<Binder>, Refusal>
     ensures { length cursor.new ≤ length cursor.old }
 {
     if !cursor.eat_special(Special::Process) {
         return Ok(None);
     }
-    Ok(Some(binder(alloc, depth, cursor)?))
+    Ok(Some(binder(depth, cursor)?))
 }
 
 impl Listed for Process {
-    fn read(alloc: Global, depth: u32, cursor: &mut Cursor) -> Result<Process, Refusal> {
-        let binder = process_binder(alloc, depth, cursor)?;
+    fn read(depth: u32, cursor: &mut Cursor) -> Result<Process, Refusal> {
+        let binder = process_binder(depth, cursor)?;
         let limits = Limits {
+            levels: LEVELS,
             depth,
             awaits: true,
         };
-        let body = sequence(alloc, LEVELS, limits, cursor)?;
+        let body = sequence(limits, cursor)?;
         Ok(Process { binder, body })
     }
 }
 
-fn middle(alloc: Global, cursor: &mut Cursor) -> Result<Center, Refusal> {
+fn middle(cursor: &mut Cursor) -> Result<Center, Refusal> {
     let cobegin = cursor.expect(&TokenKind::Cobegin)?;
-    let processes = list(alloc, LEVELS, &TokenKind::Parallel, cursor)?;
+    let processes = list(LEVELS, &TokenKind::Parallel, cursor)?;
     cursor.expect(&TokenKind::Coend)?;
     Ok(Center { cobegin, processes })
 }
 
-fn declared(alloc: Global, cursor: &mut Cursor) -> Result<Declarations, Refusal> {
-    let constants = constants(alloc, cursor)?;
-    let variables = variables(alloc, cursor)?;
-    let auxiliaries = auxiliaries(alloc, cursor)?;
-    let named = all_named(alloc, cursor)?;
+fn declared(cursor: &mut Cursor) -> Result<Declarations, Refusal> {
+    let found = cursor.eat_special(Special::Const);
+    let constants = list_if(found, &TokenKind::Semicolon, cursor)?;
+    let found = cursor.eat(&TokenKind::Var);
+    let variables = list_if(found, &TokenKind::Semicolon, cursor)?;
+    let found = cursor.eat(&TokenKind::Aux);
+    let auxiliaries = list_if(found, &TokenKind::Semicolon, cursor)?;
+    let named = all_named(cursor)?;
     Ok(Declarations {
         constants,
         variables,
@@ -209,29 +179,29 @@ fn declared(alloc: Global, cursor: &mut Cursor) -> Result<Declarations, Refusal>
 }
 
 // An assertion and the statements before the processes.
-fn opening(alloc: Global, cursor: &mut Cursor) -> Result<(Note, Option<Sequence>), Refusal> {
-    let pre = note(alloc, LEVELS, cursor)?;
-    let prologue = main_part(alloc, cursor)?;
+fn opening(cursor: &mut Cursor) -> Result<(Note, Option<Sequence>), Refusal> {
+    let pre = note(LEVELS, cursor)?;
+    let prologue = main_part(cursor)?;
     Ok((pre, prologue))
 }
 
 // The statements and the assertion after the processes, up to the end.
-fn closing(alloc: Global, cursor: &mut Cursor) -> Result<(Option<Sequence>, Note), Refusal> {
-    let epilogue = main_part(alloc, cursor)?;
-    let post = note(alloc, LEVELS, cursor)?;
+fn closing(cursor: &mut Cursor) -> Result<(Option<Sequence>, Note), Refusal> {
+    let epilogue = main_part(cursor)?;
+    let post = note(LEVELS, cursor)?;
     if cursor.peek().is_some() {
         return Err(Refusal::Fault(Stop::Expected));
     }
     Ok((epilogue, post))
 }
 
-fn template(alloc: Global, cursor: &mut Cursor) -> Result<Template, Refusal> {
+fn template(cursor: &mut Cursor) -> Result<Template, Refusal> {
     cursor.expect_special(Special::Template)?;
     cursor.expect(&TokenKind::Semicolon)?;
-    let declared = declared(alloc, cursor)?;
-    let (pre, prologue) = opening(alloc, cursor)?;
-    let middle = middle(alloc, cursor)?;
-    let (epilogue, post) = closing(alloc, cursor)?;
+    let declared = declared(cursor)?;
+    let (pre, prologue) = opening(cursor)?;
+    let middle = middle(cursor)?;
+    let (epilogue, post) = closing(cursor)?;
     Ok(Template {
         constants: declared.constants,
         variables: declared.variables,
@@ -264,8 +234,8 @@ fn place(words: &[Word], rest: &[Word]) -> u32 {
 /// opens the 101st level of assertions or of statements; at one word in this order. `Memory` where
 /// an allocation was refused.
 pub fn read(alloc: Global, words: &[Word]) -> Result<Template, TemplateError> {
-    let mut cursor = Cursor::new(words);
-    match template(alloc, &mut cursor) {
+    let mut cursor = Cursor::new(alloc, words);
+    match template(&mut cursor) {
         Ok(template) => Ok(template),
         Err(Refusal::Memory) => Err(TemplateError::Memory),
         Err(Refusal::Fault(stop)) => {

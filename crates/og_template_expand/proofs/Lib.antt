@@ -1,9 +1,11 @@
 pub mod Counted
 pub mod Declared
+pub mod Entering
 pub mod Joined
 pub mod Lists
 pub mod Naming
 pub mod Put
+pub mod Gathered
 pub mod Spliced
 pub mod Trees
 pub mod Values

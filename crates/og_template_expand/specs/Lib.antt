@@ -5,6 +5,7 @@ pub mod Scope
 pub mod Scoped
 pub mod Values
 pub mod Ranges
+pub mod Repeated
 pub mod Sums
 pub mod Assertions
 pub mod Put

@@ -1,17 +1,16 @@
 -- Putting a sequence together from the left.
 use Rattle.std.specs.Prelude.{List, [], ◌∷◌, ◌++◌, map, Ok}
-use Rattle.og_parse.specs.declared.raw.RawItem.{RawItem}
-use Rattle.og_parse.specs.declared.raw.RawNote.{RawNote}
 use Rattle.og_parse.specs.Trees.{Note, Step}
 use Rattle.og_parse.specs.TreeOf.{Item, item_of, note_of}
+use Rattle.og_template_expand.specs.declared.prefix.Prefix.{Prefix}
 use Rattle.og_template_expand.specs.Answer.{Checked, ◌>>=◌}
 
 -- statements with the assertion before each, and the assertion after them
 abbrev pub Front : Type 0
 Front = List Item × Note
 
-abbrev pub front_of : List RawItem → RawNote → Front
-front_of items last = (map item_of items, note_of last)
+abbrev pub front_of : Prefix → Front
+front_of prefix = (map item_of prefix.items.items, note_of prefix.last)
 
 abbrev pub with_steps : Front → List Step → Front
 with_steps front [] = front

@@ -3,7 +3,7 @@
 ghost use Rattle.std.specs.Prelude.{◌≡◌, ◌++◌, unsigned_abs, map, IfOk, OnOk};
 ghost use Rattle.og_parse.specs.TreeOf as outlines;
 ghost use Rattle.og_template_expand.specs.Answer.{behind};
-ghost use Rattle.og_template_expand.specs.Ranges.{is_in, instances, instance_of};
+ghost use Rattle.og_template_expand.specs.Ranges.{is_in, instances};
 ghost use Rattle.og_template_expand.specs.Trees.{Named};
 ghost use Rattle.og_template_expand.specs.Sums as sums;
 ghost use Rattle.og_template_expand.specs.Scoped.{IsExpanded, range_of, operand_view, scope_of};
@@ -98,11 +98,8 @@ fn named_operand(scope: &Scope<'_, '_>, alloc: Global, name: &RawName) -> Result
     }
 }
 
-fn operand_of(
-    scope: &Scope<'_, '_>,
-    work: &mut Expander<'_>,
-    factor: &Factor,
-) -> Result<Operand, Stop>
+// What a factor is in a scope.
+fn reduced(scope: &Scope<'_, '_>, work: &mut Expander<'_>, factor: &Factor) -> Result<Operand, Stop>
     ensures { IsExpanded operand_view result (sums.operand_of (scope_of scope.now)
         (factor_of factor.now)) }
 {
@@ -174,8 +171,8 @@ fn product_in(
     ensures { IsExpanded (λ t. t) result (sums.product_in (scope_of scope.now) sign
         (factor_of left.now) (factor_of right.now) span) }
 {
-    let multiplier = operand_of(scope, work, left)?;
-    let operand = operand_of(scope, work, right)?;
+    let multiplier = reduced(scope, work, left)?;
+    let operand = reduced(scope, work, right)?;
     product(sign, multiplier, operand, span)
 }
 
@@ -196,116 +193,105 @@ fn put_all(mut terms: Vec<RawTerm>, all: &mut Vec<RawTerm>) -> Result<(), AllocE
     all.append(&mut terms)
 }
 
-// Adds the terms of an instance.
-#[cycle(terms)]
-fn put_instance<'a>(
-    scope: &Scope<'_, 'a>,
-    work: &mut Expander<'_>,
+// The names at a place of a sum, and the sign before it.
+#[derive(Drop)]
+struct Signed<'l, 's, 'a> {
+    scope: &'l Scope<'s, 'a>,
     sign: Sign,
-    binder: &'a Binder,
-    value: i64,
-    terms: &'a [Term],
-    all: &mut Vec<RawTerm>,
-) -> Result<(), Stop>
-    ensures { IsExpanded (λ _. all.new.items) result
-        (behind all.old.items (instance_of (scope_of scope.now) (binder_of binder.now)
-        (λ s. sums.terms_of s sign (terms_then (map signed_of terms.now))) value)) }
-{
-    match enter(scope, work, binder, value)? {
-        Some(inner) => put_terms(&inner, work, sign, terms, all),
-        None => Ok(()),
-    }
 }
 
-// The terms of each instance.
-#[cycle(terms)]
-fn instances_of<'a>(
-    scope: &Scope<'_, 'a>,
-    work: &mut Expander<'_>,
-    sign: Sign,
-    binder: &'a Binder,
-    terms: &'a [Term],
-) -> Result<Vec<RawTerm>, Stop>
-    ensures { IsExpanded (λ v. v.items) result (instances (scope_of scope.now)
-        (binder_of binder.now) (λ s. sums.terms_of s sign (terms_then (map signed_of terms.now)))) }
-{
-    let values = values(scope, work, binder)?;
-    let mut all = Vec::new(work.alloc);
-    for value in &values {
-        put_instance(scope, work, sign, binder, *value, terms, &mut all)?;
+impl<'l, 's, 'a> Signed<'l, 's, 'a> {
+    // The terms of each instance.
+    #[cycle(terms)]
+    fn instances_of(
+        &self,
+        work: &mut Expander<'_>,
+        binder: &'a Binder,
+        terms: &'a [Term],
+    ) -> Result<Vec<RawTerm>, Stop>
+        ensures { IsExpanded (λ v. v.items) result (instances (scope_of self.now.scope.now)
+            (binder_of binder.now) (λ s. sums.terms_of s self.now.sign
+            (terms_then (map signed_of terms.now)))) }
+    {
+        let values = values(self.scope, work, binder)?;
+        let mut all = Vec::new(work.alloc);
+        for value in &values {
+            if let Some(inner) = enter(self.scope, work, binder, *value)? {
+                let signed = Signed {
+                    scope: &inner,
+                    sign: self.sign,
+                };
+                signed.put_terms(work, terms, &mut all)?;
+            }
+        }
+        Ok(all)
     }
-    Ok(all)
-}
 
-// The terms of what stands behind a sign.
-#[cycle(terms)]
-fn terms_of_kind<'a>(
-    scope: &Scope<'_, 'a>,
-    work: &mut Expander<'_>,
-    sign: Sign,
-    kind: &'a TermKind,
-    span: Span,
-) -> Result<Vec<RawTerm>, Stop>
-    ensures { IsExpanded (λ v. v.items) result (sums.kind_of (scope_of scope.now) sign span
-        (kind_of kind.now)) }
-{
-    match kind {
-        TermKind::Factor(factor) => {
-            let term = single(sign, operand_of(scope, work, factor)?);
-            Ok(vec![in work.alloc; term]?)
-        }
-        TermKind::Product(left, right) => {
-            let term = product_in(scope, work, sign, left, right, span)?;
-            Ok(vec![in work.alloc; term]?)
-        }
-        TermKind::Total(binder, terms) => {
-            let all = instances_of(scope, work, sign, binder, terms)?;
-            Ok(or_zero(all, sign)?)
+    // The terms of what stands behind the sign.
+    #[cycle(terms)]
+    fn terms_of_kind(
+        &self,
+        work: &mut Expander<'_>,
+        kind: &'a TermKind,
+        span: Span,
+    ) -> Result<Vec<RawTerm>, Stop>
+        ensures { IsExpanded (λ v. v.items) result (sums.kind_of (scope_of self.now.scope.now)
+            self.now.sign span (kind_of kind.now)) }
+    {
+        match kind {
+            TermKind::Factor(factor) => {
+                let term = single(self.sign, reduced(self.scope, work, factor)?);
+                Ok(vec![in work.alloc; term]?)
+            }
+            TermKind::Product(left, right) => {
+                let term = product_in(self.scope, work, self.sign, left, right, span)?;
+                Ok(vec![in work.alloc; term]?)
+            }
+            TermKind::Total(binder, terms) => {
+                let all = self.instances_of(work, binder, terms)?;
+                Ok(or_zero(all, self.sign)?)
+            }
         }
     }
-}
 
-// Adds a term, its sign turned where `sign` is a minus.
-#[cycle(terms)]
-fn put_term<'a>(
-    scope: &Scope<'_, 'a>,
-    work: &mut Expander<'_>,
-    sign: Sign,
-    term: &'a Term,
-    all: &mut Vec<RawTerm>,
-) -> Result<(), Stop>
-    ensures { IsExpanded (λ _. all.new.items) result
-        (behind all.old.items (sums.kind_of (scope_of scope.now)
-        (sums.times sign (signed_of term.now).sign) (signed_of term.now).place
-        (signed_of term.now).kind)) }
-{
-    work.step(term.span)?;
-    let terms = terms_of_kind(
-        scope,
-        work,
-        product_sign(sign, term.sign),
-        &term.kind,
-        term.span,
-    )?;
-    Ok(put_all(terms, all)?)
-}
-
-#[cycle(terms)]
-fn put_terms<'a>(
-    scope: &Scope<'_, 'a>,
-    work: &mut Expander<'_>,
-    sign: Sign,
-    terms: &'a [Term],
-    all: &mut Vec<RawTerm>,
-) -> Result<(), Stop>
-    ensures { IsExpanded (λ _. all.new.items) result
-        (behind all.old.items (sums.terms_of (scope_of scope.now) sign
-        (terms_then (map signed_of terms.now)))) }
-{
-    for term in terms {
-        put_term(scope, work, sign, term, all)?;
+    // Adds a term, its sign turned where this one is a minus.
+    #[cycle(terms)]
+    fn put_term(
+        &self,
+        work: &mut Expander<'_>,
+        term: &'a Term,
+        all: &mut Vec<RawTerm>,
+    ) -> Result<(), Stop>
+        ensures { IsExpanded (λ _. all.new.items) result
+            (behind all.old.items (sums.kind_of (scope_of self.now.scope.now)
+            (sums.times self.now.sign (signed_of term.now).sign) (signed_of term.now).place
+            (signed_of term.now).kind)) }
+    {
+        work.step(term.span)?;
+        let signed = Signed {
+            scope: self.scope,
+            sign: product_sign(self.sign, term.sign),
+        };
+        let terms = signed.terms_of_kind(work, &term.kind, term.span)?;
+        Ok(put_all(terms, all)?)
     }
-    Ok(())
+
+    #[cycle(terms)]
+    fn put_terms(
+        &self,
+        work: &mut Expander<'_>,
+        terms: &'a [Term],
+        all: &mut Vec<RawTerm>,
+    ) -> Result<(), Stop>
+        ensures { IsExpanded (λ _. all.new.items) result
+            (behind all.old.items (sums.terms_of (scope_of self.now.scope.now) self.now.sign
+            (terms_then (map signed_of terms.now)))) }
+    {
+        for term in terms {
+            self.put_term(work, term, all)?;
+        }
+        Ok(())
+    }
 }
 
 /// The sum with its terms.
@@ -318,7 +304,11 @@ pub(crate) fn sum<'a>(
         (sum_of sum.now)) }
 {
     let mut terms = Vec::new(work.alloc);
-    put_terms(scope, work, Sign::Plus, &sum.terms, &mut terms)?;
+    let signed = Signed {
+        scope,
+        sign: Sign::Plus,
+    };
+    signed.put_terms(work, &sum.terms, &mut terms)?;
     Ok(RawSum {
         terms,
         span: sum.span,

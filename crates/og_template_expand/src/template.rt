@@ -1,23 +1,22 @@
 //! Templates.
 
 ghost use Rattle.std.specs.Prelude.{◌≡◌, map, option_map, IfOk};
+ghost use Rattle.og_parse.specs.Trees as outlines;
 ghost use Rattle.og_parse.specs.TreeOf.{seq_of, seqs_of, tree_of};
-ghost use Rattle.og_template_expand.specs.Answer.{behind, gathered};
 ghost use Rattle.og_template_expand.specs.Outline as meaning;
-ghost use Rattle.og_template_expand.specs.Ranges.{instances, instance_of};
 ghost use Rattle.og_template_expand.specs.Scoped.{IsExpanded, binding_of, scope_of};
 ghost use Rattle.og_template_expand.specs.TreeOf.{binder_of, sequence_of};
 ghost use Rattle.og_template_expand.specs.WholeOf.{process_of, template_of};
 
-use crate::binders::{enter, values};
 use crate::declarations::{
     declare_auxiliaries, declare_constants, declare_named, declare_variables,
 };
 use crate::expander::Expander;
 use crate::fault::{Stop, fault};
 use crate::origin::{Binding, Origin};
+use crate::repeated::{Repeated, all_made};
 use crate::scope::{Names, Scope};
-use crate::statements::{note, sequence};
+use crate::statements::sequence;
 use og_parse::{Raw, RawAux, RawName, RawProcesses, RawSeq};
 use og_template::{Binder, FaultKind, Process, Sequence, Template, TemplateError};
 use og_text::Span;
@@ -47,91 +46,24 @@ fn main_part<'a>(
     }
 }
 
-// Adds a process.
-fn put_process<'a>(
-    scope: &Scope<'_, 'a>,
-    work: &mut Expander<'a>,
-    body: &'a Sequence,
-    all: &mut Vec<RawSeq>,
-) -> Result<(), Stop>
-    ensures { IsExpanded (λ _. map seq_of all.new.items) result
-        (behind (map seq_of all.old.items) (meaning.one_process (sequence_of body.now)
-        (scope_of scope.now))) }
-{
-    let process = sequence(scope, work, body)?;
-    all.push(process)?;
-    Ok(())
-}
+impl Repeated for Process {
+    type Made = RawSeq;
 
-// Adds the process of an instance.
-fn put_instance<'a>(
-    scope: &Scope<'_, 'a>,
-    work: &mut Expander<'a>,
-    binder: &'a Binder,
-    value: i64,
-    body: &'a Sequence,
-    all: &mut Vec<RawSeq>,
-) -> Result<(), Stop>
-    ensures { IsExpanded (λ _. map seq_of all.new.items) result
-        (behind (map seq_of all.old.items) (instance_of (scope_of scope.now) (binder_of binder.now)
-        (meaning.one_process (sequence_of body.now)) value)) }
-{
-    match enter(scope, work, binder, value)? {
-        Some(inner) => put_process(&inner, work, body, all),
-        None => Ok(()),
-    }
-}
+    ghost Tree = { outlines.Seq };
 
-// Adds a process for each instance.
-fn put_family<'a>(
-    scope: &Scope<'_, 'a>,
-    work: &mut Expander<'a>,
-    binder: &'a Binder,
-    body: &'a Sequence,
-    all: &mut Vec<RawSeq>,
-) -> Result<(), Stop>
-    ensures { IsExpanded (λ _. map seq_of all.new.items) result
-        (behind (map seq_of all.old.items) (instances (scope_of scope.now) (binder_of binder.now)
-        (meaning.one_process (sequence_of body.now)))) }
-{
-    let values = values(scope, work, binder)?;
-    for value in &values {
-        put_instance(scope, work, binder, *value, body, all)?;
-    }
-    Ok(())
-}
+    ghost view = { seq_of };
 
-// Adds what a process or a family is.
-fn put_processes<'a>(
-    scope: &Scope<'_, 'a>,
-    work: &mut Expander<'a>,
-    process: &'a Process,
-    all: &mut Vec<RawSeq>,
-) -> Result<(), Stop>
-    ensures { IsExpanded (λ _. map seq_of all.new.items) result
-        (behind (map seq_of all.old.items) (meaning.process_of (scope_of scope.now)
-        (process_of process.now))) }
-{
-    match &process.binder {
-        None => put_process(scope, work, &process.body, all),
-        Some(binder) => put_family(scope, work, binder, &process.body, all),
-    }
-}
+    ghost binds = { λ p. option_map binder_of p.binder };
 
-// The processes.
-fn each_process<'a>(
-    scope: &Scope<'_, 'a>,
-    work: &mut Expander<'a>,
-    processes: &'a [Process],
-) -> Result<Vec<RawSeq>, Stop>
-    ensures { IsExpanded (λ v. map seq_of v.items) result
-        (gathered (meaning.process_of (scope_of scope.now)) (map process_of processes.now)) }
-{
-    let mut all = Vec::new(work.alloc);
-    for process in processes {
-        put_processes(scope, work, process, &mut all)?;
+    ghost means = { λ p. meaning.one_process (sequence_of p.body) };
+
+    fn binder(&self) -> &Option<Binder> {
+        &self.binder
     }
-    Ok(all)
+
+    fn made<'a>(&'a self, scope: &Scope<'_, 'a>, work: &mut Expander<'a>) -> Result<RawSeq, Stop> {
+        sequence(scope, work, &self.body)
+    }
 }
 
 // Processes, of which there must be one.
@@ -159,7 +91,7 @@ fn middle<'a>(
         (map process_of processes.now)) }
 {
     work.note_origin(cobegin, &scope.bound)?;
-    let all = each_process(scope, work, processes)?;
+    let all = all_made(scope, work, processes)?;
     some_of(all, cobegin)
 }
 
@@ -174,11 +106,11 @@ fn outline<'a>(
     ensures { IsExpanded tree_of result (meaning.outline_in (scope_of scope.now)
         (template_of template.now) vars.items auxes.items) }
 {
-    let pre = note(scope, work, &template.pre)?;
+    let pre = scope.note(work, &template.pre)?;
     let prologue = main_part(scope, work, &template.prologue)?;
     let processes = middle(scope, work, template.cobegin, &template.processes)?;
     let epilogue = main_part(scope, work, &template.epilogue)?;
-    let post = note(scope, work, &template.post)?;
+    let post = scope.note(work, &template.post)?;
     Ok(Raw {
         vars,
         auxes,

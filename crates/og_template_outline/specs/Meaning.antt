@@ -75,7 +75,7 @@ IsRefused takes words (errors.Template fault) = ⊤
 IsRefused takes words (errors.BadValue word) = IsBadWord takes words word.now
 
 -- the first fault of a source; a fault of a template, which has no place in one that is too long; or
--- such a word; want of memory says nothing
+-- such a word; refused memory says nothing
 abbrev pub IsNotMeantBy : Bool → Takes → List ℕ → List (List ℕ) → MeaningError → Type 0
 IsNotMeantBy template takes text words errors.Memory = ⊤
 IsNotMeantBy true takes text words (errors.Source fault) = ⊥

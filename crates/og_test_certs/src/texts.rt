@@ -23,7 +23,7 @@ fn closed(alloc: Global, terms: &[Term]) -> Result<Cert, AllocError> {
     })
 }
 
-// So many branches, one in the first case of another.
+// A certificate of this many branches, each in the first case of the one before.
 fn nested(alloc: Global, count: u32) -> Result<Cert, AllocError> {
     let mut cert = closed(alloc, &[known(1)])?;
     for _ in 0..count {

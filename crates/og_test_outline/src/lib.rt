@@ -5,22 +5,4 @@
 #![tactic(auto)]
 
 #[cfg(test)]
-mod actions;
-#[cfg(test)]
-mod conditions;
-#[cfg(test)]
-mod erasing;
-#[cfg(test)]
-mod forms;
-#[cfg(test)]
-mod laws;
-#[cfg(test)]
-mod lexing;
-#[cfg(test)]
-mod parsing;
-#[cfg(test)]
-mod places;
-#[cfg(test)]
-mod steps;
-#[cfg(test)]
-mod truth;
+mod tests;

@@ -14,6 +14,7 @@ pub mod Counting
 pub mod Following
 pub mod Below
 pub mod Meets
+pub mod OneOf
 pub mod OneOutline
 pub mod Resolution
 pub mod SiteItems

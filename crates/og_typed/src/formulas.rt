@@ -15,17 +15,11 @@ use crate::scope::{Scope, Use};
 use crate::statement::Note;
 use crate::sums::comparison;
 use og_parse::{RawAssert, RawNote};
-use std::alloc::Global;
 
 // The assertion that a tree stands for.
 #[cycle(assertions)]
 #[tactic(auto, using(crate::proofs::Lists::formula_and, crate::proofs::Lists::formula_or))]
-pub(crate) fn assertion(
-    alloc: Global,
-    scope: &Scope<'_>,
-    usage: Use,
-    raw: &RawAssert,
-) -> Result<Assert, TypeError>
+pub(crate) fn assertion(scope: &Scope<'_>, usage: Use, raw: &RawAssert) -> Result<Assert, TypeError>
     ensures { IsResolved formula result
         (meaning.assertion (scope_of scope.now) (use_of usage) (assertion_of raw.now)) }
 {
@@ -33,17 +27,17 @@ pub(crate) fn assertion(
         RawAssert::True => Ok(Assert::True),
         RawAssert::False => Ok(Assert::False),
         RawAssert::Compare(left, relation, right) => {
-            comparison(alloc, scope, usage, left, *relation, right)
+            comparison(scope, usage, left, *relation, right)
         }
         RawAssert::Not(a) => {
-            let a = boxed(alloc, scope, usage, a)?;
+            let a = boxed(scope, usage, a)?;
             Ok(Assert::Not(a))
         }
-        RawAssert::And(all) => Ok(Assert::And(assertions(alloc, scope, usage, all)?)),
-        RawAssert::Or(all) => Ok(Assert::Or(assertions(alloc, scope, usage, all)?)),
+        RawAssert::And(all) => Ok(Assert::And(assertions(scope, usage, all)?)),
+        RawAssert::Or(all) => Ok(Assert::Or(assertions(scope, usage, all)?)),
         RawAssert::Implies(a, b) => {
-            let a = boxed(alloc, scope, usage, a)?;
-            let b = boxed(alloc, scope, usage, b)?;
+            let a = boxed(scope, usage, a)?;
+            let b = boxed(scope, usage, b)?;
             Ok(Assert::Imp(a, b))
         }
     }
@@ -51,49 +45,34 @@ pub(crate) fn assertion(
 
 // The assertion that a tree stands for, in a box.
 #[cycle(assertions)]
-fn boxed(
-    alloc: Global,
-    scope: &Scope<'_>,
-    usage: Use,
-    raw: &RawAssert,
-) -> Result<Box<Assert>, TypeError>
+fn boxed(scope: &Scope<'_>, usage: Use, raw: &RawAssert) -> Result<Box<Assert>, TypeError>
     ensures { IsResolved (λ b. formula b.value) result
         (meaning.assertion (scope_of scope.now) (use_of usage) (assertion_of raw.now)) }
 {
-    let a = assertion(alloc, scope, usage, raw)?;
-    Ok(Box::new(alloc, a)?)
+    let a = assertion(scope, usage, raw)?;
+    Ok(Box::new(scope.alloc, a)?)
 }
 
 // The assertions of a list.
 #[cycle(assertions)]
-fn assertions(
-    alloc: Global,
-    scope: &Scope<'_>,
-    usage: Use,
-    all: &[RawAssert],
-) -> Result<Vec<Assert>, TypeError>
+fn assertions(scope: &Scope<'_>, usage: Use, all: &[RawAssert]) -> Result<Vec<Assert>, TypeError>
     ensures { IsResolved (λ v. formula_list (map formula v.items)) result (meaning.assertions
         (scope_of scope.now) (use_of usage) (listed (map assertion_of all.now))) }
 {
-    let mut resolved = Vec::new(alloc);
+    let mut resolved = Vec::new(scope.alloc);
     for a in all {
-        resolved.push(assertion(alloc, scope, usage, a)?)?;
+        resolved.push(assertion(scope, usage, a)?)?;
     }
     Ok(resolved)
 }
 
 // An assertion with its place.
-pub(crate) fn note(
-    alloc: Global,
-    scope: &Scope<'_>,
-    usage: Use,
-    raw: &RawNote,
-) -> Result<Note, TypeError>
+pub(crate) fn note(scope: &Scope<'_>, usage: Use, raw: &RawNote) -> Result<Note, TypeError>
     ensures { IsResolved noted result
         (meaning.note (scope_of scope.now) (use_of usage) (note_of raw.now)) }
 {
     Ok(Note {
-        assertion: assertion(alloc, scope, usage, &raw.assertion)?,
+        assertion: assertion(scope, usage, &raw.assertion)?,
         at: raw.span.start,
     })
 }

@@ -1,6 +1,6 @@
 //! An outline's assertions and statements, found by their places.
 
-ghost use Rattle.std.specs.Prelude.{◌≡◌, IfOk, IfSome};
+ghost use Rattle.std.specs.Prelude.{◌≡◌, ℕ, IfOk, IfSome};
 ghost use Rattle.og_typed.specs.Seen.{note_of, statement_of, IsOneOf};
 ghost use Rattle.og_typed.specs.Sites.{all_notes, all_statements};
 
@@ -31,6 +31,40 @@ impl<'a> Model for Index<'a> {
     ghost invariant = { λ index. HasAll index.outline.now index.sites };
 }
 
+// What stands at a place.
+trait Placed: Copy {
+    ghost place: { Self → ℕ };
+
+    fn at(&self) -> u32
+        ensures { result ≡ place self.now };
+}
+
+impl<'a> Placed for NoteSite<'a> {
+    ghost place = { λ site. (note_of site).note.at };
+
+    fn at(&self) -> u32 {
+        self.note.at
+    }
+}
+
+impl<'a> Placed for StatementSite<'a> {
+    ghost place = { λ site. (statement_of site).piece.at };
+
+    fn at(&self) -> u32 {
+        self.item.at
+    }
+}
+
+// The one at a place, among those that stand in the order of their places.
+fn found<T: Placed>(sites: &[T], at: u32) -> Option<T>
+    ensures there { IfSome result (λ site. T.place site ≡ at) }
+    ensures one { IfSome result (λ site. IsOneOf sites.now site) }
+{
+    let index = sites.partition_point(|site| site.at() < at);
+    let site = sites.get(index)?;
+    if site.at() == at { Some(*site) } else { None }
+}
+
 impl<'a> Index<'a> {
     /// The assertions and statements of an outline.
     ///
@@ -49,14 +83,7 @@ impl<'a> Index<'a> {
         ensures there { IfSome result (λ site. (note_of site).note.at ≡ at) }
         ensures one { IfSome result (λ site. IsOneOf (all_notes self.now) (note_of site)) }
     {
-        let notes = &self.sites.notes;
-        let index = notes.partition_point(|site| site.note.at < at);
-        let site = notes.get(index)?;
-        if site.note.at == at {
-            Some(*site)
-        } else {
-            None
-        }
+        found(&self.sites.notes, at)
     }
 
     /// The statement that begins at the byte offset `at`. Takes no memory.
@@ -64,13 +91,6 @@ impl<'a> Index<'a> {
         ensures there { IfSome result (λ site. (statement_of site).piece.at ≡ at) }
         ensures one { IfSome result (λ site. IsOneOf (all_statements self.now) (statement_of site)) }
     {
-        let statements = &self.sites.statements;
-        let index = statements.partition_point(|site| site.item.at < at);
-        let site = statements.get(index)?;
-        if site.item.at == at {
-            Some(*site)
-        } else {
-            None
-        }
+        found(&self.sites.statements, at)
     }
 }

@@ -63,29 +63,29 @@ fn declare_auxes<'a>(
 }
 
 // A part of the main process, where there is one. Takes no memory where there is none.
-fn part(alloc: Global, scope: &Scope<'_>, raw: &Option<RawSeq>) -> Result<Option<Seq>, TypeError>
+fn part(scope: &Scope<'_>, raw: &Option<RawSeq>) -> Result<Option<Seq>, TypeError>
     ensures answer { IsResolved (option_map plain.sequence) result
         (meaning.part (scope_of scope.now) (option_map seq_of raw.now)) }
     ensures none { IfNone raw.now (IsOk result) }
 {
     match raw {
         None => Ok(None),
-        Some(raw) => Ok(Some(sequence(alloc, scope, raw)?)),
+        Some(raw) => Ok(Some(sequence(scope, raw)?)),
     }
 }
 
 // The processes.
-fn processes(alloc: Global, scope: &Scope<'_>, raw: &RawProcesses) -> Result<Vec<Seq>, TypeError>
+fn processes(scope: &Scope<'_>, raw: &RawProcesses) -> Result<Vec<Seq>, TypeError>
     ensures { IsResolved (λ v. map plain.sequence v.items) result
         (meaning.processes (scope_of scope.now) (seqs_of raw.now)) }
 {
-    let mut processes = Vec::new(alloc);
-    processes.push(sequence(alloc, scope, &raw.first)?)?;
+    let mut processes = Vec::new(scope.alloc);
+    processes.push(sequence(scope, &raw.first)?)?;
     for process in &raw.others {
         if processes.len() >= PROCESS_LIMIT {
             return Err(TypeError::Fault(TypeFault::TooManyProcesses(first_place(process))));
         }
-        processes.push(sequence(alloc, scope, process)?)?;
+        processes.push(sequence(scope, process)?)?;
     }
     Ok(processes)
 }
@@ -121,12 +121,12 @@ pub fn resolve(alloc: Global, raw: Raw) -> Result<Outline, TypeError>
     declare_vars(&mut names, &raw.vars)?;
     let vars = names.len();
     let aux_values = declare_auxes(alloc, &mut names, &raw.auxes)?;
-    let scope = Scope { names, vars };
-    let pre = note(alloc, &scope, Use::Outer, &raw.pre)?;
-    let prologue = part(alloc, &scope, &raw.prologue)?;
-    let processes = processes(alloc, &scope, &raw.processes)?;
-    let epilogue = part(alloc, &scope, &raw.epilogue)?;
-    let post = note(alloc, &scope, Use::Outer, &raw.post)?;
+    let scope = Scope { alloc, names, vars };
+    let pre = note(&scope, Use::Outer, &raw.pre)?;
+    let prologue = part(&scope, &raw.prologue)?;
+    let processes = processes(&scope, &raw.processes)?;
+    let epilogue = part(&scope, &raw.epilogue)?;
+    let post = note(&scope, Use::Outer, &raw.post)?;
     let names = scope.names.to_vec(alloc)?;
     let cobegin_at = raw.cobegin.start;
     Ok(Outline {

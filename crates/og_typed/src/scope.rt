@@ -8,10 +8,13 @@ ghost use Rattle.og_typed.specs.Scoped.{scope_of, use_of};
 use crate::fault::{TypeError, TypeFault};
 use crate::names::Names;
 use og_parse::RawName;
+use std::alloc::Global;
 
-// The variables by name, the auxiliaries last, and how many are no auxiliaries.
+// The variables by name, the auxiliaries last, and how many are no auxiliaries; and the memory for
+// what is resolved.
 #[derive(Drop)]
 pub(crate) struct Scope<'a> {
+    pub(crate) alloc: Global,
     pub(crate) names: Names<'a>,
     pub(crate) vars: u32,
 }

@@ -45,56 +45,45 @@ fn signed(sign: Sign, number: u64) -> i128
 }
 
 // A number, and the form that it counts: 1 or a variable.
-fn factor(
-    alloc: Global,
-    scope: &Scope<'_>,
-    usage: Use,
-    factor: &RawFactor,
-) -> Result<(u64, Form), TypeError>
+fn factor(scope: &Scope<'_>, usage: Use, factor: &RawFactor) -> Result<(u64, Form), TypeError>
     ensures answer { IsResolved (λ p. p) result
         (meaning.factor (scope_of scope.now) (use_of usage) factor.now) }
     ensures small { IfOk result (λ p. IsWithin 1 p.1) }
 {
     match factor {
-        RawFactor::Number(n) => Ok((*n, Form::constant(alloc, 1))),
+        RawFactor::Number(n) => Ok((*n, Form::constant(scope.alloc, 1))),
         RawFactor::Variable(name) => {
             let x = scope.number(usage, name)?;
-            Ok((1, Form::variable(alloc, x)?))
+            Ok((1, Form::variable(scope.alloc, x)?))
         }
         RawFactor::Product(n, name) => {
             let x = scope.number(usage, name)?;
-            Ok((*n, Form::variable(alloc, x)?))
+            Ok((*n, Form::variable(scope.alloc, x)?))
         }
     }
 }
 
 // Adds a term to a sum.
-fn add_term(
-    alloc: Global,
-    scope: &Scope<'_>,
-    usage: Use,
-    sum: &mut Form,
-    term: &RawTerm,
-) -> Result<(), TypeError>
+fn add_term(scope: &Scope<'_>, usage: Use, sum: &mut Form, term: &RawTerm) -> Result<(), TypeError>
     requires { IsWithin (2 ^ 124) sum.old }
     ensures answer { IsResolved (λ _. sum.new) result
         (meaning.sum_from (scope_of scope.now) (use_of usage) sum.old (term.now ∷ [])) }
     ensures small { (bound : ℕ) → IsWithin bound sum.old
         → OnOk result (IsWithin (bound + 2 ^ 64) sum.new) }
 {
-    let (number, base) = factor(alloc, scope, usage, &term.factor)?;
+    let (number, base) = factor(scope, usage, &term.factor)?;
     add(sum, signed(term.sign, number), &base)
 }
 
 // The collected form of a sum.
-fn sum(alloc: Global, scope: &Scope<'_>, usage: Use, sum: &RawSum) -> Result<Form, TypeError>
+fn sum(scope: &Scope<'_>, usage: Use, sum: &RawSum) -> Result<Form, TypeError>
     ensures answer { IsResolved (λ f. f) result
         (meaning.sum_form (scope_of scope.now) (use_of usage) (sum_of sum.now)) }
     ensures small { IfOk result (IsWithin (2 ^ 124)) }
 {
-    let mut total = Form::constant(alloc, 0);
+    let mut total = Form::constant(scope.alloc, 0);
     for term in &sum.terms {
-        add_term(alloc, scope, usage, &mut total, term)?;
+        add_term(scope, usage, &mut total, term)?;
     }
     Ok(total)
 }
@@ -138,7 +127,6 @@ fn compared(alloc: Global, relation: Relation, f: Form, g: Form) -> Result<Asser
 
 // The assertion that compares two sums.
 pub(crate) fn comparison(
-    alloc: Global,
     scope: &Scope<'_>,
     usage: Use,
     left: &RawSum,
@@ -148,9 +136,9 @@ pub(crate) fn comparison(
     ensures { IsResolved formula result (meaning.comparison (scope_of scope.now) (use_of usage)
         (sum_of left.now) relation (sum_of right.now)) }
 {
-    let f = sum(alloc, scope, usage, left)?;
-    let g = sum(alloc, scope, usage, right)?;
-    let assert = compared(alloc, relation, f, g)?;
+    let f = sum(scope, usage, left)?;
+    let g = sum(scope, usage, right)?;
+    let assert = compared(scope.alloc, relation, f, g)?;
     if assert.is_small() {
         Ok(assert)
     } else {
@@ -159,12 +147,7 @@ pub(crate) fn comparison(
 }
 
 // The right side of an assignment to x.
-pub(crate) fn right_side(
-    alloc: Global,
-    scope: &Scope<'_>,
-    x: u32,
-    right: &RawSum,
-) -> Result<Form, TypeError>
+pub(crate) fn right_side(scope: &Scope<'_>, x: u32, right: &RawSum) -> Result<Form, TypeError>
     ensures { IsResolved (λ f. f) result
         (meaning.right_side (scope_of scope.now) x (sum_of right.now)) }
 {
@@ -173,7 +156,7 @@ pub(crate) fn right_side(
     } else {
         Use::Free
     };
-    let form = sum(alloc, scope, usage, right)?;
+    let form = sum(scope, usage, right)?;
     if form.is_small() {
         Ok(form)
     } else {

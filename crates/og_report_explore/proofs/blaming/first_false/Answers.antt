@@ -13,5 +13,5 @@ returns-in-Some c =
     let there : slice_get (map seen conditions) i ≡ Some (seen condition) =
     slice_get-map seen conditions i ∙ ap (option_map seen) (slice_get_read conditions (length conditions) i condition refl c.loop-index-test.true c.index-conditions-index.is) in
     let same : (i + 1) - 1 ≡ i = omega arith in
-    let is = subst (λ x. IfSome x (λ side. IsFalseAt (seen condition) (if side then c.args.before.now else c.args.last.now))) c.in-Some.is c.in_ok-side.ensures in
+    let is = subst (λ x. IfSome x (λ side. IsFalseAt (seen condition) (if side then c.args.transition.before.now else c.args.transition.last.now))) c.in-Some.is c.in_ok-side.ensures in
     (omega arith, (seen condition, ap (slice_get (map seen conditions)) same ∙ there, refl, refl, is))

@@ -2,37 +2,21 @@ use Rattle.std.proofs.Common.{◌≡◌, ◌++◌, codes, rules}
 use Rattle.std.specs.Prelude.{OnOk}
 use Rattle.std.specs.Fmt.{decimal}
 use Rattle.og_report_html.specs.Findings.{word}
-use Rattle.og_report_prove.proofs.Joins.{joined}
+use Rattle.og_report_text.proofs.Joins.{joined, joined_three}
 use Rattle.og_report_html.proofs.articles.put_article_start.Goals as goal
 
 pub returns : goal.returns
 returns c =
-    let r = c.extend_from_slice-5.result in
+    let r = c.extend_from_slice.result in
     let t0 = c.args.text.now.items in
-    let t1 = c.extend_from_slice.new.self.items in
-    let t2 = c.put_number.new.text.items in
-    let t3 = c.extend_from_slice-2.new.self.items in
-    let t4 = c.put_word.new.text.items in
-    let t5 = c.extend_from_slice-3.new.self.items in
-    let t6 = c.put_number-2.new.text.items in
-    let t7 = c.extend_from_slice-4.new.self.items in
-    let t8 = c.put_word-2.new.text.items in
-    let a1 = codes "<article id=c" in
-    let a2 = decimal c.args.number in
-    let a3 = codes " class=" in
-    let a4 = word c.args.finding in
-    let a5 = codes "><h3>Condition " in
-    let a6 = decimal c.args.number in
-    let a7 = codes ": " in
-    let a8 = word c.args.finding in
-    let a9 = codes "</h3>\n<pre>" in
-    let e1 : t1 ≡ t0 ++ a1 = c.in_ok-extend_from_slice.ensures.items in
-    let e2 : t2 ≡ t1 ++ a2 = search rules in
-    let e3 : t3 ≡ t2 ++ a3 = c.in_ok-extend_from_slice-2.ensures.items in
-    let e4 : t4 ≡ t3 ++ a4 = search rules in
-    let e5 : t5 ≡ t4 ++ a5 = c.in_ok-extend_from_slice-3.ensures.items in
-    let e6 : t6 ≡ t5 ++ a6 = search rules in
-    let e7 : t7 ≡ t6 ++ a7 = c.in_ok-extend_from_slice-4.ensures.items in
-    let e8 : t8 ≡ t7 ++ a8 = search rules in
-    let e9 : OnOk r (c.extend_from_slice-5.new.self.items ≡ t8 ++ a9) = search rules in
-    joined r t0 t1 _ a1 _ e1 (joined r t1 t2 _ a2 _ e2 (joined r t2 t3 _ a3 _ e3 (joined r t3 t4 _ a4 _ e4 (joined r t4 t5 _ a5 _ e5 (joined r t5 t6 _ a6 _ e6 (joined r t6 t7 _ a7 _ e7 (joined r t7 t8 _ a8 a9 e8 e9)))))))
+    let t1 = c.put_number_between.new.text.items in
+    let t2 = c.put_word.new.text.items in
+    let t3 = c.put_number_between-2.new.text.items in
+    let t4 = c.put_word-2.new.text.items in
+    let n = decimal c.args.number in
+    let w = word c.args.finding in
+    let e2 : t2 ≡ t1 ++ w = search rules in
+    let e4 : t4 ≡ t3 ++ w = search rules in
+    let e5 : OnOk r (c.extend_from_slice.new.self.items ≡ t4 ++ codes "</h3>\n<pre>") = search rules in
+    joined_three r t0 t1 _ (codes "<article id=c") n (codes " class=") _ c.in_ok-put_number_between.ensures (joined r t1 t2 _ w _ e2
+    (joined_three r t2 t3 _ (codes "><h3>Condition ") n (codes ": ") _ c.in_ok-put_number_between-2.ensures (joined r t3 t4 _ w _ e4 e5)))

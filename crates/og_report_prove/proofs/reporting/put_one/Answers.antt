@@ -12,12 +12,12 @@ returns-in_ok-put_head-in-False-clause-text c =
     let source = c.args.page.origins.now.source.now in
     let rows = c.args.page.origins.now.rows in
     let more = c.args.more in
-    let condition = seen c.args.condition.now in
+    let condition = seen c.args.item.condition.now in
     let old = c.args.text.now.items in
     let mid = c.put_head.new.text.items in
-    let head = head_text source rows c.args.number condition (codes "false") more in
+    let head = head_text source rows c.args.item.number condition (codes "false") more in
     let body = body_text names source rows (λ t. found t c.args.firsts.now) c.in-False.block in
     let one : mid ≡ old ++ head = search rules in
     let last : OnOk c.put_body.result (c.put_body.new.text.items ≡ mid ++ body) = search rules in
-    subst (λ t. OnOk c.put_body.result (c.put_body.new.text.items ≡ old ++ one_text names source rows (λ x. found x c.args.firsts.now) c.args.number condition more t)) (sym c.in-False.is)
+    subst (λ t. OnOk c.put_body.result (c.put_body.new.text.items ≡ old ++ one_text names source rows (λ x. found x c.args.firsts.now) c.args.item.number condition more t)) (sym c.in-False.is)
     (joined c.put_body.result old mid _ head body one last)

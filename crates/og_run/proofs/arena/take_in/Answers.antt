@@ -17,8 +17,8 @@ load-requires c =
     let me = ap (λ (m : View × List (ℕ × Unit {0})). m.0) j.2 in
     (j.0 ∙ t.0, omega (arith, t.2), confirms_keep _ _ _ _ (ap (λ (v : View). v.keeps) me ∙ c.requires.keeper) (ap (λ (v : View). v.holds) me ∙ c.requires.token.2))
 
-pub returns-clause-told : goal.returns-clause-told
-returns-clause-told c =
+pub returns-clause-card : goal.returns-clause-card
+returns-clause-card c =
     let me = ap (λ (m : View × List (ℕ × Unit {0})). m.0) c.join_seat.ensures.2 in
     subst (λ (v : View). slice_get v.cards v.process ≡ Some (listed v.card true)) me c.load.ensures.2.0
 

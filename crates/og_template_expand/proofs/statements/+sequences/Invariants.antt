@@ -10,9 +10,9 @@ use Rattle.og_template_expand.proofs.statements.+sequences.Given as goal
 abbrev pub invariant-put_repeated-loop-value : goal.invariant-put_repeated-loop-value
 invariant-put_repeated-loop-value l =
     let each = instance_of (scope_of l.scope) (binder_of l.binder) (λ s. meaning.steps_of s (steps_then (map step_of l.steps))) in
-    onto (front_of l.items.items l.last) (gathered each (drop l.value-index l.value-items)) ≡ onto (front_of l.fn.items.items l.fn.last) (gathered each l.value-items)
+    onto (front_of l.prefix) (gathered each (drop l.value-index l.value-items)) ≡ onto (front_of l.fn.prefix) (gathered each l.value-items)
 
 abbrev pub invariant-put_steps-loop-step : goal.invariant-put_steps-loop-step
 invariant-put_steps-loop-step l =
-    onto (front_of l.items.items l.last) (meaning.steps_of (scope_of l.scope) (steps_then (map step_of (drop l.step-index l.steps))))
-    ≡ onto (front_of l.fn.items.items l.fn.last) (meaning.steps_of (scope_of l.scope) (steps_then (map step_of l.steps)))
+    onto (front_of l.prefix) (meaning.steps_of (scope_of l.scope) (steps_then (map step_of (drop l.step-index l.steps))))
+    ≡ onto (front_of l.fn.prefix) (meaning.steps_of (scope_of l.scope) (steps_then (map step_of l.steps)))

@@ -9,8 +9,8 @@ use Rattle.og_cert_read.proofs.reader.Reader.split.Goals as goal
 
 pub finish-requires-clause-good : goal.finish-requires-clause-good
 finish-requires-clause-good c =
-    empty_split_good (depth (frames_of c.args.self.now)) c.args.fact c.new.result c.new.ensures.items c.in_ok-deeper.ensures (and_parts (is_number c.args.fact) (nat_le c.args.count 10000) c.requires.good).0
+    empty_split_good (depth (frames_of c.args.self.now)) c.args.fact c.new.result c.new.ensures.items c.requires.deep (and_parts (is_number c.args.fact) (nat_le c.args.count 10000) c.requires.good).0
 
-pub returns-in_ok-finish : goal.returns-in_ok-finish
-returns-in_ok-finish c =
-    (split_done (frames_of c.args.self.now) (shown c.args.self.now.file) c.args.n c.args.fact c.args.count c.new.result (reading_of c.finish.new.self) c.in_ok-deeper.ensures c.if-count-eq0.true c.new.ensures.items c.in_ok-finish.ensures.reading, c.in_ok-finish.ensures.sound)
+pub returns-in_ok-finish-clause-reading : goal.returns-in_ok-finish-clause-reading
+returns-in_ok-finish-clause-reading c =
+    split_done (frames_of c.args.self.now) (shown c.args.self.now.file) c.args.n c.args.fact c.args.count c.new.result (reading_of c.finish.new.self) c.if-count-eq0.true c.new.ensures.items c.in_ok-finish.ensures.reading

@@ -24,7 +24,7 @@ hand_out-token-requires g c =
     let mine = ap (λ (m : View × List (ℕ × Unit {0})). m.0) t.1 in
     let kept = c.take_in.ensures.kept in
     let after = ap (λ (m : View × List (ℕ × Unit {0})). m.0) kept.1 in
-    let there = listed_there d.3.0 c.seat.inside.process c.self.inside.keeper.me.0 c.in-Some.token.me.0 d.3.1 mine c.take_in.ensures.told in
+    let there = listed_there d.3.0 c.seat.inside.process c.self.inside.keeper.me.0 c.in-Some.token.me.0 d.3.1 mine c.take_in.ensures.card in
     let now = keeper_there d.3.0 c.seat.inside.process c.self.inside.keeper.me.0 c.in-Some.token.me.0 c.take_in.new.keeper.me.0 d.3.1 mine after in record {
       name = refl;
       table = (kept.0 ∙ (d.0 ∙ sym c.requires), ap (λ z. z.words) c.requires ∙ d.1);
@@ -41,7 +41,7 @@ invariant_of-self g c =
     let after = ap (λ (m : View × List (ℕ × Unit {0})). m.0) kept.1 in
     let at : Position = record { given = g.B.Machine.given c.self.inside.machine; history = g.B.Machine.history c.self.inside.machine; halted = g.B.Machine.halted c.self.inside.machine } in
     let to : Position = record { given = g.B.Machine.given c.take_turn-turn.new.self; history = g.B.Machine.history c.take_turn-turn.new.self; halted = g.B.Machine.halted c.take_turn-turn.new.self } in
-    let there = listed_there d.3.0 c.seat.inside.process c.self.inside.keeper.me.0 c.in-Some.token.me.0 d.3.1 mine c.take_in.ensures.told in
+    let there = listed_there d.3.0 c.seat.inside.process c.self.inside.keeper.me.0 c.in-Some.token.me.0 d.3.1 mine c.take_in.ensures.card in
     let now = keeper_there d.3.0 c.seat.inside.process c.self.inside.keeper.me.0 c.in-Some.token.me.0 c.take_in.new.keeper.me.0 d.3.1 mine after in
     let out = c.hand_out-token.ensures.kept in
     let out_is = ap (λ (m : View × List (ℕ × Unit {0})). m.0) out.1 ∙ ap (gives c.seat.inside.process (card_at to)) now in
@@ -59,7 +59,7 @@ returns-clause-act g c =
     let d = c.self.invariant in
     let mine = ap (λ (m : View × List (ℕ × Unit {0})). m.0) t.1 in
     let at : Position = record { given = g.B.Machine.given c.self.inside.machine; history = g.B.Machine.history c.self.inside.machine; halted = g.B.Machine.halted c.self.inside.machine } in
-    let there = listed_there d.3.0 c.seat.inside.process c.self.inside.keeper.me.0 c.in-Some.token.me.0 d.3.1 mine c.take_in.ensures.told in
+    let there = listed_there d.3.0 c.seat.inside.process c.self.inside.keeper.me.0 c.in-Some.token.me.0 d.3.1 mine c.take_in.ensures.card in
     let fits = (fits_listed at d.3.0 c.seat.inside.process c.in-Some.token.me.0.card d.3.2 there).1 in
     let s = c.take_turn-turn.ensures in
     let given = ap (λ (m : View × List (ℕ × Unit {0})). m.0.card) c.hand_out-token.ensures.given.1 in
@@ -74,5 +74,5 @@ moves-seat-inside-requires g c =
     let d = c.self.invariant in
     let mine = ap (λ (m : View × List (ℕ × Unit {0})). m.0) t.1 in
     let at : Position = record { given = g.B.Machine.given c.self.inside.machine; history = g.B.Machine.history c.self.inside.machine; halted = g.B.Machine.halted c.self.inside.machine } in
-    let there = listed_there d.3.0 c.seat.inside.process c.self.inside.keeper.me.0 c.in-Some.token.me.0 d.3.1 mine c.take_in.ensures.told in
+    let there = listed_there d.3.0 c.seat.inside.process c.self.inside.keeper.me.0 c.in-Some.token.me.0 d.3.1 mine c.take_in.ensures.card in
     subst (λ (z : Given). c.seat.inside.process < process_count z.outline) (sym c.take_turn-turn.ensures.given) ((fits_listed at d.3.0 c.seat.inside.process c.in-Some.token.me.0.card d.3.2 there).0)
