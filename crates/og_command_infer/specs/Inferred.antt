@@ -2,7 +2,7 @@
 use Rattle.std.specs.Prelude.{◌≡◌, ℕ, false, List, All, Contains}
 use Rattle.og_typed.specs.Syntax.{Program}
 use Rattle.og_typed.specs.Source.{IsSource}
-use Rattle.og_strengthening.specs.Strengthens.{Strengthens}
+use Rattle.og_completion.specs.Strengthens.{Strengthens}
 use Rattle.og_report_text.specs.Subject.{Subject, in_own_text}
 use Rattle.og_report_text.specs.declared.answer.Answer.{Answer}
 use Rattle.og_command_prove.specs.Answer.{IsReported}

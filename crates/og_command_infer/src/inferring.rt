@@ -19,7 +19,7 @@ use og_infer_places::starts;
 use og_judge::Refusal;
 use og_pool::{Gate, PoolFault};
 use og_report_text::{Answer, Subject};
-use og_strengthening::strengthens;
+use og_completion::strengthens;
 use og_typed::{Outline, Source, SourceError};
 use std::sync::Wait;
 use std::thread::Threads;
