@@ -2,7 +2,7 @@
 use Rattle.std.specs.Prelude.{◌≡◌, ℕ, false, List, All, Contains}
 use Rattle.og_typed.specs.Syntax.{Program}
 use Rattle.og_typed.specs.Source.{IsSource}
-use Rattle.og_completion.specs.Strengthens.{Strengthens}
+use Rattle.og_completion.specs.Completes.{Completes}
 use Rattle.og_report_text.specs.Subject.{Subject, in_own_text}
 use Rattle.og_report_text.specs.declared.answer.Answer.{Answer}
 use Rattle.og_command_prove.specs.Answer.{IsReported}
@@ -19,12 +19,11 @@ pub record IsJudged (form : ReportForm) (o : Program) (text : List ℕ) (report 
   pub reported : IsReported form false (in_own_text o text) report
   pub warrants : WarrantsAnswer form false o report
 
--- a text of an outline with the same program and the same or stronger assertions, and what `prove`
--- reports of it
+-- a text of an outline that completes the given one, and what `prove` reports of it
 pub record IsCompletion (form : ReportForm) (o : Program) (text : List ℕ) (report : Answer) : Type 0 where
   pub outline : Program
   pub source : IsSource text outline
-  pub strengthened : Strengthens outline o
+  pub completes : Completes outline o
   pub judged : IsJudged form outline text report
   -- what the report says of that outline holds of the given one too
   pub warrants : WarrantsAnswer form false o report

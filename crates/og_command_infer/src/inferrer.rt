@@ -2,7 +2,7 @@
 
 use crate::edit::Edit;
 use og_command_prove::{Prover, Search};
-use og_io::{Budget, QuestionLimit, Workers};
+use og_io::{Budget, Workers};
 use og_report_text::Answer;
 use std::alloc::Global;
 
@@ -15,7 +15,7 @@ pub struct Effort {
     /// The budget of each search for a conjunct.
     pub budget: Budget,
     /// How many such searches are made at most.
-    pub limit: QuestionLimit,
+    pub limit: Budget,
     /// How many workers search.
     pub workers: Workers,
 }

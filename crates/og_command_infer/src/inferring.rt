@@ -19,7 +19,7 @@ use og_infer_places::starts;
 use og_judge::Refusal;
 use og_pool::{Gate, PoolFault};
 use og_report_text::{Answer, Subject};
-use og_completion::strengthens;
+use og_completion::completes;
 use og_typed::{Outline, Source, SourceError};
 use std::sync::Wait;
 use std::thread::Threads;
@@ -37,7 +37,7 @@ impl<'r, G: Gate, H: Threads + Wait + Sync> Inferrer<'r, G, H> {
         let starts = starts(self.alloc, outline, given, STARTS)?;
         let limits = Limits {
             budget: self.effort.budget.facts(),
-            questions: self.effort.limit.questions(),
+            questions: self.effort.limit.facts(),
             workers: self.effort.workers.count(),
         };
         let inferred = infer(self.rt, self.alloc, outline, &starts, &limits)?;
@@ -63,7 +63,7 @@ impl<'r, G: Gate, H: Threads + Wait + Sync> Inferrer<'r, G, H> {
         }
     }
 
-    // What `prove` reports of the outline of an edited text, if it strengthens this one.
+    // What `prove` reports of the outline of an edited text, if it completes this one.
     fn judged_edited(
         &self,
         outline: &Outline,
@@ -79,7 +79,7 @@ impl<'r, G: Gate, H: Threads + Wait + Sync> Inferrer<'r, G, H> {
             Err(SourceError::Memory) => return Err(Refusal::Memory),
             Err(SourceError::Fault(_)) => return Ok(None),
         };
-        if !strengthens(source.outline(), outline) {
+        if !completes(source.outline(), outline) {
             return Ok(None);
         }
         match self.judged(source.outline(), source.bytes(), form) {

@@ -38,13 +38,6 @@ impl Budget {
         Some(Budget { facts })
     }
 
-    /// The budget of the searches of a proof, where none is given: 100,000 facts.
-    pub fn usual() -> Budget
-        ensures { result ≡ 100000 }
-    {
-        Budget { facts: 100_000 }
-    }
-
     /// How many facts it allows.
     pub fn facts(self) -> u64
         ensures same { result ≡ self }

@@ -56,6 +56,14 @@ fn takes(runs: Option<MomentLimit>) -> Takes
     }
 }
 
+// The budget with which `prove` searches where none is given.
+fn usual_budget() -> Budget {
+    match Budget::new(100_000) {
+        Some(budget) => budget,
+        None => unreachable!(),
+    }
+}
+
 impl<'r, F: Files, G: Gate, H: Threads + Wait + Sync> Program<'r, F, G, H> {
     // A prover that searches so.
     fn prover(&self, search: Search) -> Prover<'r, G, H>
@@ -78,7 +86,7 @@ impl<'r, F: Files, G: Gate, H: Threads + Wait + Sync> Program<'r, F, G, H> {
             alloc: self.alloc,
             gate: self.gate,
             effort: Effort {
-                proof: Budget::usual(),
+                proof: usual_budget(),
                 budget: infer.budget,
                 limit: infer.limit,
                 workers: infer.workers,

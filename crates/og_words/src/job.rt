@@ -4,7 +4,7 @@ ghost use Rattle.std.specs.Prelude.{◌≡◌};
 ghost use Rattle.og_words.specs.Jobs.{SaysWrong};
 ghost use Rattle.og_words.specs.declared.job.Usage.TheVariants.{Memory};
 
-use og_io::{Budget, CertVersion, MomentLimit, QuestionLimit, RunLimit, Workers};
+use og_io::{Budget, CertVersion, MomentLimit, RunLimit, Workers};
 use std::alloc::{AllocError, AllocFailed, Global};
 
 /// The words that name commands.
@@ -82,7 +82,7 @@ pub struct Infer<'a> {
     /// How many steps each search may make.
     pub budget: Budget,
     /// How many searches may be made in all.
-    pub limit: QuestionLimit,
+    pub limit: Budget,
     /// How many threads work.
     pub workers: Workers,
     /// Whether what was added, and the report, are to be JSON.

@@ -13,7 +13,7 @@ use crate::job::{
 };
 use clap::ArgMatches;
 use clap::error::{Error, ErrorKind};
-use og_io::{Budget, CertVersion, MomentLimit, QuestionLimit, RunLimit, Workers};
+use og_io::{Budget, CertVersion, MomentLimit, RunLimit, Workers};
 use std::alloc::{AllocError, Global};
 
 fn verb_of(word: &str) -> Option<Verb>
@@ -80,10 +80,10 @@ fn moments_of(m: &ArgMatches<'_>) -> Option<MomentLimit>
     MomentLimit::new(m.get_one::<u32>("limit")?)
 }
 
-fn questions_of(m: &ArgMatches<'_>) -> Option<QuestionLimit>
+fn questions_of(m: &ArgMatches<'_>) -> Option<Budget>
     ensures { IfSome result (λ n. number_of (codes "limit") (rows_of (found_of m.now)) ≡ Some n) }
 {
-    QuestionLimit::new(m.get_one::<u64>("limit")?)
+    Budget::new(m.get_one::<u64>("limit")?)
 }
 
 // How many moments may be looked at for runs, where the flag says to look for them.
