@@ -11,5 +11,5 @@ edited (edit ∷ rest) from text =
 -- a `{` stands before it, and no `}` between that and its end
 abbrev pub IsInBraces : List ℕ → Edit → Type 0
 IsInBraces text edit =
-    (open : ℕ) × (open < edit.at) × (edit.at ≤ edit.end) × (slice_get text open ≡ Some 123)
-    × All (λ byte. byte ≢ 125) (slice_range text open edit.end)
+    (brace : ℕ) × (brace < edit.at) × (edit.at ≤ edit.end) × (slice_get text brace ≡ Some 123)
+    × All (λ byte. byte ≢ 125) (slice_range text brace edit.end)

@@ -1,7 +1,10 @@
-//! What an inference is made with, and what comes of it.
+//! What an inference is made with, and its result.
+
+ghost use Rattle.std.specs.Prelude.{◌≡◌, None};
 
 use crate::edit::Edit;
 use og_command_prove::{Prover, Search};
+use og_infer::Addition;
 use og_io::{Budget, Workers};
 use og_report_text::Answer;
 use std::alloc::Global;
@@ -45,6 +48,23 @@ pub struct Added {
     pub places: u32,
 }
 
+impl Added {
+    // These conjuncts, in an outline with as many notes.
+    pub(crate) fn of(additions: &[Addition], places: u32) -> Added {
+        let mut added = Added {
+            conjuncts: 0,
+            notes: 0,
+            places,
+        };
+        for addition in additions {
+            let more = addition.conjuncts.len() as u32;
+            added.conjuncts = added.conjuncts.saturating_add(more);
+            added.notes = added.notes.saturating_add(1);
+        }
+        added
+    }
+}
+
 /// A completed outline.
 #[derive(Debug, Drop)]
 pub struct Inferred {
@@ -58,7 +78,7 @@ pub struct Inferred {
     pub report: Answer,
 }
 
-/// What comes of an inference with words.
+/// The result of an inference with words.
 #[derive(Debug, Drop)]
 pub enum Reply<'a> {
     /// A completed outline.

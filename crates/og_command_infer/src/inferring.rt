@@ -15,12 +15,13 @@ use og_command_explore::{WordsError, given};
 use og_command_prove::ReportForm;
 use og_explore::Range;
 use og_infer::{Addition, Limits, infer};
-use og_infer_places::starts;
+use og_infer_places::{Places, starts};
 use og_judge::Refusal;
 use og_pool::{Gate, PoolFault};
 use og_report_text::{Answer, Subject};
 use og_completion::completes;
 use og_typed::{Outline, Source, SourceError};
+use std::alloc::AllocError;
 use std::sync::Wait;
 use std::thread::Threads;
 
@@ -44,8 +45,19 @@ impl<'r, G: Gate, H: Threads + Wait + Sync> Inferrer<'r, G, H> {
         Ok(inferred.additions)
     }
 
+    // How many notes the outline has, the pre- and postcondition left out.
+    fn notes_of(&self, outline: &Outline) -> Result<u32, AllocError> {
+        let places = Places::of(self.alloc, outline)?;
+        Ok(places.as_slice().len() as u32)
+    }
+
     // What `prove` reports of an outline in its own text.
-    fn judged(&self, outline: &Outline, text: &[u8], form: ReportForm) -> Result<Answer, Refusal>
+    fn judged<'t>(
+        &self,
+        outline: &'t Outline,
+        text: &'t [u8],
+        form: ReportForm,
+    ) -> Result<Answer, Refusal>
         requires { length text.now ≤ 2 ^ 20 }
         ensures report { IfOk result (IsJudged form outline.now text.now) }
         ensures refused { IfErr result (OnInput (IsFaultOfCount outline.now)) }
@@ -110,7 +122,7 @@ impl<'r, G: Gate, H: Threads + Wait + Sync> Inferrer<'r, G, H> {
         Ok(Some(Inferred {
             text,
             edits,
-            added: Added::of(additions),
+            added: Added::of(additions, self.notes_of(subject.outline)?),
             report,
         }))
     }
@@ -128,7 +140,7 @@ impl<'r, G: Gate, H: Threads + Wait + Sync> Inferrer<'r, G, H> {
         Ok(Inferred {
             text,
             edits: Vec::new(self.alloc),
-            added: Added::nothing(),
+            added: Added::of(&[], self.notes_of(subject.outline)?),
             report,
         })
     }

@@ -124,7 +124,7 @@ impl Inferred {
     ///
     /// An allocation was refused.
     pub fn remark(&self, alloc: Global, json: bool) -> Result<Vec<u8>, AllocError>
-        ensures { IfOk result (IsRemark json self.now) }
+        ensures { IfOk result (λ text. IsRemark json self.now text.items) }
     {
         let safe = self.report.status == 0;
         let unblocked = self.is_unblocked(json);
