@@ -10,6 +10,7 @@ mod explaining;
 mod explanation;
 mod frame;
 mod lookup;
+mod passing;
 mod stands;
 mod unexplained;
 
@@ -17,4 +18,5 @@ pub use actor::Actors;
 pub use explaining::{Obligation, explain, false_in, goal_note};
 pub use explanation::{Explanation, Fault, Stand, Test};
 pub use lookup::{test_of, tested};
+pub use passing::{first_at, goes_through};
 pub use unexplained::Unexplained;

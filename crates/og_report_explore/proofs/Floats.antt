@@ -10,7 +10,7 @@ use Rattle.og_report_explore.specs.declared.finding.Fault.TheVariants as fault
 use Rattle.og_report_explore.specs.declared.finding.Row.{Row}
 use Rattle.og_report_explore.specs.declared.finding.Finding.{Finding}
 use Rattle.og_report_explore.specs.declared.totals.Totals.{Totals}
-use Rattle.og_report_explore.specs.Texts.{numbers}
+use Rattle.og_report_text.specs.Values.{numbers}
 use Rattle.og_report_explore.specs.Json.{process_member, history_items, state_data, false_member, last_members, finding_data, report_data}
 
 no_float_state : (names : List (List ℕ)) (s : List ℤ) → has_float (state_data names s) ≡ false

@@ -14,8 +14,9 @@ use Rattle.og_report_explore.specs.declared.finding.Fault.TheVariants as fault
 use Rattle.og_report_explore.specs.declared.finding.Row.{Row}
 use Rattle.og_report_explore.specs.declared.finding.Finding.{Finding}
 use Rattle.og_report_explore.specs.declared.totals.Totals.{Totals}
-use Rattle.og_report_explore.specs.Table.{printed_number}
-use Rattle.og_report_explore.specs.Texts.{place_of, numbers}
+use Rattle.og_report_text.specs.Processes.{printed_number}
+use Rattle.og_report_text.specs.Values.{numbers}
+use Rattle.og_report_explore.specs.Texts.{place_of}
 use Rattle.og_report_explore.specs.Totals.{found_word, safe_of, unblocked_of}
 use denote.Ref.{Bor}
 

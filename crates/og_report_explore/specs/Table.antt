@@ -3,6 +3,7 @@ use Rattle.std.specs.Prelude.{ℕ, ◌+◌, ◌-◌, ◌==◌, max, ℤ, List, [
 use Rattle.std.specs.Fmt.{decimal}
 use Rattle.og_report_text.specs.Origins.{Rows, place_text_at, quoted_at}
 use Rattle.og_report_text.specs.Places.{◌&◌}
+use Rattle.og_report_text.specs.Processes.{printed_number}
 use Rattle.og_report_text.specs.Values.{value_text}
 use Rattle.og_report_explore.specs.declared.finding.Effect.{Effect}
 use Rattle.og_report_explore.specs.declared.finding.Effect.TheVariants as effect
@@ -10,10 +11,6 @@ use Rattle.og_report_explore.specs.declared.finding.Row.{Row}
 use Rattle.og_report_explore.specs.declared.table.Column.{Column}
 use Rattle.og_report_explore.specs.declared.table.Column.TheVariants as column
 use Rattle.og_report_explore.specs.declared.table.Widths.{Widths}
-
--- the number under which a process is printed, where this is the main process's
-abbrev pub printed_number : ℕ → ℕ → ℕ
-printed_number main p = if p == main then 0 else p + 1
 
 abbrev pub heading : Column → List ℕ
 heading column.Step = codes "step"

@@ -1,5 +1,5 @@
 -- The report of the end of a run, and of all that was explored.
-use Rattle.std.specs.Prelude.{ℕ, ◌+◌, ◌==◌, zero, suc, ℤ, List, [], ◌∷◌, ◌++◌, length, Bool, true, false, if◌then◌else◌, Option, Some, None, codes}
+use Rattle.std.specs.Prelude.{ℕ, ◌+◌, ◌==◌, ℤ, List, [], ◌∷◌, ◌++◌, length, Bool, true, false, if◌then◌else◌, Option, Some, None, codes}
 use Rattle.std.specs.Fmt.{decimal}
 use Rattle.og_typed.specs.declared.statement.Item.{Item}
 use Rattle.og_cond.specs.Names.{name_of_kind}
@@ -7,7 +7,7 @@ use Rattle.og_report_text.specs.Origins.{Rows, place_text_at, with_place_text, q
 use Rattle.og_report_text.specs.Places.{◌&◌}
 use Rattle.og_typed.specs.declared.sites.Part.{Part}
 use Rattle.og_typed.specs.declared.sites.Part.TheVariants as parts
-use Rattle.og_report_text.specs.Values.{values_text}
+use Rattle.og_report_text.specs.Values.{values_text, numbers}
 use Rattle.og_report_prove.specs.Sentences.{part_text}
 use Rattle.og_report_prove.specs.Blocks.{quoted_line, false_lines, too_large_line}
 use Rattle.og_report_explore.specs.declared.finding.Fault.{Fault}
@@ -66,11 +66,6 @@ stand_line source rows n (Some item) = waits_line source rows n item.now.at
 abbrev pub stand_lines : List ℕ → Rows → ℕ → List (Option (Bor Item)) → List ℕ
 stand_lines source rows n [] = []
 stand_lines source rows n (stand ∷ stands) = stand_line source rows n stand & stand_lines source rows (n + 1) stands
-
--- the first n numbers
-abbrev pub numbers : ℕ → List ℕ
-numbers zero = []
-numbers (suc n) = numbers n ++ n ∷ []
 
 -- the violation, its place, and after how many steps
 abbrev pub head_line : List ℕ → Rows → ℕ → ℕ → Finding → List ℕ

@@ -6,10 +6,10 @@ ghost use Rattle.og_find.specs.Found.{IsFalseAt};
 ghost use Rattle.og_report_explore.specs.Findings.{IsBlame};
 
 use crate::finding::{Blame, Fault};
-use crate::passing::goes_through;
 use og_cond::{Condition, Kind};
 use og_find::{Verdict, is_verdict};
 use og_linear::State;
+use og_report_explain::goes_through;
 use og_typed::Index;
 use std::alloc::{AllocError, Global};
 

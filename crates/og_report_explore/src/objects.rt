@@ -6,10 +6,9 @@ ghost use Rattle.serde_json.specs.View.{view, members_view};
 ghost use Rattle.og_report_explore.specs.Json.{kind_word, process_member, history_items, state_data, conjuncts_data, false_member, last_members, finding_data};
 
 use crate::finding::{Fault, Finding, Row};
-use crate::table::printed_number;
-use crate::texts::{numbers, place_of};
+use crate::texts::place_of;
 use og_report_prove::{conjunct_values, put_optional, put_values};
-use og_report_text::{Places, list_value, set_number, set_text};
+use og_report_text::{Places, list_value, numbers, printed_number, set_number, set_text};
 use og_subst::Values;
 use og_text::Name;
 use og_typed::Assert;

@@ -2,10 +2,10 @@
 
 ghost use Rattle.std.specs.Prelude.{◌≡◌, ◌++◌, [], replicate, IfOk, OnOk};
 ghost use Rattle.og_report_text.specs.Values.{value_text};
-ghost use Rattle.og_report_explore.specs.Table.{printed_number, heading, padded, head_line, entries_text, did_text, cell_text, width_of, widths_of, row_line, row_lines, table_text};
+ghost use Rattle.og_report_explore.specs.Table.{heading, padded, head_line, entries_text, did_text, cell_text, width_of, widths_of, row_line, row_lines, table_text};
 
 use crate::finding::{Effect, Row};
-use og_report_text::{Origins, put_number, put_value};
+use og_report_text::{Origins, printed_number, put_number, put_value};
 use og_text::Name;
 use std::alloc::{AllocError, Global};
 
@@ -51,18 +51,6 @@ impl Column {
             Column::Place => b"place",
             Column::Statement => b"statement",
         }
-    }
-}
-
-/// The number under which a process is printed: the main process as 0, the others from 1. Takes no
-/// memory.
-pub fn printed_number(main: u32, process: u32) -> u64
-    ensures { result ≡ printed_number main process }
-{
-    if process == main {
-        0
-    } else {
-        u64::from(process) + 1
     }
 }
 

@@ -2,13 +2,15 @@
 
 ghost use Rattle.std.specs.Prelude.{◌≡◌, ◌++◌, ◌≤◌, ◌^◌, true, length, IfOk, OnOk};
 ghost use Rattle.og_report_prove.specs.Blocks.{false_lines};
-ghost use Rattle.og_report_explore.specs.Texts.{when_text, part_of, what_text, place_of, where_text, blame_line, ended_line, waits_line, stand_line, stand_lines, numbers, all_values, all_line, overflow_lines, fault_lines, head_line, run_lines, finding_text, findings_text, report_text};
+ghost use Rattle.og_report_explore.specs.Texts.{when_text, part_of, what_text, place_of, where_text, blame_line, ended_line, waits_line, stand_line, stand_lines, all_values, all_line, overflow_lines, fault_lines, head_line, run_lines, finding_text, findings_text, report_text};
 
 use crate::finding::{Blame, Fault, Finding};
 use crate::table::{Page, put_table};
 use crate::totals::{Totals, put_totals};
 use og_report_prove::{put_false, put_label, put_part, put_quoted, put_too_large};
-use og_report_text::{Origins, Places, Subject, put_number, put_number_between, put_values};
+use og_report_text::{
+    Origins, Places, Subject, numbers, put_number, put_number_between, put_values,
+};
 use og_subst::Values;
 use og_text::Name;
 use og_typed::{Assert, Item, Part};
@@ -165,21 +167,6 @@ fn put_stands(
         put_stand(text, origins, index as u128 + 1, stands[index])?;
     }
     Ok(())
-}
-
-/// The numbers of this many variables.
-///
-/// # Errors
-///
-/// An allocation was refused.
-pub fn numbers(alloc: Global, count: u32) -> Result<Vec<u32>, AllocError>
-    ensures { IfOk result (λ v. v.items ≡ numbers count) }
-{
-    let mut vars = Vec::new(alloc);
-    for var in 0..count {
-        vars.push(var)?;
-    }
-    Ok(vars)
 }
 
 // The values of all variables.

@@ -9,11 +9,10 @@ ghost use Rattle.og_report_explore.specs.Findings.{AreRows, AreRowsOf, IsBefore,
 use crate::blaming::{Failure, blame};
 use crate::faults::fault_of;
 use crate::finding::{Effect, Finding, Row};
-use crate::passing::first_at;
 use crate::rows::row;
 use og_cond::Condition;
 use og_linear::State;
-use og_report_explain::Unexplained;
+use og_report_explain::{Unexplained, first_at};
 use og_step::{Moment, StartError, start};
 use og_subst::Values;
 use og_typed::{Index, Outline};

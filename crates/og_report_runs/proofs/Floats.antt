@@ -5,7 +5,7 @@ use Rattle.serde_json.specs.View.{items_of}
 use Rattle.serde_json.specs.Written.{has_float, items_have_float}
 use Rattle.og_typed.specs.Syntax.{Program}
 use Rattle.og_cond.specs.Condition.{Condition}
-use Rattle.og_report_explore.specs.Texts.{numbers}
+use Rattle.og_report_text.specs.Values.{numbers}
 use Rattle.og_report_prove.specs.Report.{is_proved}
 use Rattle.og_report_prove.specs.declared.diagnosis.Diagnosis.{Diagnosis}
 use Rattle.og_report_prove.specs.declared.diagnosis.Diagnosis.TheVariants as diagnosis

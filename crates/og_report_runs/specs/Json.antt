@@ -6,8 +6,8 @@ use Rattle.serde_json.specs.Written.{compact_text}
 use Rattle.og_report_text.specs.Numbers.{natural}
 use Rattle.og_typed.specs.Syntax.{Program}
 use Rattle.og_cond.specs.Condition.{Condition}
-use Rattle.og_report_explore.specs.Table.{printed_number}
-use Rattle.og_report_explore.specs.Texts.{numbers}
+use Rattle.og_report_text.specs.Processes.{printed_number}
+use Rattle.og_report_text.specs.Values.{numbers}
 use Rattle.og_report_prove.specs.Report.{is_proved}
 use Rattle.og_report_prove.specs.declared.diagnosis.Diagnosis.{Diagnosis}
 use Rattle.og_report_prove.specs.declared.diagnosis.Diagnosis.TheVariants as diagnosis

@@ -4,7 +4,7 @@
 use crate::place::Place;
 use crate::placing::number_of;
 use og_cond::Kind;
-use og_report_explore::first_at;
+use og_report_explain::first_at;
 use og_step::Moment;
 use og_subst::Values;
 use og_typed::{Index, Item, Outline, StatementSite, Stmt};

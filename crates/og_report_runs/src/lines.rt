@@ -5,8 +5,7 @@ ghost use Rattle.og_report_runs.specs.Lines.{steps_text, history_text, way_text,
 
 use crate::witness::{Run, Witness};
 use og_linear::State;
-use og_report_explore::printed_number;
-use og_report_text::{put_number, put_number_between, put_values};
+use og_report_text::{printed_number, put_number, put_number_between, put_values};
 use og_subst::Values;
 use og_text::Name;
 use og_typed::Outline;

@@ -6,6 +6,7 @@ pub mod Line
 pub mod Listing
 pub mod Origins
 pub mod Places
+pub mod Processes
 pub mod Quotes
 pub mod Relations
 pub mod Seen

@@ -1,8 +1,13 @@
 -- How values of variables are printed.
-use Rattle.std.specs.Prelude.{ℕ, ℤ, true, List, [], ◌∷◌, slice_get, codes}
+use Rattle.std.specs.Prelude.{ℕ, zero, suc, ℤ, true, List, [], ◌∷◌, ◌++◌, slice_get, codes}
 use Rattle.og_linear.specs.Linear.{value_at}
 use Rattle.og_report_text.specs.Places.{◌&◌}
 use Rattle.og_report_text.specs.Listing.{name_text, constant_text}
+
+-- the first n numbers: those of n variables
+abbrev pub numbers : ℕ → List ℕ
+numbers zero = []
+numbers (suc n) = numbers n ++ n ∷ []
 
 module _ (names : List (List ℕ)) where
   -- NAME = INT

@@ -1,12 +1,12 @@
 //! Variables with their values.
 
-ghost use Rattle.std.specs.Prelude.{◌≡◌, ◌++◌, [], OnOk, slice_get};
+ghost use Rattle.std.specs.Prelude.{◌≡◌, ◌++◌, [], IfOk, OnOk, slice_get};
 ghost use Rattle.og_linear.specs.Linear.{value_at};
-ghost use Rattle.og_report_text.specs.Values.{value_text, entries_text, values_text, names_text};
+ghost use Rattle.og_report_text.specs.Values.{value_text, entries_text, values_text, names_text, numbers};
 
 use crate::forms::{put_constant, put_name};
 use og_text::Name;
-use std::alloc::AllocError;
+use std::alloc::{AllocError, Global};
 
 /// Adds a variable with a value to the text, as `x = 3`.
 ///
@@ -74,4 +74,19 @@ pub fn put_names(text: &mut Vec<u8>, names: &[Name], vars: &[u32]) -> Result<(),
         between = b", ";
     }
     Ok(())
+}
+
+/// The numbers of this many variables.
+///
+/// # Errors
+///
+/// An allocation was refused.
+pub fn numbers(alloc: Global, count: u32) -> Result<Vec<u32>, AllocError>
+    ensures { IfOk result (λ v. v.items ≡ numbers count) }
+{
+    let mut vars = Vec::new(alloc);
+    for var in 0..count {
+        vars.push(var)?;
+    }
+    Ok(vars)
 }
