@@ -1,8 +1,10 @@
 -- From what was read of a text to what a command says of it.
-use Rattle.std.proofs.Common.{◌≡◌, inl, inr, sym, ℕ, List, [], Bool, true, false, Result, Ok, Err, IfOk, IfErr, subst, map}
+use Rattle.std.proofs.Common.{◌≡◌, ap, inl, inr, sym, ℕ, List, [], Bool, true, false, Result, Ok, Err, IfOk, IfErr, subst, map}
 use Rattle.std.proofs.lemmas.Result.{IfOk-weaker}
 use Rattle.og_report_text.specs.Subject.{Subject}
-use Rattle.og_template_outline.specs.Meaning.{Means, GivesStartsBy}
+use Rattle.og_typed.specs.Source.{IsSource}
+use Rattle.og_template.specs.Front.{is_template}
+use Rattle.og_template_outline.specs.Meaning.{Means, MeansBy, GivesStartsBy}
 use Rattle.og_template_outline.specs.declared.meaning.Takes.TheVariants.{Constants}
 use Rattle.og_template_outline.specs.declared.meaning.Takes.{Takes}
 use Rattle.og_program.specs.World.{World, Text, named}
@@ -29,6 +31,14 @@ on_result takes world name words P given r is =
 pub no_meaning : (takes : Takes) (world : World) (name : List ℕ) (words : List (List ℕ)) (P : Text → Subject → List (List ℕ) → Outcome → Type 0) (outcome : Outcome)
     → MeansNone takes world name words outcome → OfMeaning takes world name words P outcome
 no_meaning takes world name words P outcome none = (none.0, none.1, inr none.2)
+
+-- an outline is that of its own text
+own_source_by : (b : Bool) (text : List ℕ) (s : Subject) → MeansBy b text s → IsSource s.own s.outline
+own_source_by true text s means = means.1
+own_source_by false text s means = subst (λ (own : List ℕ). IsSource own s.outline) (ap (λ (t : Subject). t.own) (sym means.1)) means.0
+
+pub own_source : (text : List ℕ) (s : Subject) → Means text s → IsSource s.own s.outline
+own_source text s means = own_source_by (is_template text) text s means
 
 -- an outline has no constant, so no word is to name one
 pub names_none : (b : Bool) (words starts : List (List ℕ)) → GivesStartsBy b Constants words starts → b ≡ false → words ≡ []

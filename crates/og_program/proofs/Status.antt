@@ -14,6 +14,11 @@ use Rattle.og_report_text.specs.declared.fault.InputFault.TheVariants as faults
 use Rattle.og_template_outline.specs.Meaning.{MeansBy, Means}
 use Rattle.og_template_outline.specs.declared.fault.MeaningError.TheVariants as errors
 use Rattle.og_template_outline.specs.declared.meaning.Takes.{Takes}
+use Rattle.og_template_outline.specs.declared.meaning.Takes.TheVariants as takes
+use Rattle.og_command_infer.specs.Inferred as inferring
+use Rattle.og_command_infer.specs.Printed.{IsPrinted}
+use Rattle.og_command_infer.specs.declared.inferrer.Reply.{Reply as Inferring}
+use Rattle.og_command_infer.specs.declared.inferrer.Reply.TheVariants as inferrings
 use Rattle.og_command_explore.specs.declared.exploring.Reply.{Reply}
 use Rattle.og_command_explore.specs.declared.exploring.Reply.TheVariants as replies
 use Rattle.og_command_prove.specs.Reply.{WarrantsAnswer, Warrants}
@@ -38,6 +43,7 @@ use Rattle.og_command_prove.specs.declared.form.ReportForm.TheVariants as report
 use Rattle.og_words.specs.Jobs.{word_bytes}
 use Rattle.og_words.specs.declared.job.Job.{Job}
 use Rattle.og_words.specs.declared.job.Job.TheVariants as jobs
+use Rattle.og_words.specs.declared.job.Infer.{Infer}
 use Rattle.og_words.specs.declared.job.Prove.{Prove}
 use Rattle.og_words.specs.declared.job.Run.{Run}
 use Rattle.og_words.specs.declared.job.Show.{Show}
@@ -45,9 +51,9 @@ use Rattle.og_program.specs.World.{World, Text, Stream, Trace, named, bytes_in}
 use Rattle.og_program.specs.Sound.{IsProven, IsProvenFile, IsProvenText}
 use Rattle.og_program.specs.Unblocked.{PrintsUnblocked, IsNeverStuck}
 use Rattle.og_program.specs.Written.{Gets, SaysWhy, Writes}
-use Rattle.og_program.specs.Beside.{OnReport, OnBadValue, IsRefusal, Refuses}
+use Rattle.og_program.specs.Beside.{Noted, OnReport, OnBadValue, IsRefusal, Refuses}
 use Rattle.og_program.specs.Given.{IsTemplateRefusal, HasNoMeaning, OfMeaning}
-use Rattle.og_program.specs.Commands.{report_form, takes_for, IsCheckReport, IsCheckOutcome, IsRunReport, IsWordRemark, FollowsReply, FollowsRunning, ProvesOutline, Proves, Shows, RunsBy, IsOutcome}
+use Rattle.og_program.specs.Commands.{report_form, takes_for, IsCheckReport, IsCheckOutcome, IsRunReport, IsWordRemark, FollowsReply, FollowsRunning, IsInferNote, FollowsInferring, Infers, ProvesOutline, Proves, Shows, RunsBy, IsOutcome}
 use Rattle.og_program.specs.Served.{EndsJob}
 use Rattle.og_program.specs.declared.ended.Ended.{Ended}
 use Rattle.og_program.specs.declared.outcome.Outcome.{Outcome}
@@ -205,6 +211,21 @@ of_show world out show o h done =
     let runs = is_some show.runs in
     (of_proves (takes_for runs) world show.source.now (word_bytes show.words.items) reports.Page runs out o h done).0
 
+-- a completed outline warrants what it says of the given one
+inferred : (json : Bool) (text : List ℕ) (s : Subject) (reply : Inferring) (words : List (List ℕ)) (out : Stream) (o : Outcome) → Means text s
+    → inferring.IsReply (report_form json) s words reply → FollowsInferring json s reply o → IsDone out o → HoldsOf IsProvenSource text
+inferred json text s (inferrings.Inferred i) words out o means is follows done =
+    let r = on_report (λ report. IsPrinted json s.own i report.answer × Noted (IsInferNote json i) report) out o follows done in
+    proven_text (is_template text) text s means (is.completion.warrants.0 (sym r.1.0.1 ∙ r.2))
+inferred json text s (inferrings.BadValue word) words out o means is follows done = absurd (no_word (IsValueRemark gives.Ranges s.outline) word out o follows done)
+
+of_infer : (world : World) (out : Stream) (infer : Infer) (o : Outcome) → Infers world infer o → IsDone out o → IsProvenText world infer.source.now
+of_infer world out infer o (text, is, inl (s, starts, means, given, inl (reply, found, follows))) done =
+    (text, is, inferred infer.json text s reply starts out o means found follows done)
+of_infer world out infer o (text, is, inl (s, starts, means, given, inr refusal)) done =
+    absurd (refused (IsFaultOfCount s.outline) (named infer.source.now text) [] out o refusal done)
+of_infer world out infer o (text, is, inr none) done = absurd (meaningless takes.Starts (named infer.source.now text) (word_bytes infer.words.items) out o none done)
+
 of_run : (certs schedule : Option (Bor (List ℕ))) (world : World) (out : Stream) (run : Run) (o : Outcome) → RunsBy certs schedule world run o → IsDone out o
     → IfSome certs (λ _. IsProvenFile world run.source.now)
 of_run None schedule world out run o h done = tt
@@ -228,6 +249,7 @@ of_done world out jobs.Joined o h done =
     let w = of_check false (named (codes "-") h.2.0) (named (codes "-") h.2.1) out o h.2.3 done in
     ((h.0, h.1, (h.2.0, h.2.1, h.2.2, w.0)), λ wrote. (h.0, h.1, (h.2.0, h.2.1, h.2.2, w.1 wrote)))
 of_done world out (jobs.Prove prove) o h done = of_prove world out prove o h done
+of_done world out (jobs.Infer infer) o h done = (of_infer world out infer o h done, tt)
 of_done world out (jobs.Check check) o h done =
     let w = of_check check.json (named check.source.now h.0) (named check.certs.now h.2.0) out o h.2.2 done in
     ((h.0, h.1, w.0), λ wrote. (h.0, h.1, w.1 wrote))

@@ -38,6 +38,11 @@ use Rattle.og_command_explore.specs.Explored as exploring
 use Rattle.og_command_explore.specs.declared.exploring.Reply.{Reply}
 use Rattle.og_command_explore.specs.declared.exploring.Reply.TheVariants as replies
 use Rattle.og_command_notes.specs.Noted.{IsNotes}
+use Rattle.og_command_infer.specs.Inferred as inferring
+use Rattle.og_command_infer.specs.Printed.{IsPrinted, IsRemark}
+use Rattle.og_command_infer.specs.declared.inferrer.Inferred.{Inferred}
+use Rattle.og_command_infer.specs.declared.inferrer.Reply.{Reply as Inferring}
+use Rattle.og_command_infer.specs.declared.inferrer.Reply.TheVariants as inferrings
 use Rattle.og_command_prove.specs.Reply as proving
 use Rattle.og_command_prove.specs.declared.form.ReportForm.{ReportForm}
 use Rattle.og_command_prove.specs.declared.form.ReportForm.TheVariants as reports
@@ -53,6 +58,7 @@ use Rattle.og_words.specs.declared.job.Erase.{Erase}
 use Rattle.og_words.specs.declared.job.Expand.{Expand}
 use Rattle.og_words.specs.declared.job.Explore.{Explore}
 use Rattle.og_words.specs.declared.job.Find.{Find}
+use Rattle.og_words.specs.declared.job.Infer.{Infer}
 use Rattle.og_words.specs.declared.job.Migrate.{Migrate}
 use Rattle.og_words.specs.declared.job.Notes.{Notes}
 use Rattle.og_words.specs.declared.job.Prove.{Prove}
@@ -167,6 +173,30 @@ Shows world show outcome =
     let runs = is_some show.runs in
     OfMeaning (takes_for runs) world show.source.now (word_bytes show.words.items)
     (ProvesOutline reports.Page runs) outcome
+
+-- ---- infer
+
+-- how much was added, and what is left to prove
+abbrev pub IsInferNote : Bool → Inferred → Option (List ℕ) → Type 0
+IsInferNote json i None = ⊥
+IsInferNote json i (Some text) = IsRemark json i text
+
+abbrev pub FollowsInferring : Bool → Subject → Inferring → Outcome → Type 0
+FollowsInferring json s (inferrings.Inferred i) =
+    OnReport (λ report. IsPrinted json s.own i report.answer × Noted (IsInferNote json i) report)
+FollowsInferring json s (inferrings.BadValue word) = OnBadValue (IsValueRemark gives.Ranges s.outline) word
+
+-- an outline completed, and what is proved of it; or that there are too many conditions
+abbrev pub InfersOutline : Bool → Text → Subject → List (List ℕ) → Outcome → Type 0
+InfersOutline json text s starts outcome =
+    ((reply : Inferring) × inferring.IsReply (report_form json) s starts reply
+    × FollowsInferring json s reply outcome)
+    ⊎ Refuses (IsFaultOfCount s.outline) text [] outcome
+
+abbrev pub Infers : World → Infer → Outcome → Type 0
+Infers world infer outcome =
+    OfMeaning takes.Starts world infer.source.now (word_bytes infer.words.items)
+    (InfersOutline infer.json) outcome
 
 -- ---- explore and notes
 
@@ -313,6 +343,7 @@ Runs world run = RunsBy run.certs run.schedule world run
 abbrev pub IsOutcome : World → Job → Outcome → Type 0
 IsOutcome world jobs.Joined = ChecksInput world
 IsOutcome world (jobs.Prove prove) = Proves world prove
+IsOutcome world (jobs.Infer infer) = Infers world infer
 IsOutcome world (jobs.Check check) = Checks world check
 IsOutcome world (jobs.Notes notes) = NotesOn world notes
 IsOutcome world (jobs.Show show) = Shows world show

@@ -18,6 +18,7 @@ opened_by_run source (Some certs) = Both source certs.now
 abbrev pub opened : Job → FileNames
 opened jobs.Joined = One (codes "-")
 opened (jobs.Prove prove) = One prove.source.now
+opened (jobs.Infer infer) = One infer.source.now
 opened (jobs.Check check) = Both check.source.now check.certs.now
 opened (jobs.Notes notes) = One notes.source.now
 opened (jobs.Show show) = One show.source.now

@@ -20,6 +20,7 @@ IsProvenText world name = Reads source_of (bytes_in world name) (HoldsOf IsProve
 abbrev pub IsProven : World → Job → Type 0
 IsProven world jobs.Joined = Reads joined_of world.input HasProvenSource
 IsProven world (jobs.Prove prove) = IsProvenText world prove.source.now
+IsProven world (jobs.Infer infer) = IsProvenText world infer.source.now
 IsProven world (jobs.Check check) = IsProvenFile world check.source.now
 IsProven world (jobs.Show show) = IsProvenText world show.source.now
 IsProven world (jobs.Run run) = IfSome run.certs (λ _. IsProvenFile world run.source.now)

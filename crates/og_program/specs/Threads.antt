@@ -32,6 +32,7 @@ StartsBy (Some certs) schedule world run = StartsProved world run certs.now
 -- a job does: a search or a check by two workers or more, or such a run
 abbrev pub StartsThreads : World → Job → Type 0
 StartsThreads world (jobs.Prove prove) = 1 < prove.workers
+StartsThreads world (jobs.Infer infer) = 1 < infer.workers
 StartsThreads world (jobs.Check check) = 1 < check.workers
 StartsThreads world (jobs.Show show) = 1 < show.workers
 StartsThreads world (jobs.Find find) = 1 < find.workers

@@ -1,24 +1,29 @@
 //! From what the libraries answer to outcomes: what goes to standard error beside an answer.
 
-ghost use Rattle.std.specs.Prelude.{◌≡◌, ◌≢◌, [], map, Ok, None, IfSome};
+ghost use Rattle.std.specs.Prelude.{◌≡◌, ◌≢◌, ◌≤◌, ◌^◌, [], length, map, Ok, None, IfSome, IfOk, IfErr};
 ghost use Rattle.og_report_refusal.specs.Values.{schedule_text, reason_line, IsValueRemark};
 ghost use Rattle.og_report_refusal.specs.declared.values.Gives.TheVariants as gives;
 ghost use Rattle.og_report_text.specs.Answers.{Says};
 ghost use Rattle.og_words.specs.Jobs.{word_bytes};
 ghost use Rattle.og_program.specs.World.{named};
-ghost use Rattle.og_program.specs.Beside.{IsNote};
-ghost use Rattle.og_program.specs.Commands.{NotesCheck, NotesCount, IsLongNote, IsRunReport, IsWordRemark, FollowsFinding, FollowsRunning, FollowsReply, FollowsListing};
+ghost use Rattle.og_program.specs.Beside.{IsNote, Noted};
+ghost use Rattle.og_program.specs.Failing.{IsWant};
+ghost use Rattle.og_command_infer.specs.Printed.{IsPrinted};
+ghost use Rattle.og_report_text.specs.Subject.{subject_of, IsShort};
+ghost use Rattle.og_program.specs.Commands.{NotesCheck, NotesCount, IsLongNote, IsInferNote, FollowsInferring, IsRunReport, IsWordRemark, FollowsFinding, FollowsRunning, FollowsReply, FollowsListing};
 
+use crate::fault::Fault;
 use crate::outcome::{BadValue, Certificates, Outcome, Report};
 use og_command_check::{CheckReply, FindReply, FoundCertificates, LongText};
 use og_command_explore::Reply as Started;
+use og_command_infer::{Inferred, Reply as Inferring};
 use og_command_run::{Ran, Reply};
 use og_find::Missing;
 use og_report_conditions::Reply as Listed;
 use og_report_refusal::{
     Gives, long_line, missing_line, schedule_remark, start_remark, value_remark,
 };
-use og_report_text::Answer;
+use og_report_text::{Answer, Subject};
 use og_typed::{Outline, Source};
 use std::alloc::{AllocError, Global};
 
@@ -195,6 +200,57 @@ pub(crate) fn beside_run<'a>(
             Outcome::BadValue(bad_word(alloc, source.outline(), words, schedule, word))
         }
         Reply::NotMade(line) => Outcome::NotMade(line),
+    }
+}
+
+// How much was added to an outline.
+fn infer_note(alloc: Global, inferred: &Inferred, json: bool) -> Result<Option<Vec<u8>>, AllocError>
+    ensures { IsNote (IsInferNote json inferred.now) result }
+{
+    let text = inferred.remark(alloc, json)?;
+    Ok(Some(text))
+}
+
+// A completed outline of this own text, and beside it how much was added.
+fn beside_completed(
+    alloc: Global,
+    own: &[u8],
+    inferred: Inferred,
+    json: bool,
+) -> Result<Report, AllocError>
+    requires { length own.now ≤ 2 ^ 20 }
+    ensures { IfOk result (λ report. IsPrinted json own.now inferred report.answer
+        × Noted (IsInferNote json inferred) report) }
+{
+    let note = infer_note(alloc, &inferred, json);
+    let answer = inferred.into_answer(alloc, own, json)?;
+    Ok(Report { answer, note })
+}
+
+/// The outcome of an inference for an outline.
+pub(crate) fn beside_inferred<'a>(
+    alloc: Global,
+    subject: &Subject<'_>,
+    reply: Inferring<'a>,
+    json: bool,
+) -> Result<Outcome<'a>, Fault<'a>>
+    requires { IsShort (subject_of subject.now) }
+    ensures outcome { IfOk result (FollowsInferring json (subject_of subject.now) reply.entry) }
+    ensures want { IfErr result (IsWant ⊥) }
+{
+    match reply {
+        Inferring::Inferred(inferred) => Ok(Outcome::Report(beside_completed(
+            alloc,
+            subject.own,
+            inferred,
+            json,
+        )?)),
+        Inferring::BadValue(word) => Ok(Outcome::BadValue(bad_value(
+            alloc,
+            Gives::Ranges,
+            subject.outline,
+            word,
+        ))),
     }
 }
 

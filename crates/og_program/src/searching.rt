@@ -13,9 +13,9 @@ ghost use Rattle.og_words.specs.Jobs.{word_bytes};
 ghost use Rattle.og_program.specs.World.{named, world_of};
 ghost use Rattle.og_program.specs.Opened.{One, LeavesInput, lacks};
 ghost use Rattle.og_program.specs.Failing.{IsFault, IsUnread, IsWant};
-ghost use Rattle.og_program.specs.Commands.{report_form, takes_for, Finds, ProvesOutline, Proves, Shows};
+ghost use Rattle.og_program.specs.Commands.{report_form, takes_for, Finds, InfersOutline, Infers, ProvesOutline, Proves, Shows};
 
-use crate::beside::{beside_found, beside_reply};
+use crate::beside::{beside_found, beside_inferred, beside_reply};
 use crate::fault::Fault;
 use crate::files::Files;
 use crate::given::Given;
@@ -23,13 +23,14 @@ use crate::outcome::Outcome;
 use crate::program::Program;
 use crate::refusing::refuse_source;
 use og_command_check::{CERTS_LIMIT, FindReply, Wanted, found};
+use og_command_infer::{Effort, Inferrer};
 use og_command_prove::{Prover, ReportForm, Search};
-use og_io::MomentLimit;
+use og_io::{Budget, MomentLimit};
 use og_judge::Refusal;
 use og_pool::Gate;
 use og_template_outline::Takes;
 use og_typed::Source;
-use og_words::{Find, Prove, Show};
+use og_words::{Find, Infer, Prove, Show};
 use std::io::Read;
 use std::sync::Wait;
 use std::thread::Threads;
@@ -55,6 +56,14 @@ fn takes(runs: Option<MomentLimit>) -> Takes
     }
 }
 
+// The budget with which `prove` searches where none is given.
+fn usual_budget() -> Budget {
+    match Budget::new(100_000) {
+        Some(budget) => budget,
+        None => unreachable!(),
+    }
+}
+
 impl<'r, F: Files, G: Gate, H: Threads + Wait + Sync> Program<'r, F, G, H> {
     // A prover that searches so.
     fn prover(&self, search: Search) -> Prover<'r, G, H>
@@ -65,6 +74,23 @@ impl<'r, F: Files, G: Gate, H: Threads + Wait + Sync> Program<'r, F, G, H> {
             alloc: self.alloc,
             gate: self.gate,
             search,
+        }
+    }
+
+    // What completes outlines as these words ask for.
+    fn inferrer(&self, infer: &Infer<'_>) -> Inferrer<'r, G, H>
+        ensures { result.effort.workers ≡ infer.now.workers }
+    {
+        Inferrer {
+            rt: self.rt,
+            alloc: self.alloc,
+            gate: self.gate,
+            effort: Effort {
+                proof: usual_budget(),
+                budget: infer.budget,
+                limit: infer.limit,
+                workers: infer.workers,
+            },
         }
     }
 
@@ -139,6 +165,46 @@ impl<'r, F: Files, G: Gate, H: Threads + Wait + Sync> Program<'r, F, G, H> {
         };
         match self.given(show.source, &show.words, takes(show.runs), input)? {
             Ok(given) => self.proved(show.source, &given, search, ReportForm::Page),
+            Err(outcome) => Ok(outcome),
+        }
+    }
+
+    // An outline that a text of this name means, completed, and what is proved of it.
+    fn completed<'a>(&self, infer: &Infer<'a>, given: &Given<'a>) -> Result<Outcome<'a>, Fault<'a>>
+        requires meaning { IsMeaning given.now.text.items given.now.reading.meaning }
+        ensures outcome { IfOk result (λ outcome. (s : Subject) × Means given.now.text.items s
+            × InfersOutline infer.now.json (named infer.now.source.now given.now.text.items) s
+            (word_bytes given.now.reading.starts.items) outcome) }
+        ensures want { IfErr result (IsWant (1 < infer.now.workers)) }
+    {
+        let subject = given.subject();
+        let form = report_form(infer.json);
+        match self
+            .inferrer(infer)
+            .infer(&subject, &given.reading.starts, form)
+        {
+            Ok(reply) => beside_inferred(self.alloc, &subject, reply, infer.json),
+            Err(refusal) => refuse_source(self.alloc, infer.source, &given.text, refusal),
+        }
+    }
+
+    /// The outline of a source, or of a template under the values that the words give, completed by
+    /// assertions that a search finds.
+    pub(crate) fn infer<'a, I: Read>(
+        &self,
+        infer: &Infer<'a>,
+        input: &mut I,
+    ) -> Result<Outcome<'a>, Fault<'a>>
+        ensures outcome { IfOk result (Infers
+            (world_of F.contents F.is_missing I.remaining self.now input.old) infer.now) }
+        ensures fault { IfErr result (IsFault (One infer.now.source.now) (1 < infer.now.workers)) }
+        ensures missing { lacks (F.is_missing self.now.files.now) (One infer.now.source.now) ≡ true
+            → IsUnread result }
+        ensures kept { LeavesInput (One infer.now.source.now)
+            → I.remaining input.new ≡ I.remaining input.old }
+    {
+        match self.given(infer.source, &infer.words, Takes::Starts, input)? {
+            Ok(given) => self.completed(infer, &given),
             Err(outcome) => Ok(outcome),
         }
     }

@@ -39,6 +39,7 @@ impl<'r, F: Files, G: Gate, H: Threads + Wait + Sync> Program<'r, F, G, H> {
         match job {
             Job::Joined => self.joined(input),
             Job::Prove(prove) => self.prove(prove, input),
+            Job::Infer(infer) => self.infer(infer, input),
             Job::Check(check) => self.check(check, input),
             Job::Notes(notes) => self.notes(notes, input),
             Job::Show(show) => self.show(show, input),
@@ -93,7 +94,7 @@ fn explain<O: Write, E: Write>(alloc: Global, usage: Usage, out: &mut O, err: &m
 /// Does a job, or says why there is none. What a command prints goes to standard output, with its
 /// status, from 0 to 2. Beside it goes to standard error why something is refused, how many
 /// certificates are missing for a check or were not found, or the line of a run along which an
-/// assertion is false; and else nothing. Status 0 of `prove`, of `show`, of a check and of a run
+/// assertion is false; and else nothing. Status 0 of `prove`, `infer`, `show`, of a check and of a run
 /// with certificates says that the source is proven; and where what was printed says that it is
 /// unblocked, that it never gets stuck. Standard input is read where a source or certificates are
 /// named `-`, and for a job that has no files.

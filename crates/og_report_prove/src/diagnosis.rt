@@ -1,12 +1,13 @@
 //! The verdict on a condition.
 
-ghost use Rattle.std.specs.Prelude.{◌≡◌, IfOk};
+ghost use Rattle.std.specs.Prelude.{◌≡◌, Err, IfOk, IfErr};
 ghost use Rattle.og_cond.specs.Seen.{seen};
 ghost use Rattle.og_find.specs.Found.{IsVerdict, IsFalseAt};
 ghost use Rattle.og_typed.specs.Plain.{noted};
 ghost use Rattle.og_report_text.specs.Conjuncts.{conjuncts};
 ghost use Rattle.og_report_prove.specs.Numbers.{false_numbers, fault_numbers};
 ghost use Rattle.og_report_explain.specs.Explanations.{AreAllowed};
+ghost use Rattle.og_report_explain.specs.declared.unexplained.Unexplained.TheVariants as unexplained;
 ghost use Rattle.og_report_prove.specs.Diagnosis.{IsBlock, IsDiagnosis, IsOfBlock, IsAllowed, Follows};
 
 use crate::block::{Block, Details};
@@ -169,7 +170,8 @@ impl<'a> Diagnosis<'a> {
     ///
     /// An allocation was refused when the block was made.
     pub fn of_block(block: Result<Block<'a>, Unexplained>) -> Result<Diagnosis<'a>, AllocError>
-        ensures { IfOk result (IsOfBlock block.entry) }
+        ensures finding { IfOk result (IsOfBlock block.entry) }
+        ensures refused { IfErr result (λ _. block.entry ≡ Err unexplained.Memory) }
     {
         match block {
             Ok(block) => Ok(Diagnosis::False(block)),

@@ -10,7 +10,7 @@ ghost use Rattle.og_report_prove.specs.Json.{state_data, after_data, conjunct_da
 use crate::block::Block;
 use crate::diagnosis::Diagnosis;
 use crate::unproved::Entry;
-use crate::values::{digits_value, name_of, put_values, text_of};
+use crate::values::{digits_value, name_of, put_values, utf8_text};
 use og_report_explain::Fault;
 use og_report_text::{Places, list_value, put_assertion, set_number};
 use og_text::Name;
@@ -46,7 +46,7 @@ fn conjunct_value(alloc: Global, names: &[Name], assert: &Assert) -> Result<Valu
 {
     let mut text = Vec::new(alloc);
     put_assertion(&mut text, names, assert)?;
-    Value::try_from_str(alloc, text_of(&text))
+    Value::try_from_str(alloc, utf8_text(&text))
 }
 
 /// The texts of assertions.

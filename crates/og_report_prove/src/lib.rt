@@ -30,4 +30,4 @@ pub use reporting::{
 pub use sentences::put_part;
 pub use together::repeats;
 pub use unproved::diagnosis_value;
-pub use values::{put_optional, put_values};
+pub use values::{put_optional, put_values, utf8_text};

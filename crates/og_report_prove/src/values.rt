@@ -10,8 +10,8 @@ use og_text::Name;
 use serde_json::{Map, Value, put};
 use std::alloc::{AllocError, Global};
 
-/// The text with these bytes; no text where they are not UTF-8.
-pub(crate) fn text_of(bytes: &[u8]) -> &str
+/// The text with these bytes; no text where they are not UTF-8. Takes no memory.
+pub fn utf8_text(bytes: &[u8]) -> &str
     ensures { result.now ≡ utf8_text bytes.now }
 {
     match str::from_utf8(bytes) {
@@ -25,8 +25,8 @@ pub(crate) fn name_of(names: &[Name], var: u32) -> &str
     ensures { result.now ≡ name_of names.now var }
 {
     match names.get(var as usize) {
-        Some(name) => text_of(name.as_slice()),
-        None => text_of(b""),
+        Some(name) => utf8_text(name.as_slice()),
+        None => utf8_text(b""),
     }
 }
 

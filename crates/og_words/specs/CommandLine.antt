@@ -70,6 +70,12 @@ workers = number (codes "workers") (codes "1") (Signed (pos 1) (pos 64))
 abbrev pub budget : Rule
 budget = number (codes "budget") (codes "100000") (Unsigned 1 1000000000)
 
+abbrev pub infer_budget : Rule
+infer_budget = number (codes "budget") (codes "20000") (Unsigned 1 1000000000)
+
+abbrev pub questions : Rule
+questions = number (codes "limit") (codes "100000") (Unsigned 1 1000000000)
+
 abbrev pub version : Rule
 version = number (codes "version") (codes "1") (Signed (pos 1) (pos 2))
 
@@ -91,6 +97,11 @@ abbrev pub prover : Shape
 prover =
     command (codes "prove") (source ∷ budget ∷ workers ∷ flag (codes "json") ∷ flag (codes "runs")
     ∷ run_moments ∷ ranges ∷ [])
+
+abbrev pub infer : Shape
+infer =
+    command (codes "infer")
+    (source ∷ infer_budget ∷ questions ∷ workers ∷ flag (codes "json") ∷ ranges ∷ [])
 
 abbrev pub check : Shape
 check = command (codes "check") (source ∷ certs ∷ workers ∷ flag (codes "json") ∷ [])
@@ -153,6 +164,6 @@ og = record {
     has_version = true;
   };
   subs =
-      prover ∷ check ∷ notes ∷ show ∷ conditions ∷ finder ∷ erase ∷ run ∷ explorer ∷ expander
+      prover ∷ infer ∷ check ∷ notes ∷ show ∷ conditions ∷ finder ∷ erase ∷ run ∷ explorer ∷ expander
       ∷ migrate ∷ [];
 }

@@ -11,6 +11,7 @@ use Rattle.og_words.specs.declared.job.Erase.{Erase}
 use Rattle.og_words.specs.declared.job.Expand.{Expand}
 use Rattle.og_words.specs.declared.job.Explore.{Explore}
 use Rattle.og_words.specs.declared.job.Find.{Find}
+use Rattle.og_words.specs.declared.job.Infer.{Infer}
 use Rattle.og_words.specs.declared.job.Migrate.{Migrate}
 use Rattle.og_words.specs.declared.job.Notes.{Notes}
 use Rattle.og_words.specs.declared.job.Prove.{Prove}
@@ -23,6 +24,7 @@ use Rattle.og_words.specs.declared.job.Usage.TheVariants as usages
 
 abbrev pub verb_name : Verb → List ℕ
 verb_name verbs.Prove = codes "prove"
+verb_name verbs.Infer = codes "infer"
 verb_name verbs.Check = codes "check"
 verb_name verbs.Notes = codes "notes"
 verb_name verbs.Show = codes "show"
@@ -37,6 +39,7 @@ verb_name verbs.Migrate = codes "migrate"
 -- how the words behind a source are named, of a command that takes some
 abbrev pub words_form : Verb → Option (List ℕ)
 words_form verbs.Prove = Some (codes "NAME=INT|LO..HI")
+words_form verbs.Infer = Some (codes "NAME=INT|LO..HI")
 words_form verbs.Check = None
 words_form verbs.Notes = Some (codes "NAME=INT")
 words_form verbs.Show = Some (codes "NAME=INT|LO..HI")
@@ -56,6 +59,7 @@ HasWords rows form words = IfSome form (λ name. words ≡ texts_of name rows)
 abbrev pub command_of : Job → Option (List ℕ)
 command_of jobs.Joined = None
 command_of (jobs.Prove prove) = Some (codes "prove")
+command_of (jobs.Infer infer) = Some (codes "infer")
 command_of (jobs.Check check) = Some (codes "check")
 command_of (jobs.Notes notes) = Some (codes "notes")
 command_of (jobs.Show show) = Some (codes "show")
@@ -86,6 +90,14 @@ pub record HoldsProve (rows : List Row) (prove : Prove) : Type 0 where
   pub json : prove.json ≡ is_given (codes "json") rows
   pub words : word_bytes prove.words.items ≡ texts_of (codes "NAME=INT|LO..HI") rows
   pub runs : HoldsRuns rows prove.runs
+
+pub record HoldsInfer (rows : List Row) (infer : Infer) : Type 0 where
+  pub source : text_of (codes "SOURCE") rows ≡ Some infer.source.now
+  pub budget : number_of (codes "budget") rows ≡ Some infer.budget
+  pub limit : number_of (codes "limit") rows ≡ Some infer.limit
+  pub workers : number_of (codes "workers") rows ≡ Some infer.workers
+  pub json : infer.json ≡ is_given (codes "json") rows
+  pub words : word_bytes infer.words.items ≡ texts_of (codes "NAME=INT|LO..HI") rows
 
 pub record HoldsCheck (rows : List Row) (check : Check) : Type 0 where
   pub source : text_of (codes "SOURCE") rows ≡ Some check.source.now
@@ -148,6 +160,7 @@ pub record HoldsMigrate (rows : List Row) (migrate : Migrate) : Type 0 where
 abbrev pub Holds : List Row → Job → Type 0
 Holds rows jobs.Joined = ⊤
 Holds rows (jobs.Prove prove) = HoldsProve rows prove
+Holds rows (jobs.Infer infer) = HoldsInfer rows infer
 Holds rows (jobs.Check check) = HoldsCheck rows check
 Holds rows (jobs.Notes notes) = HoldsNotes rows notes
 Holds rows (jobs.Show show) = HoldsShow rows show

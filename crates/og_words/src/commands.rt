@@ -208,6 +208,38 @@ fn prove_command<'a>(alloc: Global) -> Result<Command<'a>, AllocError>
     with_arg(prove, Ok(start_words_arg(alloc)))
 }
 
+// How many steps a search for an assertion may make.
+fn infer_budget_arg<'a>(alloc: Global) -> Arg<'a>
+    ensures { IsArg line.infer_budget result }
+{
+    let bounds = clap::value_parser!(u64).range(1..=1000000000);
+    let help = "How many steps a search may make for each question, 1 to 1000000000";
+    number_arg(alloc, "budget", "20000", bounds, help)
+}
+
+fn questions_arg<'a>(alloc: Global) -> Arg<'a>
+    ensures { IsArg line.questions result }
+{
+    let bounds = clap::value_parser!(u64).range(1..=1000000000);
+    let help = "How many questions may be asked, 1 to 1000000000";
+    number_arg(alloc, "limit", "100000", bounds, help)
+}
+
+fn infer_command<'a>(alloc: Global) -> Result<Command<'a>, AllocError>
+    ensures { IfOk result (IsCommand line.infer) }
+{
+    let about = "Complete an outline by assertions that prove it";
+    let workers = workers_arg(alloc, "How many threads work, 1 to 64");
+    let help =
+        "A constant's value, where SOURCE is a template; or a variable's value at the start, or its values";
+    let infer = with_arg(Ok(command(alloc, "infer", about)), Ok(source_arg(alloc)));
+    let infer = with_arg(infer, Ok(infer_budget_arg(alloc)));
+    let infer = with_arg(infer, Ok(questions_arg(alloc)));
+    let infer = with_arg(infer, Ok(workers));
+    let infer = with_arg(infer, Ok(json_arg(alloc)));
+    with_arg(infer, Ok(ranges_arg(alloc, help)))
+}
+
 fn check_command<'a>(alloc: Global) -> Result<Command<'a>, AllocError>
     ensures { IfOk result (IsCommand line.check) }
 {
@@ -393,6 +425,7 @@ pub(crate) fn program<'a>(alloc: Global) -> Result<Command<'a>, AllocError>
     ensures { IfOk result (λ r. app_of r ≡ line.og) }
 {
     let program = with_word(without_commands(alloc), prove_command(alloc));
+    let program = with_word(program, infer_command(alloc));
     let program = with_word(program, check_command(alloc));
     let program = with_word(program, notes_command(alloc));
     let program = with_word(program, show_command(alloc));

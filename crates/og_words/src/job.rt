@@ -11,6 +11,7 @@ use std::alloc::{AllocError, AllocFailed, Global};
 #[derive(Clone, Copy)]
 pub(crate) enum Verb {
     Prove,
+    Infer,
     Check,
     Notes,
     Show,
@@ -30,6 +31,8 @@ pub enum Job<'a> {
     Joined,
     /// Search for the certificates of an outline, or of a template's, and judge it by them.
     Prove(Prove<'a>),
+    /// Search for the assertions that an outline, or a template's, lacks, and print it with them.
+    Infer(Infer<'a>),
     /// Check an outline by its certificates.
     Check(Check<'a>),
     /// Print what a yes of an outline, or of a template's, claims and what it does not.
@@ -69,6 +72,24 @@ pub struct Prove<'a> {
     /// Where runs are to be looked for that get to states in which conditions are false: how many
     /// moments may be looked at.
     pub runs: Option<MomentLimit>,
+}
+
+/// The arguments of `infer`.
+#[derive(Debug, Drop)]
+pub struct Infer<'a> {
+    /// The file of the outline or the template; `-` is standard input.
+    pub source: &'a str,
+    /// How many steps each search may make.
+    pub budget: Budget,
+    /// How many searches may be made in all.
+    pub limit: Budget,
+    /// How many threads work.
+    pub workers: Workers,
+    /// Whether what was added, and the report, are to be JSON.
+    pub json: bool,
+    /// Words that give a template's constants their values, and variables their values, or ranges
+    /// of them, at the start.
+    pub words: Vec<&'a str>,
 }
 
 /// The arguments of `check`.

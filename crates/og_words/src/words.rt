@@ -8,8 +8,8 @@ ghost use Rattle.og_words.specs.Jobs.{verb_name, words_form, command_of, word_by
 
 use crate::commands::program;
 use crate::job::{
-    Check, Conditions, Erase, Expand, Explore, Find, Job, Migrate, Notes, Prove, Run, Show, Usage,
-    Verb,
+    Check, Conditions, Erase, Expand, Explore, Find, Infer, Job, Migrate, Notes, Prove, Run, Show,
+    Usage, Verb,
 };
 use clap::ArgMatches;
 use clap::error::{Error, ErrorKind};
@@ -21,6 +21,7 @@ fn verb_of(word: &str) -> Option<Verb>
 {
     match word {
         "prove" => Some(Verb::Prove),
+        "infer" => Some(Verb::Infer),
         "check" => Some(Verb::Check),
         "notes" => Some(Verb::Notes),
         "show" => Some(Verb::Show),
@@ -79,6 +80,12 @@ fn moments_of(m: &ArgMatches<'_>) -> Option<MomentLimit>
     MomentLimit::new(m.get_one::<u32>("limit")?)
 }
 
+fn questions_of(m: &ArgMatches<'_>) -> Option<Budget>
+    ensures { IfSome result (λ n. number_of (codes "limit") (rows_of (found_of m.now)) ≡ Some n) }
+{
+    Budget::new(m.get_one::<u64>("limit")?)
+}
+
 // How many moments may be looked at for runs, where the flag says to look for them.
 fn runs_of(m: &ArgMatches<'_>) -> Option<Option<MomentLimit>>
     ensures { IfSome result (HoldsRuns (rows_of (found_of m.now))) }
@@ -88,6 +95,25 @@ fn runs_of(m: &ArgMatches<'_>) -> Option<Option<MomentLimit>>
     } else {
         Some(None)
     }
+}
+
+fn infer_job<'a>(m: &ArgMatches<'a>, words: Vec<&'a str>) -> Option<Job<'a>>
+    requires { word_bytes words.items ≡ texts_of (codes "NAME=INT|LO..HI")
+        (rows_of (found_of m.now)) }
+    ensures command { IfSome result (λ job. command_of job ≡ Some (verb_name Verb.Infer)) }
+    ensures holds { IfSome result (Holds (rows_of (found_of m.now))) }
+{
+    let source = text_of(m, "SOURCE")?;
+    let (budget, limit) = (budget_of(m)?, questions_of(m)?);
+    let (workers, json) = (workers_of(m)?, has_flag(m, "json"));
+    Some(Job::Infer(Infer {
+        source,
+        budget,
+        limit,
+        workers,
+        json,
+        words,
+    }))
 }
 
 fn check_job<'a>(m: &ArgMatches<'a>) -> Option<Job<'a>>
@@ -260,7 +286,7 @@ fn words_form(verb: Verb) -> Option<&'static str>
 {
     match verb {
         Verb::Notes | Verb::Run | Verb::Expand => Some("NAME=INT"),
-        Verb::Prove | Verb::Show | Verb::Explore => Some("NAME=INT|LO..HI"),
+        Verb::Prove | Verb::Infer | Verb::Show | Verb::Explore => Some("NAME=INT|LO..HI"),
         Verb::Check | Verb::Conditions | Verb::Find | Verb::Erase | Verb::Migrate => None,
     }
 }
@@ -284,6 +310,7 @@ fn job_with<'a>(verb: Verb, m: &ArgMatches<'a>, words: Vec<&'a str>) -> Option<J
 {
     match verb {
         Verb::Prove => prove_job(m, words),
+        Verb::Infer => infer_job(m, words),
         Verb::Check => check_job(m),
         Verb::Notes => notes_job(m, words),
         Verb::Show => show_job(m, words),

@@ -17,7 +17,7 @@ returns-in-True-clause-diagnosis c =
 
 pub returns-in-False-clause-diagnosis : goal.returns-in-False-clause-diagnosis
 returns-in-False-clause-diagnosis c =
-    by_block (IsDiagnosis c.args.outline.now (seen c.args.condition.now)) c.block_at.result c.of_block.result c.block_at.ensures.block tt c.of_block.ensures
+    by_block (IsDiagnosis c.args.outline.now (seen c.args.condition.now)) c.block_at.result c.of_block.result c.block_at.ensures.block tt c.of_block.ensures.finding
 
 pub returns-in-False-clause-allowed : goal.returns-in-False-clause-allowed
 returns-in-False-clause-allowed c =
@@ -25,9 +25,9 @@ returns-in-False-clause-allowed c =
     let state = c.in-False.state in
     let allowed = both c.block_at.result (λ (b : Block). b.values ≡ state) (λ (b : Block). AreAllowed o state b.details.value.explanation.fault) (λ (b : Block). AreAllowed o b.values b.details.value.explanation.fault)
     (λ b v a. subst (λ values. AreAllowed o values b.details.value.explanation.fault) (sym v) a) c.block_at.ensures.state c.block_at.ensures.allowed in
-    by_block (IsAllowed o) c.block_at.result c.of_block.result allowed tt c.of_block.ensures
+    by_block (IsAllowed o) c.block_at.result c.of_block.result allowed tt c.of_block.ensures.finding
 
 pub returns-in-False-clause-follows : goal.returns-in-False-clause-follows
 returns-in-False-clause-follows c =
     subst (λ v. IfOk c.of_block.result (Follows v)) (sym c.in-False.is)
-    (by_block (IsOfState c.in-False.state) c.block_at.result c.of_block.result c.block_at.ensures.state tt c.of_block.ensures)
+    (by_block (IsOfState c.in-False.state) c.block_at.result c.of_block.result c.block_at.ensures.state tt c.of_block.ensures.finding)

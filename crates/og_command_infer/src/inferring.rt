@@ -1,0 +1,237 @@
+//! From an outline and words to a completed outline.
+
+ghost use Rattle.std.specs.Prelude.{◌≡◌, ◌≤◌, ◌<◌, ◌^◌, ℕ, false, map, length, Ok, Err, IfOk, IfErr, IfSome};
+ghost use Rattle.og_typed.specs.Source.{IsSource};
+ghost use Rattle.og_judge.specs.NotJudged.{OnInput};
+ghost use Rattle.og_judge.specs.declared.refusal.Refusal.TheVariants as refusals;
+ghost use Rattle.og_completion.specs.Completes.{Completes};
+ghost use Rattle.og_command_prove.specs.Reply.{WarrantsAnswer};
+ghost use Rattle.og_report_text.specs.InputErrors.{IsFaultOfCount};
+ghost use Rattle.og_report_text.specs.Subject.{subject_of, IsShort};
+ghost use Rattle.og_command_infer.specs.Inferred.{IsReply, IsCompleted, IsJudged, IsCompletion};
+
+use crate::edit::{Edit, edited};
+use crate::inferrer::{Added, Inferred, Inferrer, Reply, count_of};
+use crate::placing::edits;
+use og_command_explore::{WordsError, given};
+use og_command_prove::ReportForm;
+use og_completion::{
+    completed_by_itself, completes, progress_of_completed, soundness_of_completed,
+};
+use og_explore::Range;
+use og_infer::{Addition, Limits, infer};
+use og_infer_places::{Places, starts};
+use og_judge::Refusal;
+use og_pool::{Gate, PoolFault};
+use og_report_text::{Answer, Subject};
+use og_typed::{Outline, Source, SourceError};
+use std::alloc::AllocError;
+use std::sync::Wait;
+use std::thread::Threads;
+
+// The starts that are sampled.
+const STARTS: u32 = 24;
+
+// A law: what a report warrants of an outline, it warrants of each one that this completes.
+fn warranted(new: &Outline, old: &Outline)
+    ensures { Completes new.now old.now → (form : ReportForm) (report : Answer)
+        → WarrantsAnswer form false new.now report → WarrantsAnswer form false old.now report }
+{
+    new.follows_rule();
+    old.follows_rule();
+    soundness_of_completed();
+    progress_of_completed();
+}
+
+// The answer; none where an input is refused.
+fn unless_refused(judged: Result<Answer, Refusal>) -> Result<Option<Answer>, Refusal>
+    ensures answer { IfOk result (λ some. IfSome some (λ answer. judged ≡ Ok answer)) }
+    ensures refused { IfErr result (λ e. (judged ≡ Err e) × OnInput (λ _. ⊥) e) }
+{
+    match judged {
+        Ok(answer) => Ok(Some(answer)),
+        Err(Refusal::Input(_)) => Ok(None),
+        Err(Refusal::Spawn) => Err(Refusal::Spawn),
+        Err(Refusal::Memory) => Err(Refusal::Memory),
+    }
+}
+
+impl<'r, G: Gate, H: Threads + Wait + Sync> Inferrer<'r, G, H> {
+    // The conjuncts that a search finds.
+    fn additions(
+        &self,
+        outline: &Outline,
+        given: &[Option<Range>],
+    ) -> Result<Vec<Addition>, Refusal>
+        ensures refused { IfErr result (OnInput (λ _. ⊥)) }
+        ensures spawn { IfErr result (λ e. e ≡ refusals.Spawn → 1 < self.now.effort.workers) }
+    {
+        let starts = starts(self.alloc, outline, given, STARTS)?;
+        let limits = Limits {
+            budget: self.effort.budget.facts(),
+            questions: self.effort.limit.facts(),
+            workers: self.effort.workers.count(),
+        };
+        match infer(self.rt, self.alloc, outline, &starts, &limits) {
+            Ok(inferred) => Ok(inferred.additions),
+            Err(PoolFault::Memory) => Err(Refusal::Memory),
+            Err(PoolFault::Spawn) if limits.workers > 1 => Err(Refusal::Spawn),
+            // One worker starts no thread.
+            Err(PoolFault::Spawn) => Ok(Vec::new(self.alloc)),
+        }
+    }
+
+    // How many notes the outline has, the pre- and postcondition left out.
+    fn notes_of(&self, outline: &Outline) -> Result<u32, AllocError> {
+        let places = Places::of(self.alloc, outline)?;
+        Ok(count_of(places.as_slice().len()))
+    }
+
+    // What `prove` reports of an outline in its own text.
+    fn judged<'t>(
+        &self,
+        outline: &'t Outline,
+        text: &'t [u8],
+        form: ReportForm,
+    ) -> Result<Answer, Refusal>
+        requires { length text.now ≤ 2 ^ 20 }
+        ensures report { IfOk result (IsJudged form outline.now text.now) }
+        ensures refused { IfErr result (OnInput (IsFaultOfCount outline.now)) }
+        ensures spawn { IfErr result (λ e. e ≡ refusals.Spawn → 1 < self.now.effort.workers) }
+    {
+        let subject = Subject {
+            outline,
+            own: text,
+            given: text,
+            rows: None,
+        };
+        match self.prover().prove(&subject, &[], form)? {
+            og_command_explore::Reply::Answer(answer) => Ok(answer),
+            og_command_explore::Reply::BadValue(_) => unreachable!(),
+        }
+    }
+
+    // What `prove` reports of a source, if its outline completes this one.
+    fn judged_source(
+        &self,
+        outline: &Outline,
+        source: &Source<'_>,
+        form: ReportForm,
+    ) -> Result<Option<Answer>, Refusal>
+        ensures report { IfOk result
+            (λ some. IfSome some (IsCompletion form outline.now source.now.bytes)) }
+        ensures refused { IfErr result (OnInput (λ _. ⊥)) }
+        ensures spawn { IfErr result (λ e. e ≡ refusals.Spawn → 1 < self.now.effort.workers) }
+    {
+        let new = source.outline();
+        if !completes(new, outline) {
+            return Ok(None);
+        }
+        warranted(new, outline);
+        unless_refused(self.judged(new, source.bytes(), form))
+    }
+
+    // What `prove` reports of the outline of an edited text, if it completes this one.
+    fn judged_edited(
+        &self,
+        outline: &Outline,
+        text: &[u8],
+        form: ReportForm,
+    ) -> Result<Option<Answer>, Refusal>
+        ensures report { IfOk result (λ some. IfSome some (IsCompletion form outline.now text.now)) }
+        ensures refused { IfErr result (OnInput (λ _. ⊥)) }
+        ensures spawn { IfErr result (λ e. e ≡ refusals.Spawn → 1 < self.now.effort.workers) }
+    {
+        match Source::read(self.alloc, text) {
+            Ok(source) => self.judged_source(outline, &source, form),
+            Err(SourceError::Memory) => Err(Refusal::Memory),
+            Err(SourceError::Fault(_)) => Ok(None),
+        }
+    }
+
+    // The text with these conjuncts added, if it is found to be a completion.
+    fn with_additions(
+        &self,
+        subject: &Subject<'_>,
+        additions: &[Addition],
+        form: ReportForm,
+    ) -> Result<Option<Inferred>, Refusal>
+        ensures completed { IfOk result (λ some. IfSome some (IsCompleted form (subject_of subject.now))) }
+        ensures refused { IfErr result (OnInput (λ _. ⊥)) }
+        ensures spawn { IfErr result (λ e. e ≡ refusals.Spawn → 1 < self.now.effort.workers) }
+    {
+        let edits = edits(self.alloc, subject.own, additions)?;
+        let Some(text) = edited(self.alloc, subject.own, &edits)? else {
+            return Ok(None);
+        };
+        let Some(report) = self.judged_edited(subject.outline, &text, form)? else {
+            return Ok(None);
+        };
+        Ok(Some(Inferred {
+            text,
+            edits,
+            added: Added::of(additions, self.notes_of(subject.outline)?),
+            report,
+        }))
+    }
+
+    // The outline as it is.
+    fn unchanged(&self, subject: &Subject<'_>, form: ReportForm) -> Result<Inferred, Refusal>
+        requires short { IsShort (subject_of subject.now) }
+        requires source { IsSource subject.now.own.now subject.now.outline.now }
+        ensures completed { IfOk result (IsCompleted form (subject_of subject.now)) }
+        ensures refused { IfErr result (OnInput (IsFaultOfCount subject.now.outline.now)) }
+        ensures spawn { IfErr result (λ e. e ≡ refusals.Spawn → 1 < self.now.effort.workers) }
+    {
+        subject.outline.follows_rule();
+        completed_by_itself();
+        let report = self.judged(subject.outline, subject.own, form)?;
+        let text = Vec::from_slice(self.alloc, subject.own)?;
+        Ok(Inferred {
+            text,
+            edits: Vec::new(self.alloc),
+            added: Added::of(&[], self.notes_of(subject.outline)?),
+            report,
+        })
+    }
+
+    /// The outline of a text of its own, of at most 1,048,576 bytes, with the conjuncts added to its
+    /// notes that a search finds for it to be proved, and what `prove` reports of that, in a form.
+    /// The words say where the runs start from which the search takes its samples, each NAME=INT or
+    /// NAME=LO..HI. The text is as it was but for conjuncts at the end of notes, for notes that were
+    /// `true`, and for parentheses round what a note says.
+    ///
+    /// Status 0 of the report says that every run of the given outline is as promised, with its
+    /// auxiliaries and without them. The answer is the same for every number of workers.
+    ///
+    /// `BadValue` holds the first word that gives no variable a range.
+    ///
+    /// # Errors
+    ///
+    /// `Input`: the outline has more than 4,000,000 conditions. `Spawn`, of two workers or more,
+    /// where a thread could not be started. `Memory` where an allocation was refused.
+    pub fn infer<'a>(
+        &self,
+        subject: &Subject<'_>,
+        words: &[&'a str],
+        form: ReportForm,
+    ) -> Result<Reply<'a>, Refusal>
+        requires short { IsShort (subject_of subject.now) }
+        requires source { IsSource subject.now.own.now subject.now.outline.now }
+        ensures reply { IfOk result
+            (IsReply form (subject_of subject.now) (map (λ w. w.now) words.now)) }
+        ensures refused { IfErr result (OnInput (IsFaultOfCount subject.now.outline.now)) }
+        ensures spawn { IfErr result (λ e. e ≡ refusals.Spawn → 1 < self.now.effort.workers) }
+    {
+        let given = match given(self.alloc, subject.outline, words) {
+            Ok(given) => given,
+            Err(WordsError::Bad(word)) => return Ok(Reply::BadValue(word)),
+            Err(WordsError::Memory) => return Err(Refusal::Memory),
+        };
+        let additions = self.additions(subject.outline, &given)?;
+        match self.with_additions(subject, &additions, form)? {
+            Some(inferred) => Ok(Reply::Inferred(inferred)),
+            None => Ok(Reply::Inferred(self.unchanged(subject, form)?)),
+        }
+    }
+}

@@ -1,0 +1,33 @@
+//! How far a search goes, and what it hands out.
+
+/// How far a search goes. It counts questions and steps, never seconds.
+#[derive(Clone, Copy, Debug)]
+pub struct Limits {
+    /// The steps of each question, as of `og_find::examine`: 20,000 are usual.
+    pub budget: u64,
+    /// How many questions may be asked in all: 100,000 are usual.
+    pub questions: u64,
+    /// How many threads search, 1 to 64; below and above it is the nearest of these.
+    pub workers: u32,
+}
+
+/// What is added to one assertion.
+#[derive(Debug, Drop)]
+pub struct Addition {
+    /// The byte offset of the `{` of the assertion.
+    pub at: u32,
+    /// The conjuncts in the order in which they are printed, each as in a source. One that has an
+    /// `or` is in parentheses, unless it is the whole assertion, which was `true` before.
+    pub conjuncts: Vec<Vec<u8>>,
+}
+
+/// What a search found.
+#[derive(Debug, Drop)]
+pub struct Inferred {
+    /// What is added, by rising offsets. There is none where nothing is needed, or nothing helps.
+    pub additions: Vec<Addition>,
+    /// The tier of candidates from which the conjuncts come, 1 or 2; 0 where none was finished.
+    pub tier: u8,
+    /// How many questions were asked.
+    pub questions: u64,
+}

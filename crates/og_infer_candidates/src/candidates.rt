@@ -1,0 +1,301 @@
+//! What was true of all states so far at one place.
+
+use crate::bits::Bits;
+use crate::candidate::Candidate;
+use crate::hull::Hull;
+use crate::universe::Universe;
+use og_infer_literals::{Relation, Sum, count, sum_at};
+use std::alloc::{AllocError, Global};
+
+/// How far the bounds of a sum that stand alone are true.
+#[derive(Clone, Copy, PartialEq)]
+pub(crate) struct Extent {
+    /// The place of the first bound that the sum never exceeded.
+    pub(crate) above: usize,
+    /// How many bounds, the first ones, the sum was never below.
+    pub(crate) below: usize,
+}
+
+/// The candidates of one place: what was true of all states that it admitted.
+#[derive(Drop)]
+pub struct Candidates {
+    alloc: Global,
+    version: u64,
+    /// For each literal of clauses those with which it makes a clause that was true. A literal that
+    /// was true alone makes one with itself.
+    pub(crate) pairs: Vec<Bits>,
+    /// By sums.
+    pub(crate) extents: Vec<Extent>,
+    /// Which clauses of the text were true.
+    pub(crate) texts: Bits,
+    pub(crate) hull: Hull,
+    /// The equations under each flag.
+    pub(crate) under: Vec<Hull>,
+}
+
+// The rows of all literals before the first state.
+fn all_pairs(alloc: Global, universe: &Universe) -> Result<Vec<Bits>, AllocError> {
+    let mut rows = Vec::with_capacity(alloc, universe.literals.clausal as usize)?;
+    for literal in 0..universe.literals.clausal {
+        rows.push(match universe.partners(literal) {
+            Some(partners) => partners.copy()?,
+            None => Bits::none(alloc, 0)?,
+        })?;
+    }
+    Ok(rows)
+}
+
+// All bounds of each sum.
+fn all_extents(alloc: Global, sums: &[Sum]) -> Result<Vec<Extent>, AllocError> {
+    let mut extents = Vec::with_capacity(alloc, sums.len())?;
+    for sum in sums {
+        extents.push(Extent {
+            above: 0,
+            below: sum.bounds.len(),
+        })?;
+    }
+    Ok(extents)
+}
+
+// Whether one of the literals is in the set.
+fn any_of(literals: &[u32], mask: &Bits) -> bool {
+    literals.iter().any(|literal| mask.has(*literal))
+}
+
+impl Extent {
+    // The extent where the sum has this value too.
+    fn with(self, sum: &Sum, value: i128) -> Extent {
+        let least = sum
+            .bounds
+            .partition_point(|bound| i128::from(*bound) < value);
+        let most = sum
+            .bounds
+            .partition_point(|bound| i128::from(*bound) <= value);
+        Extent {
+            above: self.above.max(least),
+            below: self.below.min(most),
+        }
+    }
+}
+
+impl Candidates {
+    /// All candidates: no state was admitted yet.
+    ///
+    /// # Errors
+    ///
+    /// An allocation was refused.
+    pub fn new(alloc: Global, universe: &Universe) -> Result<Candidates, AllocError> {
+        let mut under = Vec::new(alloc);
+        for _ in &universe.flags {
+            under.push(Hull::new(alloc))?;
+        }
+        Ok(Candidates {
+            alloc,
+            version: 0,
+            pairs: all_pairs(alloc, universe)?,
+            extents: all_extents(alloc, &universe.literals.sums)?,
+            texts: Bits::all(alloc, count(&universe.literals.texts))?,
+            hull: Hull::new(alloc),
+            under,
+        })
+    }
+
+    /// How often they changed.
+    pub fn version(&self) -> u64 {
+        self.version
+    }
+
+    // Takes the clauses of two literals out that the state makes false. Whether there were some.
+    fn admit_pairs(&mut self, universe: &Universe, mask: &Bits) -> bool {
+        let mut changed = false;
+        for (literal, row) in (0..universe.literals.clausal).zip(self.pairs.iter_mut()) {
+            if !mask.has(literal) {
+                changed |= row.keep(mask);
+            }
+        }
+        changed
+    }
+
+    // Takes the bounds out that the values exceed. Whether there were some.
+    fn admit_bounds(&mut self, universe: &Universe, values: &[i64]) -> bool {
+        let mut changed = false;
+        for (sum, extent) in universe.literals.sums.iter().zip(self.extents.iter_mut()) {
+            if !sum.bounds.is_empty() {
+                let wider = match sum_at(&sum.terms, values) {
+                    Some(value) => extent.with(sum, value),
+                    None => Extent {
+                        above: sum.bounds.len(),
+                        below: 0,
+                    },
+                };
+                changed |= wider != *extent;
+                *extent = wider;
+            }
+        }
+        changed
+    }
+
+    // The clauses of the text that the state makes true.
+    fn true_texts(&self, universe: &Universe, mask: &Bits) -> Result<Bits, AllocError> {
+        let texts = &universe.literals.texts;
+        let mut kept = Bits::none(self.alloc, count(texts))?;
+        for (number, text) in (0..count(texts)).zip(texts) {
+            if any_of(text, mask) {
+                kept.add(number);
+            }
+        }
+        Ok(kept)
+    }
+
+    // Weakens the equations under each flag that is true.
+    fn admit_under(
+        &mut self,
+        universe: &Universe,
+        values: &[i64],
+        mask: &Bits,
+    ) -> Result<bool, AllocError> {
+        let mut changed = false;
+        for (flag, hull) in universe.flags.iter().zip(self.under.iter_mut()) {
+            if mask.has(*flag) {
+                changed |= hull.admit(self.alloc, values, universe.room)?;
+            }
+        }
+        Ok(changed)
+    }
+
+    /// Weakens the candidates so that they are true of the values, whose mask is given. Whether
+    /// something changed.
+    ///
+    /// # Errors
+    ///
+    /// An allocation was refused. The candidates may be weakened in part then.
+    pub fn admit(
+        &mut self,
+        universe: &Universe,
+        values: &[i64],
+        mask: &Bits,
+    ) -> Result<bool, AllocError> {
+        let mut changed = self.hull.admit(self.alloc, values, universe.room)?;
+        changed |= self.admit_under(universe, values, mask)?;
+        let texts = self.true_texts(universe, mask)?;
+        changed |= self.texts.keep(&texts);
+        changed |= self.admit_bounds(universe, values);
+        changed |= self.admit_pairs(universe, mask);
+        if changed {
+            self.version = self.version.saturating_add(1);
+        }
+        Ok(changed)
+    }
+
+    // Whether no clause of two literals is false.
+    fn admits_pairs(&self, universe: &Universe, mask: &Bits) -> bool {
+        let mut rows = (0..universe.literals.clausal).zip(&self.pairs);
+        rows.all(|(literal, row)| mask.has(literal) || row.is_within(mask))
+    }
+
+    // Whether no bound is exceeded.
+    fn admits_bounds(&self, universe: &Universe, values: &[i64]) -> bool {
+        for (sum, extent) in universe.literals.sums.iter().zip(&self.extents) {
+            if !sum.bounds.is_empty() {
+                match sum_at(&sum.terms, values) {
+                    Some(value) if extent.with(sum, value) == *extent => {}
+                    _ => return false,
+                }
+            }
+        }
+        true
+    }
+
+    // Whether no clause of the text is false.
+    fn admits_texts(&self, universe: &Universe, mask: &Bits) -> bool {
+        let texts = &universe.literals.texts;
+        let mut all = (0..count(texts)).zip(texts);
+        all.all(|(number, text)| !self.texts.has(number) || any_of(text, mask))
+    }
+
+    // Whether the equations under each flag that is true are.
+    fn admits_under(&self, universe: &Universe, values: &[i64], mask: &Bits) -> bool {
+        let mut hulls = universe.flags.iter().zip(&self.under);
+        hulls.all(|(flag, hull)| !mask.has(*flag) || hull.admits(values))
+    }
+
+    /// Whether all candidates are true of the values, whose mask is given.
+    pub fn admits(&self, universe: &Universe, values: &[i64], mask: &Bits) -> bool {
+        self.hull.admits(values)
+            && self.admits_pairs(universe, mask)
+            && self.admits_bounds(universe, values)
+            && self.admits_texts(universe, mask)
+            && self.admits_under(universe, values, mask)
+    }
+
+    // Whether a bound that stands alone was true of all states.
+    fn has_bound(&self, universe: &Universe, literal: u32) -> bool {
+        let (Some(number), Some(sum), Some(comparison)) = (
+            universe.literals.sum_number(literal),
+            universe.literals.sum(literal),
+            universe.literals.comparison(literal),
+        ) else {
+            return false;
+        };
+        match (
+            sum.bound_place(comparison.bound),
+            self.extents.get(number as usize),
+        ) {
+            (Some(place), Some(extent)) => match comparison.relation {
+                Relation::AtMost => place >= extent.above,
+                _ => place < extent.below,
+            },
+            _ => false,
+        }
+    }
+
+    /// Whether a clause of one or two of these literals was true of all states.
+    pub(crate) fn has_part(&self, clause: &[u32]) -> bool {
+        clause.iter().any(|literal| {
+            matches!(self.pairs.get(*literal as usize), Some(row) if any_of(clause, row))
+        })
+    }
+
+    // Whether a clause of the text with no other literals was true of all states.
+    fn has_text(&self, universe: &Universe, clause: &[u32]) -> bool {
+        let texts = &universe.literals.texts;
+        let mut all = (0..count(texts)).zip(texts);
+        all.any(|(number, text)| {
+            self.texts.has(number) && text.iter().all(|literal| clause.contains(literal))
+        })
+    }
+
+    // Whether the clause was true of all states.
+    fn has_clause(&self, universe: &Universe, clause: &[u32]) -> bool {
+        match clause {
+            [only] if *only >= universe.literals.clausal => self.has_bound(universe, *only),
+            _ => self.has_part(clause) || self.has_text(universe, clause),
+        }
+    }
+
+    /// Whether the candidate was true of all states that were admitted, as far as these candidates
+    /// say.
+    ///
+    /// # Errors
+    ///
+    /// An allocation was refused.
+    pub fn has(
+        &self,
+        alloc: Global,
+        universe: &Universe,
+        candidate: &Candidate,
+    ) -> Result<bool, AllocError> {
+        match candidate {
+            Candidate::False => Ok(!self.hull.is_begun),
+            Candidate::Equation(equation) => self.hull.implies(alloc, equation),
+            Candidate::Clause(clause) => Ok(self.has_clause(universe, clause)),
+            Candidate::Under { literal, equation } => {
+                let mut flags = universe.flags.iter().zip(&self.under);
+                match flags.find(|(flag, _)| **flag == *literal) {
+                    Some((_, hull)) => hull.implies(alloc, equation),
+                    None => Ok(false),
+                }
+            }
+        }
+    }
+}
