@@ -8,7 +8,7 @@ use Rattle.og_report_text.specs.Numbers.{natural}
 use Rattle.og_report_text.specs.Places.{position_of}
 use Rattle.og_report_prove.specs.Members.{utf8_text}
 use Rattle.og_report_text.specs.declared.answer.Answer.{Answer}
-use Rattle.og_command_infer.specs.declared.edit.Edit.{Edit}
+use Rattle.og_infer_marks.specs.declared.edit.Edit.{Edit}
 use Rattle.og_command_infer.specs.declared.inferrer.Added.{Added}
 use Rattle.og_command_infer.specs.declared.inferrer.Inferred.{Inferred}
 
@@ -51,10 +51,17 @@ abbrev pub yes_or_no : Bool → List ℕ
 yes_or_no true = codes "yes"
 yes_or_no false = codes "no"
 
+-- so many of what a word says
+abbrev pub counted : ℕ → List ℕ → List ℕ
+counted n word = decimal n ++ (word ++ (if n == 1 then [] else codes "s"))
+
+abbrev pub auxiliaries_text : ℕ → List ℕ
+auxiliaries_text n = if n == 0 then [] else counted n (codes " auxiliary variable") ++ codes " and "
+
 abbrev pub added_text : Added → List ℕ
 added_text added =
-    codes "added " ++ (decimal added.conjuncts ++ (codes " conjuncts in " ++ (decimal added.notes
-    ++ (codes " of " ++ (decimal added.places ++ codes " notes")))))
+    codes "added " ++ (auxiliaries_text added.auxiliaries ++ (counted added.conjuncts (codes " conjunct")
+    ++ (codes " in " ++ (decimal added.notes ++ (codes " of " ++ counted added.places (codes " note"))))))
 
 abbrev pub verdict_text : Bool → Bool → List ℕ
 verdict_text safe unblocked =

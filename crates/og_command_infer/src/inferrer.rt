@@ -2,9 +2,9 @@
 
 ghost use Rattle.std.specs.Prelude.{◌≡◌, None};
 
-use crate::edit::Edit;
 use og_command_prove::{Prover, Search};
 use og_infer::Addition;
+use og_infer_marks::Edit;
 use og_io::{Budget, Workers};
 use og_report_text::Answer;
 use std::alloc::Global;
@@ -21,6 +21,8 @@ pub struct Effort {
     pub limit: Budget,
     /// How many workers search.
     pub workers: Workers,
+    /// Whether auxiliary variables may be added where assertions alone do not suffice.
+    pub aux: bool,
 }
 
 /// What an inference is made with: threads, memory, the gate of the searches, and how they are made.
@@ -40,6 +42,8 @@ pub struct Inferrer<'r, G, H> {
 /// How much was added to an outline.
 #[derive(Clone, Copy, Debug, Drop, PartialEq, Eq)]
 pub struct Added {
+    /// How many auxiliary variables.
+    pub auxiliaries: u32,
     /// How many conjuncts.
     pub conjuncts: u32,
     /// To how many notes.
@@ -54,9 +58,10 @@ pub(crate) fn count_of(count: usize) -> u32 {
 }
 
 impl Added {
-    // These conjuncts, in an outline with as many notes.
-    pub(crate) fn of(additions: &[Addition], places: u32) -> Added {
+    // As many auxiliaries and these conjuncts, in an outline with as many notes.
+    pub(crate) fn of(auxiliaries: usize, additions: &[Addition], places: u32) -> Added {
         let mut added = Added {
+            auxiliaries: count_of(auxiliaries),
             conjuncts: 0,
             notes: 0,
             places,

@@ -10,8 +10,8 @@ ghost use Rattle.og_report_text.specs.InputErrors.{IsFaultOfCount};
 ghost use Rattle.og_report_text.specs.Subject.{subject_of, IsShort};
 ghost use Rattle.og_command_infer.specs.Inferred.{IsReply, IsCompleted, IsJudged, IsCompletion};
 
-use crate::edit::{Edit, edited};
 use crate::inferrer::{Added, Inferred, Inferrer, Reply, count_of};
+use crate::original::not_found;
 use crate::placing::edits;
 use og_command_explore::{WordsError, given};
 use og_command_prove::ReportForm;
@@ -19,7 +19,8 @@ use og_completion::{
     completed_by_itself, completes, progress_of_completed, soundness_of_completed,
 };
 use og_explore::Range;
-use og_infer::{Addition, Limits, infer};
+use og_infer::{Addition, Inferred as Found, Limits, Wanted, infer};
+use og_infer_marks::{Edit, edited};
 use og_infer_places::{Places, starts};
 use og_judge::Refusal;
 use og_pool::{Gate, PoolFault};
@@ -31,6 +32,9 @@ use std::thread::Threads;
 
 // The starts that are sampled.
 const STARTS: u32 = 24;
+
+// How many tiers of candidates there are.
+pub(crate) const TIERS: u8 = 2;
 
 // A law: what a report warrants of an outline, it warrants of each one that this completes.
 fn warranted(new: &Outline, old: &Outline)
@@ -56,28 +60,41 @@ fn unless_refused(judged: Result<Answer, Refusal>) -> Result<Option<Answer>, Ref
     }
 }
 
+/// How far a search of conjuncts goes, and what it hands out.
+#[derive(Clone, Copy)]
+pub(crate) struct Reach {
+    /// How many questions it may ask.
+    pub(crate) questions: u64,
+    /// The last tier of candidates.
+    pub(crate) tiers: u8,
+    /// What it hands out.
+    pub(crate) wanted: Wanted,
+}
+
 impl<'r, G: Gate, H: Threads + Wait + Sync> Inferrer<'r, G, H> {
-    // The conjuncts that a search finds.
-    fn additions(
+    /// What a search finds of an outline whose runs start so.
+    pub(crate) fn found(
         &self,
         outline: &Outline,
         given: &[Option<Range>],
-    ) -> Result<Vec<Addition>, Refusal>
+        reach: Reach,
+    ) -> Result<Found, Refusal>
         ensures refused { IfErr result (OnInput (λ _. ⊥)) }
         ensures spawn { IfErr result (λ e. e ≡ refusals.Spawn → 1 < self.now.effort.workers) }
     {
         let starts = starts(self.alloc, outline, given, STARTS)?;
         let limits = Limits {
             budget: self.effort.budget.facts(),
-            questions: self.effort.limit.facts(),
+            questions: reach.questions,
             workers: self.effort.workers.count(),
+            tiers: reach.tiers,
         };
-        match infer(self.rt, self.alloc, outline, &starts, &limits) {
-            Ok(inferred) => Ok(inferred.additions),
+        match infer(self.rt, self.alloc, outline, &starts, &limits, reach.wanted) {
+            Ok(found) => Ok(found),
             Err(PoolFault::Memory) => Err(Refusal::Memory),
             Err(PoolFault::Spawn) if limits.workers > 1 => Err(Refusal::Spawn),
             // One worker starts no thread.
-            Err(PoolFault::Spawn) => Ok(Vec::new(self.alloc)),
+            Err(PoolFault::Spawn) => Ok(not_found(self.alloc)),
         }
     }
 
@@ -149,18 +166,21 @@ impl<'r, G: Gate, H: Threads + Wait + Sync> Inferrer<'r, G, H> {
         }
     }
 
-    // The text with these conjuncts added, if it is found to be a completion.
-    fn with_additions(
+    /// The text with these edits made, if it is found to be a completion.
+    pub(crate) fn with_edits(
         &self,
         subject: &Subject<'_>,
-        additions: &[Addition],
+        edits: Vec<Edit>,
+        added: Added,
         form: ReportForm,
     ) -> Result<Option<Inferred>, Refusal>
-        ensures completed { IfOk result (λ some. IfSome some (IsCompleted form (subject_of subject.now))) }
+        ensures completed { IfOk result (λ some. IfSome some
+            (λ i. (i.text.items ≡ edited i.edits.items 0 subject.now.own.now)
+            × (i.edits.items ≡ edits.items)
+            × IsCompletion form subject.now.outline.now i.text.items i.report)) }
         ensures refused { IfErr result (OnInput (λ _. ⊥)) }
         ensures spawn { IfErr result (λ e. e ≡ refusals.Spawn → 1 < self.now.effort.workers) }
     {
-        let edits = edits(self.alloc, subject.own, additions)?;
         let Some(text) = edited(self.alloc, subject.own, &edits)? else {
             return Ok(None);
         };
@@ -170,16 +190,32 @@ impl<'r, G: Gate, H: Threads + Wait + Sync> Inferrer<'r, G, H> {
         Ok(Some(Inferred {
             text,
             edits,
-            added: Added::of(additions, self.notes_of(subject.outline)?),
+            added,
             report,
         }))
+    }
+
+    // The text with these conjuncts added, if it is found to be a completion.
+    fn with_additions(
+        &self,
+        subject: &Subject<'_>,
+        additions: &[Addition],
+        form: ReportForm,
+    ) -> Result<Option<Inferred>, Refusal>
+        ensures completed { IfOk result (λ some. IfSome some (IsCompleted form false (subject_of subject.now))) }
+        ensures refused { IfErr result (OnInput (λ _. ⊥)) }
+        ensures spawn { IfErr result (λ e. e ≡ refusals.Spawn → 1 < self.now.effort.workers) }
+    {
+        let edits = edits(self.alloc, subject.own, additions)?;
+        let added = Added::of(0, additions, self.notes_of(subject.outline)?);
+        self.with_edits(subject, edits, added, form)
     }
 
     // The outline as it is.
     fn unchanged(&self, subject: &Subject<'_>, form: ReportForm) -> Result<Inferred, Refusal>
         requires short { IsShort (subject_of subject.now) }
         requires source { IsSource subject.now.own.now subject.now.outline.now }
-        ensures completed { IfOk result (IsCompleted form (subject_of subject.now)) }
+        ensures completed { IfOk result (IsCompleted form false (subject_of subject.now)) }
         ensures refused { IfErr result (OnInput (IsFaultOfCount subject.now.outline.now)) }
         ensures spawn { IfErr result (λ e. e ≡ refusals.Spawn → 1 < self.now.effort.workers) }
     {
@@ -190,16 +226,68 @@ impl<'r, G: Gate, H: Threads + Wait + Sync> Inferrer<'r, G, H> {
         Ok(Inferred {
             text,
             edits: Vec::new(self.alloc),
-            added: Added::of(&[], self.notes_of(subject.outline)?),
+            added: Added::of(0, &[], self.notes_of(subject.outline)?),
             report,
         })
+    }
+
+    // The outline with the conjuncts that were found for it, or as it is.
+    fn completed(
+        &self,
+        subject: &Subject<'_>,
+        found: &Found,
+        form: ReportForm,
+    ) -> Result<Inferred, Refusal>
+        requires short { IsShort (subject_of subject.now) }
+        requires source { IsSource subject.now.own.now subject.now.outline.now }
+        ensures completed { IfOk result (IsCompleted form false (subject_of subject.now)) }
+        ensures refused { IfErr result (OnInput (IsFaultOfCount subject.now.outline.now)) }
+        ensures spawn { IfErr result (λ e. e ≡ refusals.Spawn → 1 < self.now.effort.workers) }
+    {
+        match self.with_additions(subject, &found.additions, form)? {
+            Some(inferred) => Ok(inferred),
+            None => self.unchanged(subject, form),
+        }
+    }
+
+    // The outline completed by what a search finds for it.
+    fn inferred(
+        &self,
+        subject: &Subject<'_>,
+        given: &[Option<Range>],
+        form: ReportForm,
+    ) -> Result<Inferred, Refusal>
+        requires short { IsShort (subject_of subject.now) }
+        requires source { IsSource subject.now.own.now subject.now.outline.now }
+        ensures completed { IfOk result
+            (IsCompleted form self.now.effort.aux (subject_of subject.now)) }
+        ensures refused { IfErr result (OnInput (IsFaultOfCount subject.now.outline.now)) }
+        ensures spawn { IfErr result (λ e. e ≡ refusals.Spawn → 1 < self.now.effort.workers) }
+    {
+        let aux = self.effort.aux;
+        let limit = self.effort.limit.facts();
+        let reach = Reach {
+            // The other half is left for auxiliaries.
+            questions: if aux { limit / 2 } else { limit },
+            tiers: TIERS,
+            wanted: Wanted::Conjuncts,
+        };
+        let found = self.found(subject.outline, given, reach)?;
+        if aux && !found.is_complete && found.tier > 0 {
+            let left = limit.saturating_sub(found.questions);
+            if let Some(inferred) = self.invented(subject, given, form, left)? {
+                return Ok(inferred);
+            }
+        }
+        self.completed(subject, &found, form)
     }
 
     /// The outline of a text of its own, of at most 1,048,576 bytes, with the conjuncts added to its
     /// notes that a search finds for it to be proved, and what `prove` reports of that, in a form.
     /// The words say where the runs start from which the search takes its samples, each NAME=INT or
     /// NAME=LO..HI. The text is as it was but for conjuncts at the end of notes, for notes that were
-    /// `true`, and for parentheses round what a note says.
+    /// `true`, and for parentheses round what a note says; and where auxiliaries may be added and are
+    /// needed, for their declarations, and for assignments to them behind actions.
     ///
     /// Status 0 of the report says that every run of the given outline is as promised, with its
     /// auxiliaries and without them. The answer is the same for every number of workers.
@@ -219,7 +307,7 @@ impl<'r, G: Gate, H: Threads + Wait + Sync> Inferrer<'r, G, H> {
         requires short { IsShort (subject_of subject.now) }
         requires source { IsSource subject.now.own.now subject.now.outline.now }
         ensures reply { IfOk result
-            (IsReply form (subject_of subject.now) (map (λ w. w.now) words.now)) }
+            (IsReply form self.now.effort.aux (subject_of subject.now) (map (λ w. w.now) words.now)) }
         ensures refused { IfErr result (OnInput (IsFaultOfCount subject.now.outline.now)) }
         ensures spawn { IfErr result (λ e. e ≡ refusals.Spawn → 1 < self.now.effort.workers) }
     {
@@ -228,10 +316,6 @@ impl<'r, G: Gate, H: Threads + Wait + Sync> Inferrer<'r, G, H> {
             Err(WordsError::Bad(word)) => return Ok(Reply::BadValue(word)),
             Err(WordsError::Memory) => return Err(Refusal::Memory),
         };
-        let additions = self.additions(subject.outline, &given)?;
-        match self.with_additions(subject, &additions, form)? {
-            Some(inferred) => Ok(Reply::Inferred(inferred)),
-            None => Ok(Reply::Inferred(self.unchanged(subject, form)?)),
-        }
+        Ok(Reply::Inferred(self.inferred(subject, &given, form)?))
     }
 }

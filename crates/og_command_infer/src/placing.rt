@@ -3,8 +3,8 @@
 ghost use Rattle.std.specs.Prelude.{◌≡◌, true, All, IfOk, OnOk};
 ghost use Rattle.og_command_infer.specs.Edits.{AreInBraces, IsInBraces};
 
-use crate::edit::Edit;
 use og_infer::Addition;
+use og_infer_marks::Edit;
 use og_text::{LexError, Token, TokenKind, lex};
 use std::alloc::{AllocError, Global};
 
@@ -44,7 +44,7 @@ fn is_loose(tokens: &[Token]) -> bool {
 }
 
 // The conjuncts, joined by `and`.
-fn joined(alloc: Global, conjuncts: &[Vec<u8>]) -> Result<Vec<u8>, AllocError> {
+pub(crate) fn joined(alloc: Global, conjuncts: &[Vec<u8>]) -> Result<Vec<u8>, AllocError> {
     let mut text = Vec::new(alloc);
     for (index, conjunct) in conjuncts.iter().enumerate() {
         if index > 0 {

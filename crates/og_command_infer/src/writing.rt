@@ -2,10 +2,10 @@
 
 ghost use Rattle.std.specs.Prelude.{◌≡◌, ◌≤◌, ◌^◌, ◌++◌, ℕ, length, map, take, IfOk, OnOk};
 ghost use Rattle.serde_json.specs.View.{view};
-ghost use Rattle.og_command_infer.specs.Printed.{edit_data, edits_text, json_text, printed_text, IsPrinted, yes_or_no, added_text, verdict_text, IsRemark};
+ghost use Rattle.og_command_infer.specs.Printed.{edit_data, edits_text, json_text, printed_text, IsPrinted, yes_or_no, counted, auxiliaries_text, added_text, verdict_text, IsRemark};
 
-use crate::edit::Edit;
 use crate::inferrer::{Added, Inferred};
+use og_infer_marks::Edit;
 use og_report_prove::utf8_text;
 use og_report_text::{Answer, Places, bytes_of, list_value, put_number};
 use serde_json::{Value, json};
@@ -68,16 +68,38 @@ fn yes_or_no(yes: bool) -> &'static [u8]
     if yes { b"yes" } else { b"no" }
 }
 
+// Adds a number, and a word of which there are so many.
+fn put_counted(text: &mut Vec<u8>, count: u32, word: &[u8]) -> Result<(), AllocError>
+    ensures { OnOk result (text.new.items ≡ text.old.items ++ counted count word.now) }
+{
+    put_number(text, count as u128)?;
+    text.extend_from_slice(word)?;
+    if count == 1 {
+        return Ok(());
+    }
+    text.extend_from_slice(b"s")
+}
+
+fn put_auxiliaries(text: &mut Vec<u8>, count: u32) -> Result<(), AllocError>
+    ensures { OnOk result (text.new.items ≡ text.old.items ++ auxiliaries_text count) }
+{
+    if count == 0 {
+        return Ok(());
+    }
+    put_counted(text, count, b" auxiliary variable")?;
+    text.extend_from_slice(b" and ")
+}
+
 fn put_added(text: &mut Vec<u8>, added: Added) -> Result<(), AllocError>
     ensures { OnOk result (text.new.items ≡ text.old.items ++ added_text added) }
 {
     text.extend_from_slice(b"added ")?;
-    put_number(text, added.conjuncts as u128)?;
-    text.extend_from_slice(b" conjuncts in ")?;
+    put_auxiliaries(text, added.auxiliaries)?;
+    put_counted(text, added.conjuncts, b" conjunct")?;
+    text.extend_from_slice(b" in ")?;
     put_number(text, added.notes as u128)?;
     text.extend_from_slice(b" of ")?;
-    put_number(text, added.places as u128)?;
-    text.extend_from_slice(b" notes")
+    put_counted(text, added.places, b" note")
 }
 
 // Adds a label and the answer.

@@ -1,7 +1,7 @@
 //! The search over the tiers of candidates.
 
 use crate::exchanges::{Exchange, exchanges};
-use crate::limits::{Inferred, Limits};
+use crate::limits::{Inferred, Limits, Wanted};
 use crate::needing::Needs;
 use crate::printing::additions;
 use crate::refuting::are_refuted;
@@ -34,8 +34,8 @@ const WALKS: u64 = 6_000;
 /// How many claims are verdicts at a time.
 const MOST_AT_A_TIME: usize = 32;
 
-/// The number after that of the last tier.
-const TIERS_END: u8 = 3;
+/// The greatest tier.
+const TIERS: u8 = 2;
 
 // Which claims are proved, and which are not.
 #[derive(Drop)]
@@ -45,6 +45,11 @@ struct Verdicts {
 }
 
 impl Verdicts {
+    // Whether all claims are proved.
+    fn is_complete(&self) -> bool {
+        self.failing.is_empty()
+    }
+
     // Adds a claim.
     fn add(&mut self, duty: Duty, proof: &Proof) -> Result<(), AllocError> {
         if matches!(proof.settled, Settled::True) {
@@ -75,11 +80,12 @@ struct Search<'a, 'o> {
     questions: Questions,
 }
 
-// Where nothing is looked for or found.
-fn nothing(alloc: Global, questions: u64) -> Inferred {
+// What is handed out without additions.
+fn bare(alloc: Global, is_complete: bool, tier: u8, questions: u64) -> Inferred {
     Inferred {
         additions: Vec::new(alloc),
-        tier: 0,
+        is_complete,
+        tier,
         questions,
     }
 }
@@ -204,9 +210,10 @@ impl<'a, 'o> Search<'a, 'o> {
     fn best<R: Threads + Wait + Sync>(
         &mut self,
         pool: &Pool<'_, R>,
+        tiers: u8,
     ) -> Result<Option<Tried>, PoolFault> {
         let mut best = None;
-        for tier in 1..TIERS_END {
+        for tier in 1..tiers.min(TIERS) + 1 {
             self.questions.keep_half();
             let Some(tried) = self.attempt(pool, tier)? else {
                 break;
@@ -221,7 +228,7 @@ impl<'a, 'o> Search<'a, 'o> {
     }
 
     // The conjuncts that support what the candidates prove.
-    fn finished<R: Threads + Wait + Sync>(
+    fn supported<R: Threads + Wait + Sync>(
         &mut self,
         pool: &Pool<'_, R>,
         tried: Tried,
@@ -244,9 +251,32 @@ impl<'a, 'o> Search<'a, 'o> {
         let lists = shrinking.shrink(pool, claims, &mut self.questions)?;
         Ok(Inferred {
             additions: additions(self.scene.alloc, self.places, &universe, &lists)?,
+            is_complete: verdicts.is_complete(),
             tier,
             questions: self.questions.asked(),
         })
+    }
+
+    // What is handed out of the candidates that were tried.
+    fn finished<R: Threads + Wait + Sync>(
+        &mut self,
+        pool: &Pool<'_, R>,
+        best: Option<Tried>,
+        wanted: Wanted,
+    ) -> Result<Inferred, PoolFault> {
+        let (alloc, asked) = (self.scene.alloc, self.questions.asked());
+        let Some(tried) = best else {
+            return Ok(bare(alloc, false, 0, asked));
+        };
+        match wanted {
+            Wanted::Conjuncts => self.supported(pool, tried),
+            Wanted::Completeness => Ok(bare(
+                alloc,
+                tried.verdicts.is_complete(),
+                tried.tier,
+                asked,
+            )),
+        }
     }
 }
 
@@ -254,6 +284,8 @@ impl<'a, 'o> Search<'a, 'o> {
 /// postcondition, that values fit, the author's assertions, and that the processes never all wait,
 /// as far as candidates of two tiers do. Each of the starts is a range for each variable that is
 /// no auxiliary; the states of runs from them are the samples.
+///
+/// Where only completeness is wanted, there are no additions.
 ///
 /// Nothing is promised of what is found. It is the same for every number of workers. There are no
 /// additions where all of that is proved without, where the outline has more than 2,000 places or
@@ -269,10 +301,11 @@ pub fn infer<R: Threads + Wait + Sync>(
     outline: &Outline,
     starts: &[Vec<Range>],
     limits: &Limits,
+    wanted: Wanted,
 ) -> Result<Inferred, PoolFault> {
     let places = Places::of(alloc, outline)?;
     let Some(scene) = scene_of(alloc, &places, limits.budget)? else {
-        return Ok(nothing(alloc, 0));
+        return Ok(bare(alloc, false, 0, 0));
     };
     let pool = Pool {
         rt,
@@ -281,7 +314,7 @@ pub fn infer<R: Threads + Wait + Sync>(
     };
     let mut questions = Questions::new(limits.questions);
     if is_proved(&pool, &scene, &mut questions)? {
-        return Ok(nothing(alloc, questions.asked()));
+        return Ok(bare(alloc, true, 0, questions.asked()));
     }
     let samples = sample(alloc, &places, starts, MOMENTS, WALKS)?;
     let exchanges = exchanges(alloc, &places)?;
@@ -292,9 +325,6 @@ pub fn infer<R: Threads + Wait + Sync>(
         exchanges: &exchanges,
         questions,
     };
-    let best = search.best(&pool)?;
-    match best {
-        Some(tried) => search.finished(&pool, tried),
-        None => Ok(nothing(alloc, search.questions.asked())),
-    }
+    let best = search.best(&pool, limits.tiers)?;
+    search.finished(&pool, best, wanted)
 }

@@ -17,4 +17,4 @@ mod support;
 mod unaided;
 
 pub use inferring::infer;
-pub use limits::{Addition, Inferred, Limits};
+pub use limits::{Addition, Inferred, Limits, Wanted};

@@ -9,6 +9,17 @@ pub struct Limits {
     pub questions: u64,
     /// How many threads search, 1 to 64; below and above it is the nearest of these.
     pub workers: u32,
+    /// The last tier of candidates, 1 or 2.
+    pub tiers: u8,
+}
+
+/// What a search is to hand out.
+#[derive(Clone, Copy, Debug, PartialEq, Eq)]
+pub enum Wanted {
+    /// The conjuncts.
+    Conjuncts,
+    /// Only whether there are some that prove the outline.
+    Completeness,
 }
 
 /// What is added to one assertion.
@@ -26,6 +37,8 @@ pub struct Addition {
 pub struct Inferred {
     /// What is added, by rising offsets. There is none where nothing is needed, or nothing helps.
     pub additions: Vec<Addition>,
+    /// Whether candidates prove all that is wanted.
+    pub is_complete: bool,
     /// The tier of candidates from which the conjuncts come, 1 or 2; 0 where none was finished.
     pub tier: u8,
     /// How many questions were asked.

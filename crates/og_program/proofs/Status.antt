@@ -212,16 +212,16 @@ of_show world out show o h done =
     (of_proves (takes_for runs) world show.source.now (word_bytes show.words.items) reports.Page runs out o h done).0
 
 -- a completed outline warrants what it says of the given one
-inferred : (json : Bool) (text : List ℕ) (s : Subject) (reply : Inferring) (words : List (List ℕ)) (out : Stream) (o : Outcome) → Means text s
-    → inferring.IsReply (report_form json) s words reply → FollowsInferring json s reply o → IsDone out o → HoldsOf IsProvenSource text
-inferred json text s (inferrings.Inferred i) words out o means is follows done =
+inferred : (json aux : Bool) (text : List ℕ) (s : Subject) (reply : Inferring) (words : List (List ℕ)) (out : Stream) (o : Outcome) → Means text s
+    → inferring.IsReply (report_form json) aux s words reply → FollowsInferring json s reply o → IsDone out o → HoldsOf IsProvenSource text
+inferred json aux text s (inferrings.Inferred i) words out o means is follows done =
     let r = on_report (λ report. IsPrinted json s.own i report.answer × Noted (IsInferNote json i) report) out o follows done in
     proven_text (is_template text) text s means (is.completion.warrants.0 (sym r.1.0.1 ∙ r.2))
-inferred json text s (inferrings.BadValue word) words out o means is follows done = absurd (no_word (IsValueRemark gives.Ranges s.outline) word out o follows done)
+inferred json aux text s (inferrings.BadValue word) words out o means is follows done = absurd (no_word (IsValueRemark gives.Ranges s.outline) word out o follows done)
 
 of_infer : (world : World) (out : Stream) (infer : Infer) (o : Outcome) → Infers world infer o → IsDone out o → IsProvenText world infer.source.now
 of_infer world out infer o (text, is, inl (s, starts, means, given, inl (reply, found, follows))) done =
-    (text, is, inferred infer.json text s reply starts out o means found follows done)
+    (text, is, inferred infer.json infer.aux text s reply starts out o means found follows done)
 of_infer world out infer o (text, is, inl (s, starts, means, given, inr refusal)) done =
     absurd (refused (IsFaultOfCount s.outline) (named infer.source.now text) [] out o refusal done)
 of_infer world out infer o (text, is, inr none) done = absurd (meaningless takes.Starts (named infer.source.now text) (word_bytes infer.words.items) out o none done)

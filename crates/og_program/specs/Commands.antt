@@ -187,16 +187,16 @@ FollowsInferring json s (inferrings.Inferred i) =
 FollowsInferring json s (inferrings.BadValue word) = OnBadValue (IsValueRemark gives.Ranges s.outline) word
 
 -- an outline completed, and what is proved of it; or that there are too many conditions
-abbrev pub InfersOutline : Bool → Text → Subject → List (List ℕ) → Outcome → Type 0
-InfersOutline json text s starts outcome =
-    ((reply : Inferring) × inferring.IsReply (report_form json) s starts reply
+abbrev pub InfersOutline : Bool → Bool → Text → Subject → List (List ℕ) → Outcome → Type 0
+InfersOutline json aux text s starts outcome =
+    ((reply : Inferring) × inferring.IsReply (report_form json) aux s starts reply
     × FollowsInferring json s reply outcome)
     ⊎ Refuses (IsFaultOfCount s.outline) text [] outcome
 
 abbrev pub Infers : World → Infer → Outcome → Type 0
 Infers world infer outcome =
     OfMeaning takes.Starts world infer.source.now (word_bytes infer.words.items)
-    (InfersOutline infer.json) outcome
+    (InfersOutline infer.json infer.aux) outcome
 
 -- ---- explore and notes
 

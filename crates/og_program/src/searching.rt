@@ -79,7 +79,8 @@ impl<'r, F: Files, G: Gate, H: Threads + Wait + Sync> Program<'r, F, G, H> {
 
     // What completes outlines as these words ask for.
     fn inferrer(&self, infer: &Infer<'_>) -> Inferrer<'r, G, H>
-        ensures { result.effort.workers ≡ infer.now.workers }
+        ensures workers { result.effort.workers ≡ infer.now.workers }
+        ensures aux { result.effort.aux ≡ infer.now.aux }
     {
         Inferrer {
             rt: self.rt,
@@ -90,6 +91,7 @@ impl<'r, F: Files, G: Gate, H: Threads + Wait + Sync> Program<'r, F, G, H> {
                 budget: infer.budget,
                 limit: infer.limit,
                 workers: infer.workers,
+                aux: infer.aux,
             },
         }
     }
@@ -173,7 +175,7 @@ impl<'r, F: Files, G: Gate, H: Threads + Wait + Sync> Program<'r, F, G, H> {
     fn completed<'a>(&self, infer: &Infer<'a>, given: &Given<'a>) -> Result<Outcome<'a>, Fault<'a>>
         requires meaning { IsMeaning given.now.text.items given.now.reading.meaning }
         ensures outcome { IfOk result (λ outcome. (s : Subject) × Means given.now.text.items s
-            × InfersOutline infer.now.json (named infer.now.source.now given.now.text.items) s
+            × InfersOutline infer.now.json infer.now.aux (named infer.now.source.now given.now.text.items) s
             (word_bytes given.now.reading.starts.items) outcome) }
         ensures want { IfErr result (IsWant (1 < infer.now.workers)) }
     {

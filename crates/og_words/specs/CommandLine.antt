@@ -101,7 +101,7 @@ prover =
 abbrev pub infer : Shape
 infer =
     command (codes "infer")
-    (source ∷ infer_budget ∷ questions ∷ workers ∷ flag (codes "json") ∷ ranges ∷ [])
+    (source ∷ flag (codes "aux") ∷ infer_budget ∷ questions ∷ workers ∷ flag (codes "json") ∷ ranges ∷ [])
 
 abbrev pub check : Shape
 check = command (codes "check") (source ∷ certs ∷ workers ∷ flag (codes "json") ∷ [])

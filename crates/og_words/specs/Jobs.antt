@@ -93,6 +93,7 @@ pub record HoldsProve (rows : List Row) (prove : Prove) : Type 0 where
 
 pub record HoldsInfer (rows : List Row) (infer : Infer) : Type 0 where
   pub source : text_of (codes "SOURCE") rows ≡ Some infer.source.now
+  pub aux : infer.aux ≡ is_given (codes "aux") rows
   pub budget : number_of (codes "budget") rows ≡ Some infer.budget
   pub limit : number_of (codes "limit") rows ≡ Some infer.limit
   pub workers : number_of (codes "workers") rows ≡ Some infer.workers

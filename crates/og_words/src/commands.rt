@@ -225,6 +225,16 @@ fn questions_arg<'a>(alloc: Global) -> Arg<'a>
     number_arg(alloc, "limit", "100000", bounds, help)
 }
 
+fn aux_arg<'a>(alloc: Global) -> Arg<'a>
+    ensures { IsArg (line.flag (codes "aux")) result }
+{
+    flag_arg(
+        alloc,
+        "aux",
+        "Invent auxiliary variables where assertions need some",
+    )
+}
+
 fn infer_command<'a>(alloc: Global) -> Result<Command<'a>, AllocError>
     ensures { IfOk result (IsCommand line.infer) }
 {
@@ -233,6 +243,7 @@ fn infer_command<'a>(alloc: Global) -> Result<Command<'a>, AllocError>
     let help =
         "A constant's value, where SOURCE is a template; or a variable's value at the start, or its values";
     let infer = with_arg(Ok(command(alloc, "infer", about)), Ok(source_arg(alloc)));
+    let infer = with_arg(infer, Ok(aux_arg(alloc)));
     let infer = with_arg(infer, Ok(infer_budget_arg(alloc)));
     let infer = with_arg(infer, Ok(questions_arg(alloc)));
     let infer = with_arg(infer, Ok(workers));

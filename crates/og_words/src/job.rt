@@ -79,6 +79,8 @@ pub struct Prove<'a> {
 pub struct Infer<'a> {
     /// The file of the outline or the template; `-` is standard input.
     pub source: &'a str,
+    /// Whether auxiliary variables may be invented.
+    pub aux: bool,
     /// How many steps each search may make.
     pub budget: Budget,
     /// How many searches may be made in all.

@@ -108,6 +108,7 @@ fn infer_job<'a>(m: &ArgMatches<'a>, words: Vec<&'a str>) -> Option<Job<'a>>
     let (workers, json) = (workers_of(m)?, has_flag(m, "json"));
     Some(Job::Infer(Infer {
         source,
+        aux: has_flag(m, "aux"),
         budget,
         limit,
         workers,

@@ -1,4 +1,4 @@
-use Rattle.std.proofs.Common.{◌≡◌, ◌<◌, inl, inr, subst, ℕ, List, [], IfOk}
+use Rattle.std.proofs.Common.{◌≡◌, ◌<◌, inl, inr, subst, ℕ, Bool, List, [], IfOk}
 use Rattle.std.proofs.lemmas.Result.{IfOk-weaker}
 use Rattle.std.specs.Borrow.{Bor}
 use Rattle.og_judge.specs.declared.refusal.Refusal.TheVariants as refusals
@@ -28,14 +28,15 @@ returns-in-Ok-clause-outcome g c =
     let words = word_bytes given.reading.starts.items in
     let reply = c.in-Ok.reply in
     IfOk-weaker c.beside_inferred.result (FollowsInferring infer.json s reply)
-    (λ outcome. (s : Subject) × Means given.text.items s × InfersOutline infer.json (named infer.source.now given.text.items) s words outcome)
+    (λ outcome. (s : Subject) × Means given.text.items s × InfersOutline infer.json infer.aux (named infer.source.now given.text.items) s words outcome)
     (λ outcome follows. (
       s,
       c.subject-subject.ensures.means,
       inl (
         reply,
-        subst (λ (f : ReportForm). IsReply f s words reply) c.report_form-form.ensures
-            (subst (λ (v : List (Bor (List ℕ))). IsReply c.report_form-form.result s (word_bytes v) reply) c.deref.ensures.value c.in-Ok.ensures.reply),
+        subst (λ (aux : Bool). IsReply (report_form infer.json) aux s words reply) c.inferrer.ensures.aux
+        (subst (λ (f : ReportForm). IsReply f c.inferrer.result.effort.aux s words reply) c.report_form-form.ensures
+            (subst (λ (v : List (Bor (List ℕ))). IsReply c.report_form-form.result c.inferrer.result.effort.aux s (word_bytes v) reply) c.deref.ensures.value c.in-Ok.ensures.reply)),
         follows,
       ),
     ))
@@ -56,7 +57,7 @@ returns-in-Err-clause-outcome g c =
     let infer = c.args.infer.now in
     let text = named infer.source.now given.text.items in
     IfOk-weaker c.refuse_source.result (Refuses (IsFaultOfCount s.outline) text [])
-    (λ outcome. (s : Subject) × Means given.text.items s × InfersOutline infer.json text s (word_bytes given.reading.starts.items) outcome)
+    (λ outcome. (s : Subject) × Means given.text.items s × InfersOutline infer.json infer.aux text s (word_bytes given.reading.starts.items) outcome)
     (λ outcome h. (s, c.subject-subject.ensures.means, inr h))
     (subst (λ (t : List ℕ). IfOk c.refuse_source.result (Refuses (IsFaultOfCount s.outline) (named infer.source.now t) [])) c.deref-in-Err.ensures.value
     (refuses (IsFaultOfCount s.outline) (named infer.source.now c.deref-in-Err.result.now) [] c.in-Err.refusal c.refuse_source.result c.in-Err.ensures.refused c.refuse_source.ensures.refused))
@@ -64,4 +65,4 @@ returns-in-Err-clause-outcome g c =
 pub returns-in-Err-clause-want : goal.returns-in-Err-clause-want
 returns-in-Err-clause-want g c =
     wants_else (c.in-Err.refusal ≡ refusals.Spawn) (1 < c.args.infer.now.workers) c.refuse_source.result
-    (λ is. subst (λ (n : ℕ). 1 < n) c.inferrer.ensures (c.in-Err.ensures.spawn is)) c.refuse_source.ensures.want
+    (λ is. subst (λ (n : ℕ). 1 < n) c.inferrer.ensures.workers (c.in-Err.ensures.spawn is)) c.refuse_source.ensures.want

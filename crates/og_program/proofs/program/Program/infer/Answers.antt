@@ -18,7 +18,7 @@ returns-in-Ok-clause-outcome g c =
     let world = world_of g.F.Files.contents g.F.Files.is_missing g.I.Read.remaining c.args.self.now c.args.input.now in
     let infer = c.args.infer.now in
     let name = infer.source.now in
-    on_result Starts world name (word_bytes infer.words.items) (InfersOutline infer.json) c.in-Ok.given c.completed.result
+    on_result Starts world name (word_bytes infer.words.items) (InfersOutline infer.json infer.aux) c.in-Ok.given c.completed.result
     (subst (λ (v : List (Bor (List ℕ))). IsGiven Starts world name (word_bytes v) c.in-Ok.given) c.deref.ensures.value (ok_of (IsGiven Starts world name (word_bytes c.deref.result.now)) c.in_ok-given.field-0 c.in-Ok.given c.in-Ok.is c.in_ok-given.ensures.given))
     c.completed.ensures.outcome
 
@@ -31,5 +31,5 @@ returns-in-Err-clause-outcome g c =
     let world = world_of g.F.Files.contents g.F.Files.is_missing g.I.Read.remaining c.args.self.now c.args.input.now in
     let infer = c.args.infer.now in
     let name = infer.source.now in
-    no_meaning Starts world name (word_bytes infer.words.items) (InfersOutline infer.json) c.in-Err.outcome
+    no_meaning Starts world name (word_bytes infer.words.items) (InfersOutline infer.json infer.aux) c.in-Err.outcome
     (subst (λ (v : List (Bor (List ℕ))). MeansNone Starts world name (word_bytes v) c.in-Err.outcome) c.deref.ensures.value (err_of (MeansNone Starts world name (word_bytes c.deref.result.now)) c.in_ok-given.field-0 c.in-Err.outcome c.in-Err.is c.in_ok-given.ensures.none))

@@ -1,7 +1,7 @@
 //! Edits of a text.
 
 ghost use Rattle.std.specs.Prelude.{◌≡◌, IfOk, IfSome};
-ghost use Rattle.og_command_infer.specs.Edits.{edited};
+ghost use Rattle.og_infer_marks.specs.Edits.{edited};
 
 use std::alloc::{AllocError, Global};
 
