@@ -41,6 +41,13 @@ struct Draft {
     left: u64,
 }
 
+// Marks, and the conjuncts that are found with them.
+#[derive(Drop)]
+struct Planned {
+    marks: Marks,
+    found: Found,
+}
+
 impl<'r, G: Gate, H: Threads + Wait + Sync> Inferrer<'r, G, H> {
     // What a search finds of a changed outline, by the places of the original one.
     fn found_changed(
@@ -233,13 +240,34 @@ impl<'r, G: Gate, H: Threads + Wait + Sync> Inferrer<'r, G, H> {
         Ok(())
     }
 
-    // The marks of a plan that suffices, as simple as one is found, those left out that no conjunct
-    // names; and the conjuncts.
+    // The marks of a plan, those left out that no conjunct names; and the conjuncts.
+    fn finished(
+        &self,
+        original: &Original<'_, '_>,
+        draft: &mut Draft,
+        plan: &Plan,
+    ) -> Result<Planned, Refusal>
+        ensures refused { IfErr result (OnInput (λ _. ⊥)) }
+        ensures spawn { IfErr result (λ e. e ≡ refusals.Spawn → 1 < self.now.effort.workers) }
+    {
+        let reach = Reach {
+            questions: draft.left,
+            tiers: draft.tier,
+            wanted: Wanted::Conjuncts,
+        };
+        let mut marks = Marks::of(self.alloc, original.places, original.actions, plan)?;
+        let found = self.found_marked(original, &marks, reach)?;
+        draft.left = draft.left.saturating_sub(found.questions);
+        marks.leave_out(&words_of(self.alloc, &found.additions)?);
+        Ok(Planned { marks, found })
+    }
+
+    // The marks of a plan that suffices, as simple as one is found, and the conjuncts.
     fn planned(
         &self,
         original: &Original<'_, '_>,
         questions: u64,
-    ) -> Result<Option<(Marks, Found)>, Refusal>
+    ) -> Result<Option<Planned>, Refusal>
         ensures refused { IfErr result (OnInput (λ _. ⊥)) }
         ensures spawn { IfErr result (λ e. e ≡ refusals.Spawn → 1 < self.now.effort.workers) }
     {
@@ -249,15 +277,17 @@ impl<'r, G: Gate, H: Threads + Wait + Sync> Inferrer<'r, G, H> {
         let groups = alike(self.alloc, original.places, original.actions)?;
         self.simplify_all(original, &mut draft, &groups)?;
         let plan = draft.plan.renumbered(self.alloc)?;
-        let reach = Reach {
-            questions: draft.left,
-            tiers: draft.tier,
-            wanted: Wanted::Conjuncts,
-        };
-        let mut marks = Marks::of(self.alloc, original.places, original.actions, &plan)?;
-        let found = self.found_marked(original, &marks, reach)?;
-        marks.leave_out(&words_of(self.alloc, &found.additions)?);
-        Ok(Some((marks, found)))
+        let planned = self.finished(original, &mut draft, &plan)?;
+        if plan.style == Style::Flags {
+            // One flag of each process is better named as a counter.
+            if let Some(plan) = planned.marks.counters(self.alloc, original.actions)? {
+                let renamed = self.finished(original, &mut draft, &plan)?;
+                if renamed.found.is_complete {
+                    return Ok(Some(renamed));
+                }
+            }
+        }
+        Ok(Some(planned))
     }
 
     // The outline with these marks and conjuncts, if it is found to be a completion.
@@ -265,21 +295,21 @@ impl<'r, G: Gate, H: Threads + Wait + Sync> Inferrer<'r, G, H> {
         &self,
         subject: &Subject<'_>,
         places: &Places,
-        planned: &(Marks, Found),
+        planned: &Planned,
         form: ReportForm,
     ) -> Result<Option<Inferred>, Refusal>
         ensures completed { IfOk result (λ some. IfSome some (IsCompleted form true (subject_of subject.now))) }
         ensures refused { IfErr result (OnInput (λ _. ⊥)) }
         ensures spawn { IfErr result (λ e. e ≡ refusals.Spawn → 1 < self.now.effort.workers) }
     {
-        let (marks, found) = planned;
+        let additions = &planned.found.additions;
         let added = Added::of(
-            marks.names(self.alloc)?.len(),
-            &found.additions,
+            planned.marks.names(self.alloc)?.len(),
+            additions,
             count_of(places.as_slice().len()),
         );
-        let declared = marks.edits(self.alloc, subject.own, places)?;
-        let conjuncts = edits(self.alloc, subject.own, &found.additions)?;
+        let declared = planned.marks.edits(self.alloc, subject.own, places)?;
+        let conjuncts = edits(self.alloc, subject.own, additions)?;
         self.with_edits(subject, merged(declared, conjuncts)?, added, form)
     }
 

@@ -25,6 +25,8 @@ struct Marked {
 #[derive(Debug, Drop)]
 pub struct Marks {
     names: Vec<String>,
+    // The number of the first auxiliary of each process.
+    firsts: Vec<usize>,
     // Which of them are not left out.
     used: Vec<bool>,
     // By rising places.
@@ -201,12 +203,14 @@ impl Marks {
         let base = free_base(alloc, places.outline().names())?;
         let mut marks = Marks {
             names: Vec::new(alloc),
+            firsts: Vec::new(alloc),
             used: Vec::new(alloc),
             actions: Vec::new(alloc),
         };
         let mut process = 0usize;
         for (of_process, values) in actions.iter().zip(&plan.values) {
             process = process.saturating_add(1);
+            marks.firsts.push(marks.names.len())?;
             let name = format!(in alloc; "{base}{process}")?;
             let kept = kept(alloc, of_process, values)?;
             match plan.style {
@@ -262,6 +266,65 @@ impl Marks {
             }
         }
         Ok(names)
+    }
+
+    // The auxiliaries of a process, counted from 0, that are not left out.
+    fn used_of(&self, alloc: Global, process: usize) -> Result<Vec<usize>, AllocError> {
+        let next = process.saturating_add(1);
+        let start = self.firsts.get(process).copied().unwrap_or(0);
+        let end = self.firsts.get(next).copied().unwrap_or(self.names.len());
+        let mut used = Vec::new(alloc);
+        for variable in start..end {
+            if self.used.get(variable) == Some(&true) {
+                used.push(variable)?;
+            }
+        }
+        Ok(used)
+    }
+
+    // What the action at a place sets an auxiliary to.
+    fn value_at(&self, place: u32, variable: usize) -> Option<u32> {
+        let marked = self.actions.iter().find(|marked| marked.place == place)?;
+        let mark = marked.marks.iter().find(|mark| mark.variable == variable)?;
+        Some(mark.value)
+    }
+
+    fn values_at(
+        &self,
+        alloc: Global,
+        places: &[u32],
+        variable: Option<usize>,
+    ) -> Result<Vec<Option<u32>>, AllocError> {
+        let mut values = Vec::new(alloc);
+        for place in places {
+            values.push(variable.and_then(|variable| self.value_at(*place, variable)))?;
+        }
+        Ok(values)
+    }
+
+    /// The plan of counters by which each process sets one auxiliary as it sets the one flag that is
+    /// not left out. None where a process has several.
+    ///
+    /// # Errors
+    ///
+    /// An allocation was refused.
+    pub fn counters(
+        &self,
+        alloc: Global,
+        actions: &[Vec<u32>],
+    ) -> Result<Option<Plan>, AllocError> {
+        let mut values = Vec::new(alloc);
+        for (process, places) in actions.iter().enumerate() {
+            let used = self.used_of(alloc, process)?;
+            if used.len() > 1 {
+                return Ok(None);
+            }
+            values.push(self.values_at(alloc, places, used.first().copied())?)?;
+        }
+        Ok(Some(Plan {
+            style: Style::Counter,
+            values,
+        }))
     }
 
     /// Leaves out the auxiliaries that none of these words names, and the assignments to them.

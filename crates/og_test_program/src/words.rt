@@ -36,6 +36,14 @@ const JOBS: &[(&str, &str)] = &[
         "Prove(Prove { source: \"a\", budget: Budget { facts: 100000 }, workers: Workers { count: 2 }, json: true, words: [\"x=1\", \"y=2..3\"], runs: Some(MomentLimit { moments: 5 }) })",
     ),
     (
+        "infer a",
+        "Infer(Infer { source: \"a\", aux: false, budget: Budget { facts: 20000 }, limit: Budget { facts: 100000 }, workers: Workers { count: 1 }, json: false, words: [] })",
+    ),
+    (
+        "infer a x=1 --aux --limit 5 --json --budget 7 y=2..3 --workers 2",
+        "Infer(Infer { source: \"a\", aux: true, budget: Budget { facts: 7 }, limit: Budget { facts: 5 }, workers: Workers { count: 2 }, json: true, words: [\"x=1\", \"y=2..3\"] })",
+    ),
+    (
         "check a b",
         "Check(Check { source: \"a\", certs: \"b\", workers: Workers { count: 1 }, json: false })",
     ),
