@@ -139,7 +139,7 @@ impl Inferred {
     fn is_unblocked(&self, json: bool) -> bool {
         let text = self.report.text.as_slice();
         if json {
-            text.ends_with(b"\"unblocked\":true,\"unproved\":[]}\n")
+            utf8_text(text).contains("\"unblocked\":true")
         } else {
             text.ends_with(b"unblocked: yes\n")
         }
