@@ -46,14 +46,14 @@ fn is_named(words: &[Token], name: &[u8]) -> bool {
 // The actions of a process that set something: their places, their numbers among all its actions,
 // counted from 1, and their values.
 #[derive(Drop)]
-struct Kept {
+struct KeptActions {
     places: Vec<u32>,
     numbers: Vec<usize>,
     values: Vec<u32>,
 }
 
-fn kept(alloc: Global, actions: &[u32], values: &[Option<u32>]) -> Result<Kept, AllocError> {
-    let mut kept = Kept {
+fn kept(alloc: Global, actions: &[u32], values: &[Option<u32>]) -> Result<KeptActions, AllocError> {
+    let mut kept = KeptActions {
         places: Vec::new(alloc),
         numbers: Vec::new(alloc),
         values: Vec::new(alloc),
@@ -148,7 +148,12 @@ impl Marks {
     }
 
     // An auxiliary of a process, counted from 1, and what its actions set it to.
-    fn add_counter(&mut self, alloc: Global, name: String, kept: &Kept) -> Result<(), AllocError> {
+    fn add_counter(
+        &mut self,
+        alloc: Global,
+        name: String,
+        kept: &KeptActions,
+    ) -> Result<(), AllocError> {
         if kept.places.is_empty() {
             return Ok(());
         }
@@ -178,7 +183,7 @@ impl Marks {
         alloc: Global,
         places: &Places,
         start: &str,
-        kept: &Kept,
+        kept: &KeptActions,
     ) -> Result<(), AllocError> {
         let first = self.names.len();
         let mut actions = unmarked(alloc, &kept.places)?;
