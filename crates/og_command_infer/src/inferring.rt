@@ -8,6 +8,7 @@ ghost use Rattle.og_completion.specs.Completes.{Completes};
 ghost use Rattle.og_command_prove.specs.Reply.{WarrantsAnswer};
 ghost use Rattle.og_report_text.specs.InputErrors.{IsFaultOfCount};
 ghost use Rattle.og_report_text.specs.Subject.{subject_of, IsShort};
+ghost use Rattle.og_infer_marks.specs.Edits.{edited};
 ghost use Rattle.og_command_infer.specs.Inferred.{IsReply, IsCompleted, IsJudged, IsCompletion};
 
 use crate::inferrer::{Added, Inferred, Inferrer, Reply, count_of};

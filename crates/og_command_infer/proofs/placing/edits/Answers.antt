@@ -1,7 +1,7 @@
 use Rattle.std.proofs.Common.{sym, subst, All}
 use Rattle.std.specs.Global.{Vec}
 use Rattle.og_command_infer.specs.Edits.{IsInBraces}
-use Rattle.og_command_infer.specs.declared.edit.Edit.{Edit}
+use Rattle.og_infer_marks.specs.declared.edit.Edit.{Edit}
 use Rattle.og_command_infer.proofs.placing.edits.Goals.{in-Some+in_ok-complete, in_default}
 use Rattle.og_command_infer.proofs.placing.edits.Goals as goal
 

@@ -1,7 +1,7 @@
 use Rattle.std.proofs.Common.{sym, subst, All}
 use Rattle.std.proofs.lemmas.List.Elements.{All-push}
 use Rattle.og_command_infer.specs.Edits.{IsInBraces}
-use Rattle.og_command_infer.specs.declared.edit.Edit.{Edit}
+use Rattle.og_infer_marks.specs.declared.edit.Edit.{Edit}
 use Rattle.og_command_infer.proofs.placing.Noted.push.Goals as goal
 
 pub returns-in_ok-push : goal.returns-in_ok-push
