@@ -35,7 +35,7 @@ returns-in-Ok-clause-outcome g c =
       inl (
         reply,
         subst (λ (aux : Bool). IsReply (report_form infer.json) aux s words reply) c.inferrer.ensures.aux
-        (subst (λ (f : ReportForm). IsReply f c.inferrer.result.effort.aux s words reply) c.report_form-form.ensures
+            (subst (λ (f : ReportForm). IsReply f c.inferrer.result.effort.aux s words reply) c.report_form-form.ensures
             (subst (λ (v : List (Bor (List ℕ))). IsReply c.report_form-form.result c.inferrer.result.effort.aux s (word_bytes v) reply) c.deref.ensures.value c.in-Ok.ensures.reply)),
         follows,
       ),
