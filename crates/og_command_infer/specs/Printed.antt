@@ -1,11 +1,12 @@
 -- What is printed of a completed outline, and what goes to standard error beside it.
-use Rattle.std.specs.Prelude.{◌≡◌, ℕ, ◌-◌, ◌==◌, ◌&&◌, Bool, true, false, List, [], ◌∷◌, ◌++◌, length, take, map, if◌then◌else◌, codes}
+use Rattle.std.specs.Prelude.{◌≡◌, ℕ, ◌-◌, ◌==◌, ◌&&◌, ◌↔◌, Bool, true, false, List, [], ◌∷◌, ◌++◌, length, take, map, if◌then◌else◌, codes}
 use Rattle.std.specs.Fmt.{decimal}
 use Rattle.serde_json.specs.Data.{Data, string, array, object, member, no_members}
 use Rattle.serde_json.specs.View.{items_of}
 use Rattle.serde_json.specs.Written.{compact_text}
 use Rattle.og_report_text.specs.Numbers.{natural}
 use Rattle.og_report_text.specs.Places.{position_of}
+use Rattle.og_report_text.specs.Yes.{SaysUnblocked}
 use Rattle.og_report_prove.specs.Members.{utf8_text}
 use Rattle.og_report_text.specs.declared.answer.Answer.{Answer}
 use Rattle.og_infer_marks.specs.declared.edit.Edit.{Edit}
@@ -67,10 +68,11 @@ abbrev pub verdict_text : Bool → Bool → List ℕ
 verdict_text safe unblocked =
     (codes "; safe: " ++ yes_or_no safe) ++ (codes ", unblocked: " ++ yes_or_no unblocked)
 
--- how much was added and the verdict; and where that is not yes twice and no JSON is printed, the
--- report of `prove`, to some place of it
-abbrev pub IsRemark : Bool → Inferred → List ℕ → Type 0
-IsRemark json i text =
-    (unblocked : Bool) × (count : ℕ)
-    × (text ≡ (added_text i.added ++ verdict_text (i.report.status == 0) unblocked)
-    ++ (codes "\n" ++ take count i.report.text.items))
+-- how much was added and the verdict, which with status 0 is that of the report; and where it is not
+-- yes twice and no JSON is printed, the report of `prove`, to some place of it
+pub record IsRemark (json : Bool) (i : Inferred) (text : List ℕ) : Type 0 where
+  pub unblocked : Bool
+  pub count : ℕ
+  pub says : i.report.status ≡ 0 → (unblocked ≡ true) ↔ SaysUnblocked json i.report.text.items
+  pub remark : text ≡ (added_text i.added ++ verdict_text (i.report.status == 0) unblocked)
+      ++ (codes "\n" ++ take count i.report.text.items)

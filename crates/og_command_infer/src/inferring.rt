@@ -35,7 +35,7 @@ use std::thread::Threads;
 const STARTS: u32 = 24;
 
 // How many tiers of candidates there are.
-pub(crate) const TIERS: u8 = 2;
+pub(crate) const TIERS: u8 = 3;
 
 // A law: what a report warrants of an outline, it warrants of each one that this completes.
 fn warranted(new: &Outline, old: &Outline)

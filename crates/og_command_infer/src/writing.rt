@@ -1,8 +1,9 @@
 //! What is printed of a completed outline, and what goes to standard error beside it.
 
-ghost use Rattle.std.specs.Prelude.{◌≡◌, ◌≤◌, ◌^◌, ◌++◌, ℕ, length, map, take, IfOk, OnOk};
+ghost use Rattle.std.specs.Prelude.{◌≡◌, ◌≤◌, ◌^◌, ◌++◌, ◌↔◌, ℕ, true, length, map, take, IfOk, OnOk};
 ghost use Rattle.serde_json.specs.View.{view};
 ghost use Rattle.og_command_infer.specs.Printed.{edit_data, edits_text, json_text, printed_text, IsPrinted, yes_or_no, counted, auxiliaries_text, added_text, verdict_text, IsRemark};
+ghost use Rattle.og_report_text.specs.Yes.{SaysUnblocked};
 
 use crate::inferrer::{Added, Inferred};
 use og_infer_marks::Edit;
@@ -135,14 +136,21 @@ fn shown_length(report: &[u8]) -> usize {
 }
 
 impl Inferred {
-    // Whether the report says that the outline is unblocked.
-    fn is_unblocked(&self, json: bool) -> bool {
+    // Whether the report says that the outline is unblocked: at its end, but for JSON of an outline
+    // that is not safe.
+    #[tactic(auto, using(crate::proofs::Ends::tested))]
+    fn is_unblocked(&self, json: bool) -> bool
+        ensures { self.now.report.status ≡ 0
+            → (result ≡ true) ↔ SaysUnblocked json self.now.report.text.items }
+    {
         let text = self.report.text.as_slice();
-        if json {
-            utf8_text(text).contains("\"unblocked\":true")
-        } else {
-            text.ends_with(b"unblocked: yes\n")
+        if !json {
+            return text.ends_with(b"unblocked: yes\n");
         }
+        if self.report.status == 0 {
+            return text.ends_with(b"\"unblocked\":true,\"unproved\":[]}\n");
+        }
+        utf8_text(text).contains("\"unblocked\":true")
     }
 
     // The report as far as it goes to standard error: nothing of JSON, or where it is yes twice.

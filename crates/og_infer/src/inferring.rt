@@ -35,7 +35,7 @@ const WALKS: u64 = 6_000;
 const MOST_AT_A_TIME: usize = 32;
 
 /// The greatest tier.
-const TIERS: u8 = 2;
+const TIERS: u8 = 3;
 
 // Which claims are proved, and which are not.
 #[derive(Drop)]
@@ -45,11 +45,6 @@ struct Verdicts {
 }
 
 impl Verdicts {
-    // Whether all claims are proved.
-    fn is_complete(&self) -> bool {
-        self.failing.is_empty()
-    }
-
     // Adds a claim.
     fn add(&mut self, duty: Duty, proof: &Proof) -> Result<(), AllocError> {
         if matches!(proof.settled, Settled::True) {
@@ -68,6 +63,8 @@ struct Tried {
     universe: Universe,
     rounds: Rounds,
     verdicts: Verdicts,
+    // Whether samples refute what is not proved.
+    is_complete: bool,
 }
 
 // What is the same at all tiers, and the questions that are left.
@@ -197,11 +194,13 @@ impl<'a, 'o> Search<'a, 'o> {
         let Some(verdicts) = self.verdicts(pool, frozen)? else {
             return Ok(None);
         };
+        let is_complete = are_refuted(scene, self.samples, &verdicts.failing)?;
         Ok(Some(Tried {
             tier,
             universe,
             rounds,
             verdicts,
+            is_complete,
         }))
     }
 
@@ -218,7 +217,7 @@ impl<'a, 'o> Search<'a, 'o> {
             let Some(tried) = self.attempt(pool, tier)? else {
                 break;
             };
-            let is_last = are_refuted(self.scene, self.samples, &tried.verdicts.failing)?;
+            let is_last = tried.is_complete;
             best = Some(tried);
             if is_last {
                 break;
@@ -238,6 +237,7 @@ impl<'a, 'o> Search<'a, 'o> {
             universe,
             rounds,
             verdicts,
+            is_complete,
         } = tried;
         let (held, lists) = rounds.into_parts();
         let claims = &verdicts.proved;
@@ -251,7 +251,7 @@ impl<'a, 'o> Search<'a, 'o> {
         let lists = shrinking.shrink(pool, claims, &mut self.questions)?;
         Ok(Inferred {
             additions: additions(self.scene.alloc, self.places, &universe, &lists)?,
-            is_complete: verdicts.is_complete(),
+            is_complete,
             tier,
             questions: self.questions.asked(),
         })
@@ -270,19 +270,14 @@ impl<'a, 'o> Search<'a, 'o> {
         };
         match wanted {
             Wanted::Conjuncts => self.supported(pool, tried),
-            Wanted::Completeness => Ok(bare(
-                alloc,
-                tried.verdicts.is_complete(),
-                tried.tier,
-                asked,
-            )),
+            Wanted::Completeness => Ok(bare(alloc, tried.is_complete, tried.tier, asked)),
         }
     }
 }
 
 /// Conjuncts that, added to the assertions of the outline, are to prove it: those that support its
 /// postcondition, that values fit, the author's assertions, and that the processes never all wait,
-/// as far as candidates of two tiers do. Each of the starts is a range for each variable that is
+/// as far as candidates of three tiers do. Each of the starts is a range for each variable that is
 /// no auxiliary; the states of runs from them are the samples.
 ///
 /// Where only completeness is wanted, there are no additions.

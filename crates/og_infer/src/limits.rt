@@ -9,7 +9,7 @@ pub struct Limits {
     pub questions: u64,
     /// How many threads search, 1 to 64; below and above it is the nearest of these.
     pub workers: u32,
-    /// The last tier of candidates, 1 or 2.
+    /// The last tier of candidates, 1 to 3.
     pub tiers: u8,
 }
 
@@ -18,7 +18,7 @@ pub struct Limits {
 pub enum Wanted {
     /// The conjuncts.
     Conjuncts,
-    /// Only whether there are some that prove the outline.
+    /// Only whether there are some that prove what can be proved of the outline.
     Completeness,
 }
 
@@ -37,9 +37,9 @@ pub struct Addition {
 pub struct Inferred {
     /// What is added, by rising offsets. There is none where nothing is needed, or nothing helps.
     pub additions: Vec<Addition>,
-    /// Whether candidates prove all that is wanted.
+    /// Whether candidates prove all that is wanted and that no sample refutes.
     pub is_complete: bool,
-    /// The tier of candidates from which the conjuncts come, 1 or 2; 0 where none was finished.
+    /// The tier of candidates from which the conjuncts come, 1 to 3; 0 where none was finished.
     pub tier: u8,
     /// How many questions were asked.
     pub questions: u64,

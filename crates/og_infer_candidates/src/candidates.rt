@@ -3,6 +3,7 @@
 use crate::bits::Bits;
 use crate::candidate::Candidate;
 use crate::hull::Hull;
+use crate::triples::{Ground, Triple};
 use crate::universe::Universe;
 use og_infer_literals::{Relation, Sum, count, sum_at};
 use std::alloc::{AllocError, Global};
@@ -24,6 +25,8 @@ pub struct Candidates {
     /// For each literal of clauses those with which it makes a clause that was true. A literal that
     /// was true alone makes one with itself.
     pub(crate) pairs: Vec<Bits>,
+    /// The clauses of three literals of which no two make one, as many as there is room for.
+    pub(crate) triples: Vec<Triple>,
     /// By sums.
     pub(crate) extents: Vec<Extent>,
     /// Which clauses of the text were true.
@@ -93,11 +96,39 @@ impl Candidates {
             alloc,
             version: 0,
             pairs: all_pairs(alloc, universe)?,
+            triples: Vec::new(alloc),
             extents: all_extents(alloc, &universe.literals.sums)?,
             texts: Bits::all(alloc, count(&universe.literals.texts))?,
             hull: Hull::new(alloc),
             under,
         })
+    }
+
+    /// Those that are true of all these states.
+    ///
+    /// # Errors
+    ///
+    /// An allocation was refused.
+    pub fn of_states(
+        alloc: Global,
+        universe: &Universe,
+        states: &[Vec<i64>],
+    ) -> Result<Candidates, AllocError> {
+        let mut candidates = Candidates::new(alloc, universe)?;
+        let mut masks = Vec::new(alloc);
+        for values in states {
+            let mask = universe.mask(alloc, values)?;
+            let _ = candidates.admit(universe, values, &mask)?;
+            masks.push(mask)?;
+        }
+        if universe.most_triples() > 0 {
+            let ground = Ground {
+                universe,
+                pairs: &candidates.pairs,
+            };
+            candidates.triples = ground.triples(alloc, &masks)?;
+        }
+        Ok(candidates)
     }
 
     /// How often they changed.
@@ -114,6 +145,24 @@ impl Candidates {
             }
         }
         changed
+    }
+
+    // Takes the clauses of three literals out that the state makes false, and adds those that it
+    // leaves of clauses of two. Whether there were some that it makes false.
+    fn admit_triples(&mut self, universe: &Universe, mask: &Bits) -> Result<bool, AllocError> {
+        let before = self.triples.len();
+        self.triples.retain(|triple| triple.is_true(mask));
+        let changed = self.triples.len() < before;
+        let ground = Ground {
+            universe,
+            pairs: &self.pairs,
+        };
+        for literal in 0..universe.literals.clausal {
+            if !mask.has(literal) {
+                ground.add_widened(literal, mask, &mut self.triples)?;
+            }
+        }
+        Ok(changed)
     }
 
     // Takes the bounds out that the values exceed. Whether there were some.
@@ -180,6 +229,9 @@ impl Candidates {
         let texts = self.true_texts(universe, mask)?;
         changed |= self.texts.keep(&texts);
         changed |= self.admit_bounds(universe, values);
+        if self.hull.is_begun && universe.most_triples() > 0 {
+            changed |= self.admit_triples(universe, mask)?;
+        }
         changed |= self.admit_pairs(universe, mask);
         if changed {
             self.version = self.version.saturating_add(1);
@@ -223,6 +275,7 @@ impl Candidates {
     pub fn admits(&self, universe: &Universe, values: &[i64], mask: &Bits) -> bool {
         self.hull.admits(values)
             && self.admits_pairs(universe, mask)
+            && self.triples.iter().all(|triple| triple.is_true(mask))
             && self.admits_bounds(universe, values)
             && self.admits_texts(universe, mask)
             && self.admits_under(universe, values, mask)
@@ -265,11 +318,21 @@ impl Candidates {
         })
     }
 
+    // Whether it is one of three literals that was true of all states.
+    fn has_triple(&self, clause: &[u32]) -> bool {
+        match clause {
+            [low, middle, high] => self.triples.contains(&Triple::of(*low, *middle, *high)),
+            _ => false,
+        }
+    }
+
     // Whether the clause was true of all states.
     fn has_clause(&self, universe: &Universe, clause: &[u32]) -> bool {
         match clause {
             [only] if *only >= universe.literals.clausal => self.has_bound(universe, *only),
-            _ => self.has_part(clause) || self.has_text(universe, clause),
+            _ => {
+                self.has_part(clause) || self.has_text(universe, clause) || self.has_triple(clause)
+            }
         }
     }
 

@@ -12,6 +12,7 @@ mod candidates;
 mod hull;
 mod order;
 mod strongest;
+mod triples;
 mod universe;
 mod writing;
 

@@ -4,13 +4,11 @@ use crate::bits::Bits;
 use crate::candidate::Candidate;
 use crate::candidates::Candidates;
 use crate::order::clause_order;
+use crate::triples::{Triple, in_order, is_among};
 use crate::universe::Universe;
 use og_infer_literals::Relation;
 use og_search_rows::Inequality;
 use std::alloc::{AllocError, Global};
-
-/// The most clauses of two literals of a place.
-const MOST_CLAUSES: usize = 12_000;
 
 /// The greatest coefficient, in magnitude, of an equation that is a candidate.
 const COEFFICIENT_LIMIT: u128 = 1_000;
@@ -29,6 +27,23 @@ fn fits(form: &Inequality, limit: u128) -> bool {
     let mut terms = form.terms.iter();
     form.constant.unsigned_abs() < CONSTANT_LIMIT
         && terms.all(|term| term.coefficient.unsigned_abs() <= limit)
+}
+
+// Whether a clause with a literal that implies the first one, in its place, is among these, which
+// rise.
+fn is_weaker_triple(
+    universe: &Universe,
+    rising: &[Triple],
+    first: u32,
+    second: u32,
+    third: u32,
+) -> bool {
+    let Some(sum) = universe.literals.sum(first) else {
+        return false;
+    };
+    sum.literals.iter().any(|other| {
+        universe.implies(*other, first) && is_among(rising, Triple::of(*other, second, third))
+    })
 }
 
 impl Candidates {
@@ -151,7 +166,7 @@ impl Candidates {
                 && !singles.has(low)
                 && !self.is_weaker(universe, low, high)
                 && !self.is_weaker(universe, high, low);
-            if is_clause && clauses.len() < MOST_CLAUSES {
+            if is_clause && clauses.len() < universe.room.clauses {
                 clauses.push(vec![in alloc; low, high]?)?;
             }
         }
@@ -169,6 +184,26 @@ impl Candidates {
         for high in 0..universe.literals.clausal {
             if !singles.has(high) {
                 self.put_pairs_of(alloc, universe, singles, high, clauses)?;
+            }
+        }
+        Ok(())
+    }
+
+    // Adds the clauses of three literals.
+    fn put_triples(
+        &self,
+        alloc: Global,
+        universe: &Universe,
+        clauses: &mut Vec<Vec<u32>>,
+    ) -> Result<(), AllocError> {
+        let rising = in_order(alloc, &self.triples)?;
+        for triple in &rising {
+            let (a, b, c) = triple.literals();
+            let is_weaker = is_weaker_triple(universe, &rising, a, b, c)
+                || is_weaker_triple(universe, &rising, b, a, c)
+                || is_weaker_triple(universe, &rising, c, a, b);
+            if !is_weaker {
+                clauses.push(vec![in alloc; a, b, c]?)?;
             }
         }
         Ok(())
@@ -223,6 +258,7 @@ impl Candidates {
         let mut clauses = Vec::new(alloc);
         let singles = self.singles(alloc, universe)?;
         self.put_pairs(alloc, universe, &singles, &mut clauses)?;
+        self.put_triples(alloc, universe, &mut clauses)?;
         self.put_singles(alloc, universe, &singles, &mut clauses)?;
         self.put_bounds(alloc, universe, &mut clauses)?;
         self.put_texts(alloc, universe, &mut clauses)?;

@@ -12,6 +12,9 @@ const FEW: usize = 3;
 /// The most values of a small variable.
 const SMALL: usize = 6;
 
+/// With more literals there are no clauses of three.
+const MOST_OF_TRIPLES: u32 = 300;
+
 /// How a literal of clauses stands to the others.
 #[derive(Drop)]
 struct Relatives {
@@ -99,8 +102,8 @@ fn flags(alloc: Global, literals: &Literals, most: u64) -> Result<Vec<u32>, Allo
 
 impl Universe {
     /// The literals of the outline of these places, by its text and by the states that were seen at
-    /// the places. Tier 1 has equations, bounds and clauses; tiers above also equations under the
-    /// value of a variable.
+    /// the places. Tier 1 has equations, bounds and clauses of two literals; tiers above also
+    /// equations under the value of a variable, and tier 3 clauses of three.
     ///
     /// # Errors
     ///
@@ -127,6 +130,23 @@ impl Universe {
     /// The tier.
     pub fn tier(&self) -> u8 {
         self.tier
+    }
+
+    /// How much there is to look through to tell whether all candidates of a place are true: the
+    /// sums, and the words of the sets of literals.
+    pub fn size(&self) -> u64 {
+        let literals = u64::from(self.literals.clausal);
+        let words = literals.saturating_mul(literals.div_ceil(64));
+        words.saturating_add(self.literals.sums.len() as u64)
+    }
+
+    /// The most clauses of three literals of a place.
+    pub(crate) fn most_triples(&self) -> usize {
+        if self.tier >= 3 && self.literals.clausal <= MOST_OF_TRIPLES {
+            self.room.triples
+        } else {
+            0
+        }
     }
 
     /// Which literals of clauses are true of the values.
@@ -176,6 +196,14 @@ impl Universe {
     pub(crate) fn is_implied(&self, literal: u32, by: &Bits) -> bool {
         match self.relatives.get(literal as usize) {
             Some(relatives) => relatives.stronger.meets(by),
+            None => false,
+        }
+    }
+
+    /// Whether the first literal implies the second one, another one of the same sum.
+    pub(crate) fn implies(&self, first: u32, second: u32) -> bool {
+        match self.relatives.get(second as usize) {
+            Some(relatives) => relatives.stronger.has(first),
             None => false,
         }
     }

@@ -14,6 +14,11 @@ const EQUATIONS: u64 = 400_000;
 
 const TERMS: u64 = 2_000_000;
 
+/// The most clauses of two literals, and of three, at all places together.
+const CLAUSES: u64 = 600_000;
+
+const TRIPLES: u64 = 400_000;
+
 /// The most states at all places together that are looked at for bounds.
 const STATES: u64 = 20_000;
 
@@ -30,6 +35,10 @@ pub struct Room {
     pub terms: u64,
     /// The most literals under which there are equations of their own.
     pub flags: u64,
+    /// The most clauses of two literals of a place.
+    pub clauses: usize,
+    /// The most clauses of three literals of a place.
+    pub triples: usize,
     /// The most states of a place that are looked at for bounds.
     pub states: u64,
 }
@@ -56,6 +65,8 @@ impl Room {
             variables: u32::try_from(own).unwrap_or(variables),
             terms: share(TERMS, rows).clamp(4, 256),
             flags: share(EQUATIONS, rows).min(40),
+            clauses: share(CLAUSES, places).min(12_000) as usize,
+            triples: share(TRIPLES, places).min(12_000) as usize,
             states: share(STATES, places).clamp(20, 600),
         }
     }

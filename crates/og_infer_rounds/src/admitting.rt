@@ -24,6 +24,8 @@ pub struct Held {
     pub(crate) candidates: Vec<Candidates>,
     // The round in which those of each place were weakened last, 0 before the first one.
     changed: Vec<u64>,
+    // How many steps were made to admit states.
+    steps: u64,
 }
 
 /// Where states are admitted: the places, the literals, and the round.
@@ -42,7 +44,15 @@ impl Held {
         Ok(Held {
             candidates,
             changed,
+            steps: 0,
         })
+    }
+
+    /// How many steps were made to admit states since this was asked last.
+    pub(crate) fn take_steps(&mut self) -> u64 {
+        let steps = self.steps;
+        self.steps = 0;
+        steps
     }
 
     /// Whether those of a place were weakened in this round or later.
@@ -168,6 +178,7 @@ impl Held {
         values: Vec<i64>,
     ) -> Result<(), AllocError> {
         let alloc = ground.scene.alloc;
+        let size = ground.universe.size();
         let mut queue = VecDeque::new(alloc);
         queue.push_back(Standing { place, values })?;
         let mut admitted = 0u32;
@@ -179,7 +190,10 @@ impl Held {
                 break;
             };
             let state = Seen::new(alloc, ground.universe, values)?;
+            self.steps = self.steps.saturating_add(size);
             if self.weaken(ground, place, &state)? {
+                let acting = ground.scene.acting.len() as u64;
+                self.steps = self.steps.saturating_add(size.saturating_mul(acting));
                 admitted = admitted.saturating_add(1);
                 self.add_next(ground, place, &state, &mut queue)?;
             }
@@ -212,11 +226,6 @@ impl<'a> Numbered for Gathering<'a> {
     fn kept(&self) {}
 
     fn answer(&self, alloc: Global, number: u32, _kept: &mut ()) -> Result<Candidates, AllocError> {
-        let mut candidates = Candidates::new(alloc, self.universe)?;
-        for values in self.samples.at(number - 1) {
-            let mask = self.universe.mask(alloc, values)?;
-            let _ = candidates.admit(self.universe, values, &mask)?;
-        }
-        Ok(candidates)
+        Candidates::of_states(alloc, self.universe, self.samples.at(number - 1))
     }
 }

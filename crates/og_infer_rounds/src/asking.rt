@@ -1,11 +1,17 @@
 //! One question, asked again with more and more candidates taken.
 
+use crate::counting::price;
 use crate::listing::{Lists, Pick, Role, Seen, Spot, lighter};
 use crate::scene::Scene;
 use og_infer_candidates::Universe;
 use og_infer_places::{Answer, Goal, Obligation, Question, Taken, ask, is_true};
 use og_typed::Assert;
 use std::alloc::AllocError;
+
+/// How many steps a variable, and how many a candidate that may be taken, adds to a question.
+const STEPS_A_VARIABLE: u64 = 1_000;
+
+const STEPS_A_CANDIDATE: u64 = 4;
 
 /// What does not change while tasks are done.
 #[derive(Clone, Copy)]
@@ -39,8 +45,34 @@ pub struct Inquiry<'g, 'a, 'o> {
     pub taken: Vec<Spot>,
     /// How many questions may still be asked.
     pub left: u64,
+    // How many of these each one costs.
+    price: u64,
     /// The states for which something was taken that nothing else needs.
     pub states: Vec<Seen>,
+}
+
+impl Frozen<'_, '_> {
+    // How many candidates the obligation may take.
+    fn offers(&self, obligation: &Obligation) -> u64 {
+        let mut offers = 0u64;
+        for place in &obligation.places {
+            offers = offers.saturating_add(self.lists.at(*place).len() as u64);
+        }
+        for alternatives in &obligation.stuck {
+            for (place, _) in alternatives {
+                offers = offers.saturating_add(self.lists.at(*place).len() as u64);
+            }
+        }
+        offers
+    }
+
+    /// What a question of the obligation costs: one, and more where many variables or candidates
+    /// are looked through.
+    fn price(&self, obligation: &Obligation) -> u64 {
+        let variables = u64::from(self.scene.frame.variables()).saturating_mul(STEPS_A_VARIABLE);
+        let offers = self.offers(obligation).saturating_mul(STEPS_A_CANDIDATE);
+        price(variables.saturating_add(offers)).saturating_add(1)
+    }
 }
 
 // What is taken to exclude a state, and the weight of all of it.
@@ -66,6 +98,7 @@ impl<'g, 'a, 'o> Inquiry<'g, 'a, 'o> {
             is_strict: false,
             taken,
             left,
+            price: frozen.price(obligation),
             states: Vec::new(frozen.scene.alloc),
         }
     }
@@ -87,7 +120,8 @@ impl<'g, 'a, 'o> Inquiry<'g, 'a, 'o> {
 
     // One question.
     fn ask(&mut self) -> Result<Answer, AllocError> {
-        let Some(left) = self.left.checked_sub(1) else {
+        let Some(left) = self.left.checked_sub(self.price) else {
+            self.left = 0;
             return Ok(Answer::Open);
         };
         self.left = left;

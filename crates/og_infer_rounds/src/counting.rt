@@ -1,10 +1,18 @@
 //! How many questions may still be asked.
 
+/// Work on so many sums, clauses or candidates counts as a question.
+const STEPS_A_QUESTION: u64 = 30_000;
+
 /// The most questions of one task.
 const MOST_A_TASK: u64 = 1_000;
 
 /// With fewer questions a task is not begun.
 const FEWEST_A_TASK: u64 = 20;
+
+/// What work of so many steps costs, in questions.
+pub(crate) fn price(steps: u64) -> u64 {
+    steps / STEPS_A_QUESTION
+}
 
 /// The questions that are left, of which some are kept for later.
 #[derive(Clone, Copy, Debug)]

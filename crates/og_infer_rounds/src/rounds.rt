@@ -2,7 +2,7 @@
 
 use crate::admitting::{Gathering, Ground, Held};
 use crate::asking::Frozen;
-use crate::counting::Questions;
+use crate::counting::{Questions, price};
 use crate::listing::{Listed, Listing, Lists};
 use crate::pooling::{Pool, count_of};
 use crate::scene::Scene;
@@ -17,6 +17,11 @@ use std::thread::Threads;
 /// How many obligations are asked in one round.
 const MOST_IN_ROUND: usize = 16;
 
+/// How many steps it takes to list candidates, by the size of the literals, and by candidates.
+const STEPS_A_WORD: u64 = 32;
+
+const STEPS_A_CANDIDATE: u64 = 64;
+
 /// The candidates of all places, and how far they were weakened.
 #[derive(Drop)]
 pub struct Rounds {
@@ -30,6 +35,8 @@ pub struct Rounds {
     round: u64,
     // The obligation that comes next.
     next: usize,
+    // How many steps were made to list candidates in this round.
+    steps: u64,
 }
 
 /// The literals, and the candidates of the samples of each place.
@@ -65,6 +72,7 @@ impl Rounds {
             asked: vec![in alloc; 0u64; scene.obligations.len()]?,
             round: 1,
             next: 0,
+            steps: 0,
         })
     }
 
@@ -177,6 +185,18 @@ impl Rounds {
         }
     }
 
+    // Counts the steps that were made to list the candidates of these places.
+    fn count_listing(&mut self, universe: &Universe, places: &[u32]) {
+        for place in places {
+            let candidates = self.lists.at(*place).len() as u64;
+            let steps = universe
+                .size()
+                .saturating_mul(STEPS_A_WORD)
+                .saturating_add(candidates.saturating_mul(STEPS_A_CANDIDATE));
+            self.steps = self.steps.saturating_add(steps);
+        }
+    }
+
     // Lists the candidates of these places.
     fn list<'a, R: Threads + Wait + Sync>(
         &mut self,
@@ -195,6 +215,7 @@ impl Rounds {
         };
         let lists = pool.answers(&tasks, count)?;
         self.put(places, lists);
+        self.count_listing(universe, places);
         Ok(())
     }
 
@@ -235,6 +256,9 @@ impl Rounds {
                 self.admit(ground, *index, weakened, questions)?;
             }
         }
+        let steps = self.steps.saturating_add(self.held.take_steps());
+        questions.spend(price(steps));
+        self.steps = 0;
         self.round = self.round.saturating_add(1);
         Ok(())
     }

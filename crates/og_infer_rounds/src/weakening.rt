@@ -1,6 +1,7 @@
 //! States after an action in which candidates of a place are false.
 
 use crate::asking::{Frozen, Inquiry, Settled};
+use crate::counting::price;
 use crate::listing::{Listed, Role, Seen, Spot};
 use og_infer_candidates::Candidate;
 use og_infer_places::{Claim, Goal, Obligation, apply};
@@ -9,7 +10,7 @@ use og_typed::Assert;
 use std::alloc::{AllocError, Global};
 
 /// How many candidates are asked in one question.
-const MOST_GOALS: usize = 12;
+const MOST_GOALS: usize = 48;
 
 /// How many states a task finds at most.
 const MOST_STATES: usize = 8;
@@ -163,13 +164,14 @@ impl<'a, 'o> Weakener<'a, 'o> {
     ) -> Result<Weakener<'a, 'o>, AllocError> {
         let alloc = frozen.scene.alloc;
         let goals = frozen.doubtful(obligation, place)?;
+        let listed = frozen.lists.at(place).len() as u64;
         Ok(Weakener {
             frozen,
             obligation,
             place,
             chunks: chunks_of(alloc, &goals)?,
             states: Vec::new(alloc),
-            left,
+            left: left.saturating_sub(price(listed)),
         })
     }
 
