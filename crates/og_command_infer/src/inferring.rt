@@ -274,7 +274,7 @@ impl<'r, G: Gate, H: Threads + Wait + Sync> Inferrer<'r, G, H> {
             wanted: Wanted::Conjuncts,
         };
         let found = self.found(subject.outline, given, reach)?;
-        if aux && !found.is_complete && found.tier > 0 {
+        if aux && found.unproved != Some(0) && found.tier > 0 {
             let left = limit.saturating_sub(found.questions);
             if let Some(inferred) = self.invented(subject, given, form, left)? {
                 return Ok(inferred);

@@ -25,20 +25,34 @@ use std::thread::Threads;
 // A plan with more is not tried: an outline has at most so many variables.
 const MOST_AUXILIARIES: usize = 256;
 
+// The styles that are tried, and which part of the questions that are left each one may take.
+const STYLES: [(Style, u64); 2] = [(Style::Counter, 4), (Style::Flags, 2)];
+
 // A simpler plan may take so many times the questions of the first one that suffices, and at least
 // so many.
 const SHARE: u64 = 8;
 
 const LEAST_QUESTIONS: u64 = 4_000;
 
-// A plan that suffices, the tier of candidates that it takes, how many questions a simpler plan may
-// take, and how many are left.
+// A plan that suffices, how many claims are not proved with it, the tier of candidates that it
+// takes, how many questions a simpler plan may take, and how many are left.
 #[derive(Drop)]
 struct Draft {
     plan: Plan,
+    unproved: Option<usize>,
     tier: u8,
     share: u64,
     left: u64,
+}
+
+impl Draft {
+    // Whether as many claims are proved with what was found.
+    fn is_matched_by(&self, found: &Found) -> bool {
+        match (found.unproved, self.unproved) {
+            (Some(now), Some(before)) => now <= before,
+            _ => false,
+        }
+    }
 }
 
 // Marks, and the conjuncts that are found with them.
@@ -63,13 +77,15 @@ impl<'r, G: Gate, H: Threads + Wait + Sync> Inferrer<'r, G, H> {
         let places = Places::of(self.alloc, outline)?;
         let Found {
             additions,
-            is_complete,
+            unproved,
+            is_final,
             tier,
             questions,
         } = found;
         Ok(Found {
             additions: moved(self.alloc, &places, original.places, additions)?,
-            is_complete,
+            unproved,
+            is_final,
             tier,
             questions,
         })
@@ -122,18 +138,19 @@ impl<'r, G: Gate, H: Threads + Wait + Sync> Inferrer<'r, G, H> {
         ensures spawn { IfErr result (λ e. e ≡ refusals.Spawn → 1 < self.now.effort.workers) }
     {
         let mut left = questions;
-        for style in [Style::Counter, Style::Flags] {
+        for (style, part) in STYLES {
             let plan = Plan::of_all(self.alloc, style, original.actions)?;
             if plan.auxiliaries() > MOST_AUXILIARIES {
                 break;
             }
-            let found = self.found_planned(original, &plan, left / 3, TIERS)?;
+            let found = self.found_planned(original, &plan, left / part, TIERS)?;
             left = left.saturating_sub(found.questions);
-            if found.is_complete {
+            if found.is_final {
                 let share = found.questions.saturating_mul(SHARE).max(LEAST_QUESTIONS);
                 let tier = found.tier;
                 return Ok(Some(Draft {
                     plan,
+                    unproved: found.unproved,
                     tier,
                     share,
                     left,
@@ -159,10 +176,11 @@ impl<'r, G: Gate, H: Threads + Wait + Sync> Inferrer<'r, G, H> {
         }
         let found = self.found_planned(original, &plan, draft.share, draft.tier)?;
         draft.left = draft.left.saturating_sub(found.questions);
-        if found.is_complete {
+        let suffices = draft.is_matched_by(&found);
+        if suffices {
             draft.plan = plan;
         }
-        Ok(found.is_complete)
+        Ok(suffices)
     }
 
     // Has this action of these processes set an earlier value.
@@ -282,7 +300,7 @@ impl<'r, G: Gate, H: Threads + Wait + Sync> Inferrer<'r, G, H> {
             // One flag of each process is better named as a counter.
             if let Some(plan) = planned.marks.counters(self.alloc, original.actions)? {
                 let renamed = self.finished(original, &mut draft, &plan)?;
-                if renamed.found.is_complete {
+                if draft.is_matched_by(&renamed.found) {
                     return Ok(Some(renamed));
                 }
             }

@@ -22,7 +22,8 @@ pub(crate) struct Original<'s, 'o> {
 pub(crate) fn not_found(alloc: Global) -> Found {
     Found {
         additions: Vec::new(alloc),
-        is_complete: false,
+        unproved: None,
+        is_final: false,
         tier: 0,
         questions: 0,
     }

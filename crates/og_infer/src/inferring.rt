@@ -64,7 +64,7 @@ struct Tried {
     rounds: Rounds,
     verdicts: Verdicts,
     // Whether samples refute what is not proved.
-    is_complete: bool,
+    is_final: bool,
 }
 
 // What is the same at all tiers, and the questions that are left.
@@ -77,12 +77,13 @@ struct Search<'a, 'o> {
     questions: Questions,
 }
 
-// What is handed out without additions.
-fn bare(alloc: Global, is_complete: bool, tier: u8, questions: u64) -> Inferred {
+// What is handed out without additions where no tier was finished, or none is needed.
+fn bare(alloc: Global, unproved: Option<usize>, questions: u64) -> Inferred {
     Inferred {
         additions: Vec::new(alloc),
-        is_complete,
-        tier,
+        unproved,
+        is_final: unproved.is_some(),
+        tier: 0,
         questions,
     }
 }
@@ -194,13 +195,13 @@ impl<'a, 'o> Search<'a, 'o> {
         let Some(verdicts) = self.verdicts(pool, frozen)? else {
             return Ok(None);
         };
-        let is_complete = are_refuted(scene, self.samples, &verdicts.failing)?;
+        let is_final = are_refuted(scene, self.samples, &verdicts.failing)?;
         Ok(Some(Tried {
             tier,
             universe,
             rounds,
             verdicts,
-            is_complete,
+            is_final,
         }))
     }
 
@@ -217,7 +218,7 @@ impl<'a, 'o> Search<'a, 'o> {
             let Some(tried) = self.attempt(pool, tier)? else {
                 break;
             };
-            let is_last = tried.is_complete;
+            let is_last = tried.is_final;
             best = Some(tried);
             if is_last {
                 break;
@@ -237,7 +238,7 @@ impl<'a, 'o> Search<'a, 'o> {
             universe,
             rounds,
             verdicts,
-            is_complete,
+            is_final,
         } = tried;
         let (held, lists) = rounds.into_parts();
         let claims = &verdicts.proved;
@@ -251,7 +252,8 @@ impl<'a, 'o> Search<'a, 'o> {
         let lists = shrinking.shrink(pool, claims, &mut self.questions)?;
         Ok(Inferred {
             additions: additions(self.scene.alloc, self.places, &universe, &lists)?,
-            is_complete,
+            unproved: Some(verdicts.failing.len()),
+            is_final,
             tier,
             questions: self.questions.asked(),
         })
@@ -266,11 +268,17 @@ impl<'a, 'o> Search<'a, 'o> {
     ) -> Result<Inferred, PoolFault> {
         let (alloc, asked) = (self.scene.alloc, self.questions.asked());
         let Some(tried) = best else {
-            return Ok(bare(alloc, false, 0, asked));
+            return Ok(bare(alloc, None, asked));
         };
         match wanted {
             Wanted::Conjuncts => self.supported(pool, tried),
-            Wanted::Completeness => Ok(bare(alloc, tried.is_complete, tried.tier, asked)),
+            Wanted::Completeness => Ok(Inferred {
+                additions: Vec::new(alloc),
+                unproved: Some(tried.verdicts.failing.len()),
+                is_final: tried.is_final,
+                tier: tried.tier,
+                questions: asked,
+            }),
         }
     }
 }
@@ -280,7 +288,7 @@ impl<'a, 'o> Search<'a, 'o> {
 /// as far as candidates of three tiers do. Each of the starts is a range for each variable that is
 /// no auxiliary; the states of runs from them are the samples.
 ///
-/// Where only completeness is wanted, there are no additions.
+/// Where only the number of claims that are not proved is wanted, there are no additions.
 ///
 /// Nothing is promised of what is found. It is the same for every number of workers. There are no
 /// additions where all of that is proved without, where the outline has more than 2,000 places or
@@ -300,7 +308,7 @@ pub fn infer<R: Threads + Wait + Sync>(
 ) -> Result<Inferred, PoolFault> {
     let places = Places::of(alloc, outline)?;
     let Some(scene) = scene_of(alloc, &places, limits.budget)? else {
-        return Ok(bare(alloc, false, 0, 0));
+        return Ok(bare(alloc, None, 0));
     };
     let pool = Pool {
         rt,
@@ -309,7 +317,7 @@ pub fn infer<R: Threads + Wait + Sync>(
     };
     let mut questions = Questions::new(limits.questions);
     if is_proved(&pool, &scene, &mut questions)? {
-        return Ok(bare(alloc, true, 0, questions.asked()));
+        return Ok(bare(alloc, Some(0), questions.asked()));
     }
     let samples = sample(alloc, &places, starts, MOMENTS, WALKS)?;
     let exchanges = exchanges(alloc, &places)?;

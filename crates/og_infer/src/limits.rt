@@ -18,7 +18,7 @@ pub struct Limits {
 pub enum Wanted {
     /// The conjuncts.
     Conjuncts,
-    /// Only whether there are some that prove what can be proved of the outline.
+    /// Only how many claims they do not prove.
     Completeness,
 }
 
@@ -37,8 +37,10 @@ pub struct Addition {
 pub struct Inferred {
     /// What is added, by rising offsets. There is none where nothing is needed, or nothing helps.
     pub additions: Vec<Addition>,
-    /// Whether candidates prove all that is wanted and that no sample refutes.
-    pub is_complete: bool,
+    /// How many claims candidates do not prove; none where no tier was finished.
+    pub unproved: Option<usize>,
+    /// Whether samples refute these, so that no conjuncts over the same variables prove more.
+    pub is_final: bool,
     /// The tier of candidates from which the conjuncts come, 1 to 3; 0 where none was finished.
     pub tier: u8,
     /// How many questions were asked.

@@ -7,6 +7,7 @@ use Rattle.og_infer_candidates.specs.contracts.candidates.Candidates as Candidat
 use Rattle.og_infer_candidates.specs.contracts.universe.Universe as Universe
 use Rattle.og_infer_rounds.specs.contracts.listing.Lists as Lists
 use Rattle.og_infer_rounds.specs.contracts.scene.Scene as Scene
+use Rattle.og_infer_rounds.specs.contracts.weakening.Useful as Useful
 
 pub scene_sync : (a : NamedLft) → IsSync (Scene.the_row a)
 scene_sync a = search (Crossing.crosses, TheKnot.crosses, sendable) depth 60 fits 20000
@@ -19,3 +20,6 @@ candidates_sync = search (Crossing.crosses, sendable) depth 60 fits 20000
 
 pub lists_sync : IsSync Lists.the_row
 lists_sync = search (Crossing.crosses, TheKnot.crosses, sendable) depth 60 fits 20000
+
+pub useful_sync : IsSync Useful.the_row
+useful_sync = search (Crossing.crosses, sendable) depth 60 fits 20000

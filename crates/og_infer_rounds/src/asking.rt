@@ -8,8 +8,8 @@ use og_infer_places::{Answer, Goal, Obligation, Question, Taken, ask, is_true};
 use og_typed::Assert;
 use std::alloc::AllocError;
 
-/// How many steps a variable, and how many a candidate that may be taken, adds to a question.
-const STEPS_A_VARIABLE: u64 = 1_000;
+/// How many steps two variables, and how many a candidate that may be taken, add to a question.
+const STEPS_OF_VARIABLES: u64 = 30;
 
 const STEPS_A_CANDIDATE: u64 = 4;
 
@@ -69,7 +69,10 @@ impl Frozen<'_, '_> {
     /// What a question of the obligation costs: one, and more where many variables or candidates
     /// are looked through.
     fn price(&self, obligation: &Obligation) -> u64 {
-        let variables = u64::from(self.scene.frame.variables()).saturating_mul(STEPS_A_VARIABLE);
+        let variables = u64::from(self.scene.frame.variables());
+        let variables = variables
+            .saturating_mul(variables)
+            .saturating_mul(STEPS_OF_VARIABLES);
         let offers = self.offers(obligation).saturating_mul(STEPS_A_CANDIDATE);
         price(variables.saturating_add(offers)).saturating_add(1)
     }

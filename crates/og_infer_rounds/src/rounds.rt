@@ -5,8 +5,8 @@ use crate::asking::Frozen;
 use crate::counting::{Questions, price};
 use crate::listing::{Listed, Listing, Lists};
 use crate::pooling::{Pool, count_of};
-use crate::scene::Scene;
-use crate::weakening::{Weakened, Weakening};
+use crate::scene::{Scene, empty_lists};
+use crate::weakening::{Useful, Weakened, Weakening};
 use og_infer_candidates::Universe;
 use og_infer_places::{Claim, Places, Samples};
 use og_pool::PoolFault;
@@ -32,6 +32,8 @@ pub struct Rounds {
     // 0 where that was never done.
     listed: Vec<u64>,
     asked: Vec<u64>,
+    // For each obligation what was taken when it was asked last.
+    useful: Vec<Vec<Useful>>,
     round: u64,
     // The obligation that comes next.
     next: usize,
@@ -70,6 +72,7 @@ impl Rounds {
             lists: Lists::none(alloc, scene.count())?,
             listed: vec![in alloc; 0u64; scene.count()]?,
             asked: vec![in alloc; 0u64; scene.obligations.len()]?,
+            useful: empty_lists(alloc, scene.obligations.len())?,
             round: 1,
             next: 0,
             steps: 0,
@@ -234,6 +237,15 @@ impl Rounds {
             return Ok(());
         };
         questions.spend(found.asked);
+        let frozen = Frozen {
+            scene: ground.scene,
+            universe: ground.universe,
+            lists: &self.lists,
+        };
+        let taken = frozen.useful(&found.taken)?;
+        if let Some(useful) = self.useful.get_mut(index) {
+            *useful = taken;
+        }
         if let Claim::Holds(goal) = obligation.claim {
             for state in found.states {
                 self.held.admit(ground, goal, state.values)?;
@@ -282,6 +294,7 @@ impl Rounds {
         let tasks = Weakening {
             frozen,
             tasks: batch,
+            useful: &self.useful,
             share,
             count,
         };

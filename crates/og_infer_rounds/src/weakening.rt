@@ -10,10 +10,20 @@ use og_typed::Assert;
 use std::alloc::{AllocError, Global};
 
 /// How many candidates are asked in one question.
-const MOST_GOALS: usize = 48;
+const MOST_GOALS: usize = 24;
 
 /// How many states a task finds at most.
 const MOST_STATES: usize = 8;
+
+/// How many candidates are taken at first because other goals of the obligation needed them.
+const MOST_USEFUL: usize = 16;
+
+/// A candidate of a place that was taken.
+#[derive(Drop)]
+pub(crate) struct Useful {
+    place: u32,
+    candidate: Candidate,
+}
 
 /// Candidates of a place that are asked together, by where they stand in its list, and what was
 /// taken for them so far.
@@ -23,10 +33,12 @@ struct Chunk {
     taken: Vec<Spot>,
 }
 
-/// The states that were found, after the action, and how many questions were asked.
+/// The states that were found, after the action, what was taken last, and how many questions were
+/// asked.
 #[derive(Drop)]
 pub(crate) struct Weakened {
     pub(crate) states: Vec<Seen>,
+    pub(crate) taken: Vec<Spot>,
     pub(crate) asked: u64,
 }
 
@@ -120,6 +132,31 @@ impl<'a, 'o> Frozen<'a, 'o> {
         Ok(Assert::And(all))
     }
 
+    /// What is taken, in a form that outlasts the lists.
+    pub(crate) fn useful(&self, taken: &[Spot]) -> Result<Vec<Useful>, AllocError> {
+        let alloc = self.scene.alloc;
+        let mut useful = Vec::new(alloc);
+        for spot in taken {
+            if let Some(listed) = self.lists.get(*spot) {
+                let place = spot.place;
+                let candidate = listed.candidate.copy(alloc)?;
+                useful.push(Useful { place, candidate })?;
+            }
+        }
+        Ok(useful)
+    }
+
+    // Where these are listed, as far as they are.
+    fn spots_of(&self, useful: &[Useful]) -> Result<Vec<Spot>, AllocError> {
+        let mut spots = Vec::new(self.scene.alloc);
+        for Useful { place, candidate } in useful {
+            if let Some(spot) = self.lists.find(*place, candidate) {
+                spots.push(spot)?;
+            }
+        }
+        Ok(spots)
+    }
+
     /// The state after the action of the obligation. A value beyond `i64` is the nearest one there.
     pub fn after(&self, obligation: &Obligation, mut values: Vec<i64>) -> Result<Seen, AllocError> {
         if let Some(action) = &obligation.action {
@@ -151,6 +188,8 @@ struct Weakener<'a, 'o> {
     // What is still to be asked, the last one first.
     chunks: Vec<Chunk>,
     states: Vec<Seen>,
+    // What is taken at first.
+    useful: Vec<Spot>,
     left: u64,
 }
 
@@ -160,6 +199,7 @@ impl<'a, 'o> Weakener<'a, 'o> {
         frozen: Frozen<'a, 'o>,
         obligation: &'a Obligation<'o>,
         place: u32,
+        useful: &[Useful],
         left: u64,
     ) -> Result<Weakener<'a, 'o>, AllocError> {
         let alloc = frozen.scene.alloc;
@@ -171,6 +211,7 @@ impl<'a, 'o> Weakener<'a, 'o> {
             place,
             chunks: chunks_of(alloc, &goals)?,
             states: Vec::new(alloc),
+            useful: frozen.spots_of(useful)?,
             left: left.saturating_sub(price(listed)),
         })
     }
@@ -228,9 +269,19 @@ impl<'a, 'o> Weakener<'a, 'o> {
         Ok(())
     }
 
+    // Takes the last ones of these at first from now on.
+    fn keep(&mut self, taken: Vec<Spot>) -> Result<(), AllocError> {
+        let first = taken.len().saturating_sub(MOST_USEFUL);
+        self.useful = Vec::from_slice(self.frozen.scene.alloc, taken.get(first..).unwrap_or(&[]))?;
+        Ok(())
+    }
+
     // Asks whether the candidates hold after the action.
     fn settle(&mut self, chunk: Chunk) -> Result<(), AllocError> {
-        let Chunk { goals, taken } = chunk;
+        let Chunk { goals, mut taken } = chunk;
+        if taken.is_empty() {
+            taken.extend_from_slice(&self.useful)?;
+        }
         let conjunction = self.frozen.conjunction(self.place, &goals)?;
         let goal = Goal::Holds(&conjunction);
         let mut inquiry = Inquiry::new(self.frozen, self.obligation, goal, taken, self.left);
@@ -238,7 +289,7 @@ impl<'a, 'o> Weakener<'a, 'o> {
         let Inquiry { taken, left, .. } = inquiry;
         self.left = left;
         match settled {
-            Settled::True => Ok(()),
+            Settled::True => self.keep(taken),
             Settled::Open => self.halve(&goals),
             Settled::False(values) => self.refute(Chunk { goals, taken }, values),
         }
@@ -269,6 +320,8 @@ impl<'a, 'o> Weakener<'a, 'o> {
 pub(crate) struct Weakening<'a, 'o> {
     pub(crate) frozen: Frozen<'a, 'o>,
     pub(crate) tasks: &'a [usize],
+    /// For each obligation what was taken last.
+    pub(crate) useful: &'a [Vec<Useful>],
     /// How many questions each task may ask.
     pub(crate) share: u64,
     pub(crate) count: u32,
@@ -276,15 +329,27 @@ pub(crate) struct Weakening<'a, 'o> {
 
 impl<'a, 'o> Weakening<'a, 'o> {
     // The states that one obligation gives.
-    fn weakened(&self, obligation: &'a Obligation<'o>) -> Result<Option<Weakened>, AllocError> {
+    fn weakened(
+        &self,
+        obligation: &'a Obligation<'o>,
+        useful: &[Useful],
+    ) -> Result<Option<Weakened>, AllocError> {
         let Claim::Holds(place) = obligation.claim else {
             return Ok(None);
         };
-        let mut weakener = Weakener::new(self.frozen, obligation, place, self.share)?;
+        let mut weakener = Weakener::new(self.frozen, obligation, place, useful, self.share)?;
         weakener.run()?;
-        let Weakener { states, left, .. } = weakener;
-        let asked = self.share.saturating_sub(left);
-        Ok(Some(Weakened { states, asked }))
+        let Weakener {
+            states,
+            useful,
+            left,
+            ..
+        } = weakener;
+        Ok(Some(Weakened {
+            states,
+            taken: useful,
+            asked: self.share.saturating_sub(left),
+        }))
     }
 }
 
@@ -312,9 +377,12 @@ impl<'a, 'o> Numbered for Weakening<'a, 'o> {
         let Some(task) = self.tasks.get(number as usize - 1) else {
             return Ok(None);
         };
-        match self.frozen.scene.obligations.get(*task) {
-            Some(obligation) => self.weakened(obligation),
-            None => Ok(None),
+        match (
+            self.frozen.scene.obligations.get(*task),
+            self.useful.get(*task),
+        ) {
+            (Some(obligation), Some(useful)) => self.weakened(obligation, useful),
+            _ => Ok(None),
         }
     }
 }
