@@ -26,7 +26,7 @@ use std::thread::Threads;
 const MOST_AUXILIARIES: usize = 256;
 
 // The styles that are tried, and which part of the questions that are left each one may take.
-const STYLES: [(Style, u64); 2] = [(Style::Counter, 4), (Style::Flags, 2)];
+const STYLES: [(Style, u64); 2] = [(Style::Counter, 5), (Style::Flags, 2)];
 
 // A simpler plan may take so many times the questions of the first one that suffices, and at least
 // so many.
