@@ -75,11 +75,7 @@ fn is_behind_assertion(alloc: Global, source: &[u8], at: u32) -> Result<bool, Al
 /// # Errors
 ///
 /// An allocation was refused.
-pub(crate) fn byte_hint(
-    alloc: Global,
-    source: &[u8],
-    at: u32,
-) -> Result<Option<Hint>, AllocError> {
+pub(crate) fn byte_hint(alloc: Global, source: &[u8], at: u32) -> Result<Option<Hint>, AllocError> {
     let rest = rest_of(source, at as usize);
     match rest {
         [b'|', b'|', ..] if is_behind_assertion(alloc, source, at)? => {
@@ -385,11 +381,8 @@ impl<'a> Around<'a> {
         match kind {
             TokenKind::OpenBrace if self.may(&TokenKind::Coend) => Some(Hint::MissingCoend),
             TokenKind::OpenBrace if self.is_in_body() => Some(Hint::NoNoteInAwait),
-            TokenKind::OpenBrace
-                if self.may(&TokenKind::Semicolon) && self.may(&TokenKind::End) =>
-            {
-                Some(Hint::MissingBodyEnd)
-            }
+            TokenKind::OpenBrace if self.may(&TokenKind::Semicolon) && self.may(&TokenKind::End) =>
+                { Some(Hint::MissingBodyEnd) }
             TokenKind::OpenBrace if self.may(&TokenKind::End) => Some(Hint::MissingEnd),
             TokenKind::OpenBrace if self.may(&TokenKind::Skip) => Some(Hint::StatementBetween),
             TokenKind::OpenBrace if self.may(&TokenKind::Then) && self.is_guard() => {

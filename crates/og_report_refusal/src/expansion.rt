@@ -38,11 +38,7 @@ fn put_place(text: &mut Vec<u8>, source: &[u8], at: u32) -> Result<(), AllocErro
 }
 
 // Adds a reason and the line of advice.
-fn put_reason(
-    text: &mut Vec<u8>,
-    reason: &[u8],
-    help: &Option<Vec<u8>>,
-) -> Result<(), AllocError>
+fn put_reason(text: &mut Vec<u8>, reason: &[u8], help: &Option<Vec<u8>>) -> Result<(), AllocError>
     ensures { OnOk result (text.new.items ≡ text.old.items
         ++ (map shown_byte reason.now ++ (codes "\n" ++ hint_text (option_map (λ h. h.items)
         help.now)))) }
@@ -50,6 +46,13 @@ fn put_reason(
     put_shown(text, reason)?;
     text.extend_from_slice(b"\n")?;
     put_help(text, help)
+}
+
+// Adds why.
+fn put_told(text: &mut Vec<u8>, told: &[u8]) -> Result<(), AllocError>
+    ensures { OnOk result (text.new.items ≡ text.old.items ++ told.now) }
+{
+    text.extend_from_slice(told)
 }
 
 // Where a name stands that is not declared, if that is the fault.
@@ -124,7 +127,7 @@ impl Refused<'_> {
         let mut text = self.placed_head(alloc, at)?;
         put_quote(&mut text, self.source, at)?;
         let told = self.told(alloc)?;
-        text.extend_from_slice(&told)?;
+        put_told(&mut text, &told)?;
         Ok(text)
     }
 
@@ -137,7 +140,7 @@ impl Refused<'_> {
         let mut text = self.unplaced_head(alloc)?;
         text.extend_from_slice(b"  ")?;
         let told = self.told(alloc)?;
-        text.extend_from_slice(&told)?;
+        put_told(&mut text, &told)?;
         Ok(text)
     }
 

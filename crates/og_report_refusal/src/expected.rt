@@ -101,11 +101,7 @@ fn found(alloc: Global, source: &[u8], rest: &[Token]) -> Result<Vec<u8>, AllocE
 /// # Errors
 ///
 /// An allocation was refused.
-pub(crate) fn found_line(
-    alloc: Global,
-    found: &[u8],
-    words: &[&str],
-) -> Result<Vec<u8>, AllocError>
+pub(crate) fn found_line(alloc: Global, found: &[u8], words: &[&str]) -> Result<Vec<u8>, AllocError>
     ensures { IfOk result (λ text. text.items ≡ found_line found.now (map (λ w. w.now) words.now)) }
 {
     let mut text = Vec::from_slice(alloc, b"found ")?;

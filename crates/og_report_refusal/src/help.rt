@@ -18,11 +18,7 @@ fn is_one_line(text: &[u8]) -> bool
 fn kept(text: Vec<u8>) -> Option<Vec<u8>>
     ensures { IfSome result (λ t. IsTrue (is_one_line t.items)) }
 {
-    if is_one_line(&text) {
-        Some(text)
-    } else {
-        None
-    }
+    if is_one_line(&text) { Some(text) } else { None }
 }
 
 // Which name was meant at a place whose name is not declared, where one is like it.

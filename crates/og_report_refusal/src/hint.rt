@@ -118,8 +118,7 @@ impl Hint {
             Hint::ExpandTemplate => "this is a template: og expand FILE > x.og",
             Hint::WriteTemplate => "this is a form of templates: put 'template;' in front",
             Hint::WriteParallel => "write '//' between processes",
-            Hint::WriteBoth =>
-                "write both implications: '(x = 0 -> y = 0) and (y = 0 -> x = 0)'",
+            Hint::WriteBoth => "write both implications: '(x = 0 -> y = 0) and (y = 0 -> x = 0)'",
             Hint::NoNoteInAwait => "no assertions stand in the body of an 'await'",
             Hint::MissingBodyEnd =>
                 "no assertions stand in the body of an 'await'; or is its 'end' missing?",

@@ -29,7 +29,12 @@ pub(crate) type Reason = (Vec<u8>, Option<Hint>);
 /// # Errors
 ///
 /// An allocation was refused.
-pub(crate) fn wrong_word(alloc: Global, source: &[u8], at: u32, why: &str) -> Result<Reason, AllocError>
+pub(crate) fn wrong_word(
+    alloc: Global,
+    source: &[u8],
+    at: u32,
+    why: &str,
+) -> Result<Reason, AllocError>
     ensures { IfOk result (λ r. r.0.items ≡ wrong_text source.now at why.now) }
 {
     let mut text = Vec::from_slice(alloc, b"'")?;
@@ -126,7 +131,11 @@ pub(crate) fn plain(alloc: Global, why: &str, hint: Option<Hint>) -> Result<Reas
 /// # Errors
 ///
 /// An allocation was refused.
-pub(crate) fn lex_reason(alloc: Global, fault: &LexFault, source: &[u8]) -> Result<Reason, AllocError>
+pub(crate) fn lex_reason(
+    alloc: Global,
+    fault: &LexFault,
+    source: &[u8],
+) -> Result<Reason, AllocError>
     ensures { IfOk result (λ r.
         IsReason source.now (faults.Source (sources.Lex fault.now)) r.0.items) }
 {

@@ -43,11 +43,7 @@ fn in_other_letters<'a>(words: &'a [Word], name: &[u8]) -> Option<&'a [u8]> {
 }
 
 // The first name among the words that is near this one.
-fn near<'a>(
-    alloc: Global,
-    words: &'a [Word],
-    name: &[u8],
-) -> Result<Option<&'a [u8]>, AllocError> {
+fn near<'a>(alloc: Global, words: &'a [Word], name: &[u8]) -> Result<Option<&'a [u8]>, AllocError> {
     for word in words {
         if let Some(other) = name_of(word) {
             if is_near(alloc, name, other)? {

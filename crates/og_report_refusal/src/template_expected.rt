@@ -19,7 +19,8 @@ const TRIED: Span = Span {
 };
 
 // A name, a number, and every keyword and symbol, those of templates last.
-const ALL_WORDS: &str = "x 0 var aux cobegin coend await then begin end if else while do skip true false not and or := // <= >= <> < > = + - -> * ( ) { } ; , template const let process for in where all some sum mod .. [ ] :";
+const ALL_WORDS: &str =
+    "x 0 var aux cobegin coend await then begin end if else while do skip true false not and or := // <= >= <> < > = + - -> * ( ) { } ; , template const let process for in where all some sum mod .. [ ] :";
 
 // Whether a template begins with the words, of which the last is tried.
 fn is_front(alloc: Global, words: &[Word]) -> Result<bool, AllocError> {
@@ -92,12 +93,7 @@ fn first_span(words: &[Word], at: u32) -> Option<Span>
 }
 
 // What is found at a place among the words.
-fn found(
-    alloc: Global,
-    source: &[u8],
-    words: &[Word],
-    at: u32,
-) -> Result<Vec<u8>, AllocError>
+fn found(alloc: Global, source: &[u8], words: &[Word], at: u32) -> Result<Vec<u8>, AllocError>
     ensures { IfOk result (λ t. t.items ≡ found_at source.now (span_behind at words.now)) }
 {
     let mut text = Vec::new(alloc);

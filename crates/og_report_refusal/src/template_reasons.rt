@@ -11,7 +11,7 @@ use crate::template_expected::template_expected;
 use og_report_text::{put_constant, put_number};
 use og_template::{FaultKind, TemplateFault};
 use og_template_expand::{Bound, Outside};
-use og_template_outline::{Detail, ExpandFault, Kind, NameDetail, Wanted, detail};
+use og_template_outline::{Detail, ExpandFault, Kind, NameDetail, Wanted, fault_detail};
 use std::alloc::{AllocError, Global};
 
 // A template, with the words that give its constants their values.
@@ -66,11 +66,7 @@ fn put_values(text: &mut Vec<u8>, count: usize) -> Result<(), AllocError> {
 }
 
 // What is said of a name, and advice where there is some.
-fn of_detail(
-    alloc: Global,
-    source: &[u8],
-    known: NameDetail,
-) -> Result<Reason, AllocError>
+fn of_detail(alloc: Global, source: &[u8], known: NameDetail) -> Result<Reason, AllocError>
     requires { length source.now ≤ 2 ^ 20 }
 {
     let mut text = Vec::new(alloc);
@@ -149,7 +145,7 @@ impl Told<'_> {
         requires { length self.now.source.now ≤ 2 ^ 20 }
         ensures { IfOk result (λ r. IsOfName self.now.source.now fault.now.at r.0.items) }
     {
-        match detail(alloc, self.source, self.words, fault)? {
+        match fault_detail(alloc, self.source, self.words, fault)? {
             Some(Detail::Name(known)) => {
                 let (what, hint) = of_detail(alloc, self.source, known)?;
                 Ok((named(alloc, self.source, fault.at, &what)?, hint))
@@ -163,7 +159,7 @@ impl Told<'_> {
 
     // Why an index is not as it must be.
     fn index_reason(&self, alloc: Global, fault: &TemplateFault) -> Result<Reason, AllocError> {
-        match detail(alloc, self.source, self.words, fault)? {
+        match fault_detail(alloc, self.source, self.words, fault)? {
             Some(Detail::Outside(outside)) => outside_reason(alloc, &outside),
             _ => plain(alloc, "the index is outside of the family's range", None),
         }
@@ -197,7 +193,11 @@ impl Told<'_> {
                 plain(alloc, "the 4097th statement begins here", None)
             }
             FaultKind::ValueTooLarge => {
-                plain(alloc, "the value here is no 64-bit number with a sign", None)
+                plain(
+                    alloc,
+                    "the value here is no 64-bit number with a sign",
+                    None,
+                )
             }
             FaultKind::BadModulus => plain(alloc, "the number behind 'mod' is below 1", None),
             FaultKind::BadRange => {
@@ -228,7 +228,11 @@ impl Told<'_> {
             ExpandFault::Template(fault) => self.kind_reason(alloc, fault),
             ExpandFault::Outline(fault) => rule_reason(alloc, fault, self.source),
             ExpandFault::ExpansionTooLong => {
-                plain(alloc, "the outline would have more than 1048576 bytes", None)
+                plain(
+                    alloc,
+                    "the outline would have more than 1048576 bytes",
+                    None,
+                )
             }
             ExpandFault::NotReadBack => {
                 plain(alloc, "the outline was not read back as it is meant", None)

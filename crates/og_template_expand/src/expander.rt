@@ -7,8 +7,8 @@ ghost use Rattle.og_template.specs.declared.fault.FaultKind.TheVariants.{TooMany
 ghost use Rattle.og_template_expand.specs.declared.fault.Stop.TheVariants.{Spent};
 
 use crate::fault::{Stop, fault_at};
-use crate::origin::{Binding, Origin};
 use crate::indices::Outside;
+use crate::origin::{Binding, Origin};
 use crate::scope::same_bindings;
 use itoa::Buffer;
 use og_parse::RawName;

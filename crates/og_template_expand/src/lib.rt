@@ -22,6 +22,6 @@ mod statements;
 mod sums;
 mod template;
 
-pub use origin::{Binding, Origin};
 pub use indices::{Bound, Outside};
+pub use origin::{Binding, Origin};
 pub use template::{Expanded, expand, outside};

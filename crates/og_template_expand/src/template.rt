@@ -13,8 +13,8 @@ use crate::declarations::{
 };
 use crate::expander::Expander;
 use crate::fault::{Stop, fault};
-use crate::origin::{Binding, Origin};
 use crate::indices::Outside;
+use crate::origin::{Binding, Origin};
 use crate::repeated::{Repeated, all_made};
 use crate::scope::{Names, Scope};
 use crate::statements::sequence;

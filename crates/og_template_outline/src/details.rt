@@ -114,7 +114,7 @@ fn of_template(
 /// # Errors
 ///
 /// An allocation was refused.
-pub fn detail(
+pub fn fault_detail(
     alloc: Global,
     text: &[u8],
     words: &[&str],

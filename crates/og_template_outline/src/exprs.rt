@@ -35,10 +35,7 @@ pub(crate) fn check_bounds(scope: &Scope<'_>, bounds: &Bounds) -> Result<(), Nam
 }
 
 /// Asks the names of a binder, and brings its name into scope.
-pub(crate) fn enter_binder<'a>(
-    scope: &mut Scope<'a>,
-    binder: &'a Binder,
-) -> Result<(), NameError> {
+pub(crate) fn enter_binder<'a>(scope: &mut Scope<'a>, binder: &'a Binder) -> Result<(), NameError> {
     scope.absent(&binder.name)?;
     check_bounds(scope, &binder.range)?;
     scope.enter(&binder.name, Kind::Value)?;

@@ -2,7 +2,7 @@
 //!
 //! [`check_names`] finds the first use of a name without its declaration, or of the wrong kind.
 //! [`read_text`] says what a text means, source or template, and which words behind it give starts
-//! (specs/Meaning.antt). specs/Expanded.antt has the promise of `expand`. [`detail`] says more of a
+//! (specs/Meaning.antt). specs/Expanded.antt has the promise of `expand`. [`fault_detail`] says more of a
 //! fault.
 #![tactic(auto)]
 
@@ -23,7 +23,7 @@ mod statements;
 mod template;
 mod words;
 
-pub use details::{Detail, Kind, NameDetail, Wanted, detail};
+pub use details::{Detail, Kind, NameDetail, Wanted, fault_detail};
 pub use expanding::expanded;
 pub use fault::{ExpandFault, MeaningError};
 pub use meaning::{Meaning, Reading, Takes, read_text};

@@ -104,10 +104,7 @@ fn check_process<'a>(scope: &mut Scope<'a>, process: &'a Process) -> Result<(), 
     Ok(())
 }
 
-fn check_processes<'a>(
-    scope: &mut Scope<'a>,
-    processes: &'a [Process],
-) -> Result<(), NameError> {
+fn check_processes<'a>(scope: &mut Scope<'a>, processes: &'a [Process]) -> Result<(), NameError> {
     for process in processes {
         check_process(scope, process)?;
     }

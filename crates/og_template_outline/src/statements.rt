@@ -8,11 +8,7 @@ use og_parse::RawName;
 use og_template::{Basic, Element, Expr, Sequence, Statement, Step};
 
 // Asks the names of the assigned variables.
-fn check_target(
-    scope: &Scope<'_>,
-    name: &RawName,
-    index: &Option<Expr>,
-) -> Result<(), NameError> {
+fn check_target(scope: &Scope<'_>, name: &RawName, index: &Option<Expr>) -> Result<(), NameError> {
     match index {
         None => scope.expect(name, Wanted::Variable),
         Some(index) => {
@@ -50,10 +46,7 @@ fn check_elements<'a>(scope: &mut Scope<'a>, all: &'a [Element]) -> Result<(), N
 }
 
 #[cycle(statements)]
-fn check_other<'a>(
-    scope: &mut Scope<'a>,
-    other: &'a Option<Sequence>,
-) -> Result<(), NameError> {
+fn check_other<'a>(scope: &mut Scope<'a>, other: &'a Option<Sequence>) -> Result<(), NameError> {
     match other {
         Some(sequence) => check_sequence(scope, sequence),
         None => Ok(()),
@@ -61,10 +54,7 @@ fn check_other<'a>(
 }
 
 #[cycle(statements)]
-fn check_statement<'a>(
-    scope: &mut Scope<'a>,
-    statement: &'a Statement,
-) -> Result<(), NameError> {
+fn check_statement<'a>(scope: &mut Scope<'a>, statement: &'a Statement) -> Result<(), NameError> {
     match statement {
         Statement::Basic(basic) => check_basic(scope, basic),
         Statement::If(test, branch, other) => {
