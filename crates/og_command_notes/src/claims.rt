@@ -126,7 +126,7 @@ fn add<'a>(
     facts: Vec<Part<'a>>,
 ) -> Result<bool, AllocError>
     ensures { OnOk result (Gains (claims_of claims.old.items) (claims_of claims.new.items)
-        (question asked at (parts_of facts) ∷ [])) }
+        (question asked at (parts_of facts.entry) ∷ [])) }
 {
     let refuted = is_told_refuted(search, is_told, &facts)?;
     claims.push(Claim {
@@ -147,7 +147,7 @@ fn add_alone<'a>(
     fact: Part<'a>,
 ) -> Result<bool, AllocError>
     ensures { OnOk result (Gains (claims_of claims.old.items) (claims_of claims.new.items)
-        (question asked at (part_of fact ∷ []) ∷ [])) }
+        (question asked at (part_of fact.entry ∷ []) ∷ [])) }
 {
     let mut facts = Vec::new(search.alloc);
     facts.push(fact)?;
@@ -172,7 +172,7 @@ fn add_tested<'a>(
     test: Part<'a>,
 ) -> Result<(), AllocError>
     ensures { OnOk result (Gains (claims_of claims.old.items) (claims_of claims.new.items)
-        (question asked at (Yes (formula before.assertion.now) ∷ part_of test ∷ []) ∷ [])) }
+        (question asked at (Yes (formula before.entry.assertion.now) ∷ part_of test.entry ∷ []) ∷ [])) }
 {
     let mut facts = Vec::new(search.alloc);
     facts.push(Part::Yes(before.assertion))?;
@@ -190,7 +190,7 @@ fn add_statement<'a>(
     at: u32,
 ) -> Result<(), AllocError>
     ensures { OnOk result (Gains (claims_of claims.old.items) (claims_of claims.new.items)
-        (statement_questions (formula before.assertion.now) (statement stmt.now) at)) }
+        (statement_questions (formula before.entry.assertion.now) (statement stmt.now) at)) }
 {
     match stmt {
         Stmt::Skip | Stmt::Assign(..) => Ok(()),

@@ -69,7 +69,7 @@ fn is_pair(var: u32, other: u32, form: &Form) -> bool
 
 // The idiom of one assignment.
 fn one_move(var: u32, first: Move) -> Option<Idiom>
-    ensures { result ≡ plain.one_move var (move_of first) }
+    ensures { result ≡ plain.one_move var (move_of first.entry) }
 {
     if first.var == var && is_moved(var, first.form) {
         Some(Idiom::FetchAndAdd)
@@ -95,7 +95,7 @@ fn second_move(var: u32, read: u32, form: &Form) -> Option<Idiom>
 
 // The idiom of two assignments.
 fn two_moves(var: u32, first: Move, second: Move) -> Option<Idiom>
-    ensures { result ≡ plain.two_moves var (move_of first) (move_of second) }
+    ensures { result ≡ plain.two_moves var (move_of first.entry) (move_of second.entry) }
 {
     if !(second.var == var && first.var != var) {
         return None;
@@ -111,7 +111,7 @@ fn two_moves(var: u32, first: Move, second: Move) -> Option<Idiom>
 
 // The idiom of three assignments.
 fn three_moves(var: u32, first: Move, second: Move, third: Move) -> Option<Idiom>
-    ensures { result ≡ plain.three_moves var (move_of first) (move_of second) (move_of third) }
+    ensures { result ≡ plain.three_moves var (move_of first.entry) (move_of second.entry) (move_of third.entry) }
 {
     if second.var == var
         && is_alone(var, first.form)
@@ -126,7 +126,7 @@ fn three_moves(var: u32, first: Move, second: Move, third: Move) -> Option<Idiom
 
 // The idiom of three assignments to two shared variables.
 fn exchange(first: Move, second: Move, third: Move) -> Option<Idiom>
-    ensures { result ≡ plain.exchange (move_of first) (move_of second) (move_of third) }
+    ensures { result ≡ plain.exchange (move_of first.entry) (move_of second.entry) (move_of third.entry) }
 {
     let is_sum = is_pair(second.var, third.var, second.form)
         || is_pair(third.var, second.var, second.form);

@@ -9,7 +9,7 @@ ghost use Rattle.og_command_notes.specs.Seen.{claims_of};
 use crate::claims::{Claim, Search, claims_of};
 use crate::hidden::put_all_hidden;
 use crate::lines::{put_assertion_line, put_claims, put_steps, put_together};
-use crate::together::{Together, together};
+use crate::together::{Together, compared};
 use crate::unused::put_unused;
 use crate::walk::{Walk, walk_of};
 use og_erase::erase;
@@ -108,7 +108,7 @@ struct Findings<'a> {
 }
 
 // What a search within the budget finds.
-fn findings<'a>(
+fn found_in<'a>(
     alloc: Global,
     outline: &'a Outline,
     budget: Budget,
@@ -118,7 +118,7 @@ fn findings<'a>(
     let walk = walk_of(alloc, outline)?;
     let search = Search::new(alloc, outline, budget);
     let claims = claims_of(search, outline, &walk.points)?;
-    let together = together(search, &walk.points)?;
+    let together = compared(search, &walk.points)?;
     Ok(Findings {
         walk,
         claims,
@@ -184,7 +184,7 @@ fn notes_text(alloc: Global, subject: &Subject, budget: Budget) -> Result<Vec<u8
         places: &places,
         rows: subject.rows,
     };
-    let found = findings(alloc, outline, budget)?;
+    let found = found_in(alloc, outline, budget)?;
     let mut text = Vec::new(alloc);
     put_notes(&mut text, outline, &origins, &found)?;
     Ok(text)

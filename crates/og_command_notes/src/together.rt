@@ -6,7 +6,7 @@ ghost use Rattle.og_typed.specs.Plain.{formula};
 ghost use Rattle.og_typed.specs.declared.sites.Part.TheVariants as parts;
 ghost use Rattle.og_command_notes.specs.Claims.{AreNeverTrue};
 ghost use Rattle.og_command_notes.specs.Seen.{point_of, points_of};
-ghost use Rattle.og_command_notes.specs.Together.{AreApart, AreBlocks, IsBlock, JoinsColumns, JoinsRows};
+ghost use Rattle.og_command_notes.specs.Together.{AreApart, AreBlocks, IsBlock, IsSameSpan, JoinsColumns, JoinsRows};
 
 use crate::claims::{Search, is_refuted};
 use crate::walk::Point;
@@ -126,7 +126,7 @@ fn follows(before: Span, behind: Span) -> bool
 
 // Whether two spans are the same.
 fn is_same(one: Span, other: Span) -> bool
-    ensures { IsTrue result ↔ ((one.from ≡ other.from) × (one.to ≡ other.to)) }
+    ensures { IsTrue result ↔ IsSameSpan one other }
 {
     one.from == other.from && one.to == other.to
 }
@@ -295,7 +295,7 @@ fn next_part(points: &[Point], index: usize) -> usize
 /// # Errors
 ///
 /// An allocation was refused.
-pub(crate) fn together(search: Search, points: &[Point]) -> Result<Together, AllocError>
+pub(crate) fn compared(search: Search, points: &[Point]) -> Result<Together, AllocError>
     ensures { IfOk result (λ t. AreBlocks (points_of points.now) t.blocks.items) }
 {
     let mut pairs = Pairs {
