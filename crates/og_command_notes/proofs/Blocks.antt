@@ -81,8 +81,8 @@ one_block points i j one other p q l m is there h = record {
       let first : i ≡ a = omega (arith, k, n) in
       let second : j ≡ b = omega (arith, o, r) in
       let here : AreApartIn one other (slice_get (points_of points) i) (slice_get (points_of points) j) =
-          subst (λ (x : Option Point). AreApartIn one other x (slice_get (points_of points) j)) (sym (point_at points i p l is))
-          (subst (λ (y : Option Point). AreApartIn one other (Some (point_of p)) y) (sym (point_at points j q m there)) h) in
+      subst (λ (x : Option Point). AreApartIn one other x (slice_get (points_of points) j)) (sym (point_at points i p l is))
+      (subst (λ (y : Option Point). AreApartIn one other (Some (point_of p)) y) (sym (point_at points j q m there)) h) in
       subst (λ (x : ℕ). AreApartIn one other (slice_get (points_of points) x) (slice_get (points_of points) b)) first
       (subst (λ (y : ℕ). AreApartIn one other (slice_get (points_of points) i) (slice_get (points_of points) y)) second here);
 }

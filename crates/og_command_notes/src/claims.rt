@@ -1,8 +1,8 @@
 //! What an outline may claim of no run, and what of it a search shows.
 
 ghost use Rattle.std.specs.Prelude.{◌≡◌, [], ◌∷◌, true, map, flat_map, IfOk, OnOk};
-ghost use Rattle.og_cond.specs.Condition.{Yes};
-ghost use Rattle.og_cond.specs.Seen.{seen, part_of, parts_of};
+ghost use Rattle.og_cond.specs.Condition.{Is, Yes};
+ghost use Rattle.og_cond.specs.Seen.{seen, hypothesis_of, part_of, parts_of};
 ghost use Rattle.og_cond.specs.Valid.{IsValid};
 ghost use Rattle.og_typed.specs.Plain.{formula, sequence, statement};
 ghost use Rattle.og_typed.specs.Syntax.{last_of};
@@ -73,14 +73,22 @@ impl Search {
     }
 }
 
+// The facts, each as a hypothesis.
+fn hypotheses_of<'a>(alloc: Global, facts: &[Part<'a>]) -> Result<Vec<Hypothesis<'a>>, AllocError>
+    ensures { IfOk result (λ v. map hypothesis_of v.items ≡ map Is (map part_of facts.now)) }
+{
+    let mut hypotheses = Vec::new(alloc);
+    for fact in facts {
+        hypotheses.push(Hypothesis::Is(*fact))?;
+    }
+    Ok(hypotheses)
+}
+
 // The condition that the facts are never true together.
 fn never<'a>(search: Search, facts: &[Part<'a>]) -> Result<Condition<'a>, AllocError>
     ensures { IfOk result (λ c. IsValid (seen c) → AreNeverTrue (map part_of facts.now)) }
 {
-    let mut hypotheses = Vec::new(search.alloc);
-    for fact in facts {
-        hypotheses.push(Hypothesis::Is(*fact))?;
-    }
+    let hypotheses = hypotheses_of(search.alloc, facts)?;
     Ok(Condition {
         kind: Kind::Start,
         at: 0,
@@ -195,18 +203,39 @@ fn add_statement<'a>(
     match stmt {
         Stmt::Skip | Stmt::Assign(..) => Ok(()),
         Stmt::If(test, _, other) => {
-            add_tested(claims, search, Asked::BranchTaken, at, before, Part::Yes(test))?;
+            add_tested(
+                claims,
+                search,
+                Asked::BranchTaken,
+                at,
+                before,
+                Part::Yes(test),
+            )?;
             match other {
                 Some(_) => add_tested(claims, search, Asked::ElseTaken, at, before, Part::No(test)),
                 None => Ok(()),
             }
         }
         Stmt::While(test, _) => {
-            add_tested(claims, search, Asked::LoopEntered, at, before, Part::Yes(test))?;
+            add_tested(
+                claims,
+                search,
+                Asked::LoopEntered,
+                at,
+                before,
+                Part::Yes(test),
+            )?;
             add_tested(claims, search, Asked::LoopLeft, at, before, Part::No(test))
         }
         Stmt::Await(guard, _) => {
-            add_tested(claims, search, Asked::AwaitPassed, at, before, Part::Yes(guard))
+            add_tested(
+                claims,
+                search,
+                Asked::AwaitPassed,
+                at,
+                before,
+                Part::Yes(guard),
+            )
         }
     }
 }

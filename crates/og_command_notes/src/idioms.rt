@@ -178,11 +178,7 @@ fn guarded_idiom(guard: &Assert, vars: &[u32], moves: &[Move]) -> Option<Idiom>
 }
 
 // The assignments to variables below `count`, in order.
-fn moves_in<'a>(
-    alloc: Global,
-    count: u32,
-    body: &'a [Basic],
-) -> Result<Vec<Move<'a>>, AllocError>
+fn moves_in<'a>(alloc: Global, count: u32, body: &'a [Basic]) -> Result<Vec<Move<'a>>, AllocError>
     ensures { IfOk result (λ v.
         moves_of v.items ≡ plain.moves_in count (map simple body.now)) }
 {
@@ -194,11 +190,7 @@ fn moves_in<'a>(
 }
 
 // Adds an assignment to a variable below `count`.
-fn add_move<'a>(
-    moves: &mut Vec<Move<'a>>,
-    count: u32,
-    basic: &'a Basic,
-) -> Result<(), AllocError>
+fn add_move<'a>(moves: &mut Vec<Move<'a>>, count: u32, basic: &'a Basic) -> Result<(), AllocError>
     ensures { OnOk result (moves_of moves.new.items
         ≡ moves_of moves.old.items ++ plain.moves_in count (simple basic.now ∷ [])) }
 {

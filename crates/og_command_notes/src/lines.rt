@@ -204,11 +204,7 @@ fn put_access(
 }
 
 // What is done with all variables.
-fn put_accesses(
-    text: &mut Vec<u8>,
-    names: &[Name],
-    accesses: &Accesses,
-) -> Result<(), AllocError>
+fn put_accesses(text: &mut Vec<u8>, names: &[Name], accesses: &Accesses) -> Result<(), AllocError>
     ensures { OnOk result (text.new.items ≡ text.old.items ++ line.accesses_text names.now
         accesses.now.both.items accesses.now.reads.items accesses.now.writes.items) }
 {
