@@ -4,9 +4,6 @@ use Rattle.std.specs.Prelude.{Contains, not, filter, flat_map, slice_index_or, c
 use Rattle.std.specs.List.{list_any, range_with_len}
 use Rattle.std.proofs.lemmas.Bool.{and_parts, and_from, true≢false}
 use Rattle.std.proofs.lemmas.List.FromFn.{length-range_with_len, get_or-range_with_len}
-use Rattle.og_typed.specs.Syntax.{Program}
-use Rattle.og_report_text.specs.Origins.{Rows}
-use Rattle.og_command_notes.specs.Claims.{Claim}
 use Rattle.og_command_notes.specs.Hidden.{hidden_lines}
 use Rattle.og_command_notes.specs.Law.{IsIn, IsAssignedBeside, IsUsedBeside, BothAreThese, ReadsAreThese, WritesAreThese, StepsAreListed, ClaimsAreListed}
 use Rattle.og_command_notes.specs.Notes.{assertion_line, claim_line, step_line, step_lines, claims_text, together_text, findings_text, unblocked_line, definitions_line, auxiliaries, auxiliaries_text, program_of}
@@ -14,7 +11,6 @@ use Rattle.og_command_notes.specs.Points.{points}
 use Rattle.og_command_notes.specs.Steps.{Step, all_steps, reads, assigns, is_beside, is_set_beside, is_used_beside, reads_shared, writes_shared, is_accessed, accessed}
 use Rattle.og_command_notes.specs.Unused.{unused_lines}
 use Rattle.og_command_notes.specs.declared.steps.Access.TheVariants as access
-use Rattle.og_command_notes.specs.declared.together.Block.{Block}
 
 -- ---- elements of lists, by cases on the list
 

@@ -1,6 +1,6 @@
 -- The assignments of a step, one by one.
 use Rattle.std.proofs.Common.{◌≡◌, ◌∙◌, ◌++◌, ℕ, List, [], ◌∷◌, refl, sym, ap, append_assoc, arith}
-use Rattle.std.specs.Prelude.{nat_lt, Bool, true, false, cond, length, get_or, Option}
+use Rattle.std.specs.Prelude.{nat_lt, Bool, true, false, cond, length, Option}
 use Rattle.og_typed.specs.Syntax.{Simple, Pass, Set}
 use Rattle.og_command_notes.specs.Idioms.{Move, moves_in, free_idiom}
 use Rattle.og_command_notes.specs.declared.idioms.Idiom.{Idiom}
