@@ -1,11 +1,12 @@
 -- Two blocks as one.
-use Rattle.std.proofs.Common.{◌≡◌, ◌∙◌, ℕ, zero, suc, ◌+◌, ◌<◌, ◌≤◌, ◌⊎◌, inl, inr, List, [], ◌∷◌, length, get_or, refl, sym, ap, subst, arith}
+use Rattle.std.proofs.Common.{◌≡◌, ◌∙◌, ℕ, zero, suc, ◌<◌, ◌≤◌, ◌⊎◌, inl, inr, List, [], ◌∷◌, ◌++◌, length, get_or, refl, sym, ap, subst, arith}
 use Rattle.std.specs.Prelude.{slice_get, Option, Some, None, option_map}
 use Rattle.std.proofs.lemmas.Option.{slice_get-map}
 use Rattle.std.proofs.lemmas.Bool.{cases_lt}
+use Rattle.std.proofs.lemmas.List.Elements.{All-pop, All-push, All-same}
 use Rattle.og_command_notes.specs.Points.{Point}
 use Rattle.og_command_notes.specs.Seen.{point_of, points_of}
-use Rattle.og_command_notes.specs.Together.{AreApart, AreApartIn, IsBlock, across, down, JoinsColumns, JoinsRows}
+use Rattle.og_command_notes.specs.Together.{AreApart, AreApartIn, AreBlocks, IsBlock, across, down, JoinsColumns, JoinsRows}
 use Rattle.og_command_notes.specs.declared.together.Block.{Block}
 use Rattle.og_command_notes.specs.declared.walk.Point as walk
 
@@ -32,6 +33,12 @@ joined_columns ps a b c x y j =
     let second = y.columns in
     let whole : IsBlock ps (across a b) = record { rows = x.rows; columns = omega (arith, next, first, second); apart = apart_across ps a b c x y j } in
     subst (IsBlock ps) (sym j.joined) whole
+
+-- the last block of a row takes one more place
+pub taken : (ps : List Point) (old before new : List Block) (last block whole : Block) → AreBlocks ps old → old ≡ before ++ last ∷ [] → IsBlock ps block → JoinsColumns last block whole → new ≡ before ++ whole ∷ [] → AreBlocks ps new
+taken ps old before new last block whole all is one j made =
+    let parts = All-pop (IsBlock ps) old before (Some last) is all in
+    All-same (IsBlock ps) new (before ++ whole ∷ []) made (All-push (IsBlock ps) before whole parts.0 (joined_columns ps last block whole parts.1 one j))
 
 apart_down : (ps : List Point) (a b c : Block) → IsBlock ps a → IsBlock ps b → JoinsRows a b c → (i k : ℕ) → a.rows.from ≤ i → i ≤ b.rows.to → a.columns.from ≤ k → k ≤ a.columns.to → AreApartIn a.one a.other (slice_get ps i) (slice_get ps k)
 apart_down ps a b c x y j i k l m n o = go (cases_lt a.rows.to i)

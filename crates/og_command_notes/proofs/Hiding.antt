@@ -1,5 +1,5 @@
 -- The lines of a text, byte by byte.
-use Rattle.std.proofs.Common.{◌≡◌, ℕ, ◌+◌, ◌<◌, ◌≤◌, List, [], ◌∷◌, ◌++◌, drop, length, get_or, drop_of_length-le, ap, subst, refl, sym}
+use Rattle.std.proofs.Common.{◌≡◌, ℕ, ◌+◌, ◌<◌, ◌≤◌, List, [], ◌++◌, drop, length, get_or, drop_of_length-le, ap, subst, refl, sym}
 use Rattle.std.proofs.lemmas.List.{drop_more}
 use Rattle.og_command_notes.specs.Hidden.{hidden_in, inside_after, told_line, lines_from}
 use Rattle.og_command_notes.specs.declared.hidden.Inside.{Inside}

@@ -42,3 +42,10 @@ lines_next f i n lt = ap (flat_map f) (range_next i n lt)
 
 pub lines_done : (f : ℕ → List ℕ) (i n : ℕ) → n ≤ i → flat_map f (range_with_len i (n - i)) ≡ []
 lines_done f i n h = ap (flat_map f) (range_done i n h)
+
+-- the lines of a number more are added
+pub told_next : (f : ℕ → List ℕ) (before after whole : List ℕ) (i n : ℕ) → i < n → after ≡ before ++ f i → before ++ flat_map f (range_with_len i (n - i)) ≡ whole
+    → after ++ flat_map f (range_with_len (i + 1) (n - (i + 1))) ≡ whole
+told_next f before after whole i n lt made e =
+    let later = flat_map f (range_with_len (i + 1) (n - (i + 1))) in
+    ap (λ (l : List ℕ). l ++ later) made ∙ (append_assoc before (f i) later ∙ (ap (λ (l : List ℕ). before ++ l) (sym (lines_next f i n lt)) ∙ e))

@@ -1,7 +1,7 @@
 -- What values of the program stand for.
-use Rattle.std.specs.Prelude.{◌≡◌, ℕ, List, [], ◌∷◌, ◌++◌, map, Option, option_map}
+use Rattle.std.specs.Prelude.{◌≡◌, ℕ, List, ◌++◌, map, Option, option_map}
 use Rattle.std.specs.List.{AllByRecursion}
-use Rattle.og_typed.specs.Syntax.{Noted, Sequence, Statement, Program}
+use Rattle.og_typed.specs.Syntax.{Sequence, Statement, Program}
 use Rattle.og_typed.specs.Plain.{noted, statement}
 use Rattle.og_typed.specs.declared.statement.Item.{Item}
 use Rattle.og_typed.specs.Sites.{of_main, of_processes}

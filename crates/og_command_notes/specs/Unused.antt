@@ -1,5 +1,5 @@
 -- Variables that nothing assigns, and those that nothing reads.
-use Rattle.std.specs.Prelude.{ℕ, List, [], flat_map, Bool, not, ◌&&◌, ◌||◌, nat_le, if◌then◌else◌, slice_get, length, codes}
+use Rattle.std.specs.Prelude.{ℕ, List, [], flat_map, Bool, not, ◌&&◌, nat_le, if◌then◌else◌, slice_get, length, codes}
 use Rattle.std.specs.List.{list_any, range_with_len}
 use Rattle.og_typed.specs.Syntax.{Program}
 use Rattle.og_typed.specs.Occurs.{occurs}

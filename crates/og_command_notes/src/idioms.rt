@@ -1,6 +1,6 @@
 //! Steps that machines have as one instruction.
 
-ghost use Rattle.std.specs.Prelude.{◌≡◌, ◌++◌, [], ◌∷◌, map, IfOk, OnOk};
+ghost use Rattle.std.specs.Prelude.{◌≡◌, ◌++◌, ℕ, [], ◌∷◌, map, IfOk, OnOk};
 ghost use Rattle.og_typed.specs.Plain.{formula, simple, statement};
 ghost use Rattle.og_typed.specs.Syntax.{Set};
 ghost use Rattle.og_command_notes.specs.Seen.{move_of, moves_of};
@@ -137,15 +137,36 @@ fn exchange(first: Move, second: Move, third: Move) -> Option<Idiom>
     }
 }
 
+// The idiom of assignments with no guard, of one shared variable.
+fn idiom_of_one(var: u32, moves: &[Move]) -> Option<Idiom>
+    ensures { result ≡ plain.free_idiom (var ∷ []) (moves_of moves.now) }
+{
+    match moves {
+        [first] => one_move(var, *first),
+        [first, second] => two_moves(var, *first, *second),
+        [first, second, third] => three_moves(var, *first, *second, *third),
+        _ => None,
+    }
+}
+
+// The same of any two.
+fn idiom_of_two(moves: &[Move]) -> Option<Idiom>
+    ensures { (x y : ℕ) → result ≡ plain.free_idiom (x ∷ y ∷ []) (moves_of moves.now) }
+{
+    match moves {
+        [first, second, third] => exchange(*first, *second, *third),
+        _ => None,
+    }
+}
+
 // The idiom of assignments with no guard.
+#[tactic(auto, using(crate::proofs::Moves::of_two))]
 fn free_idiom(vars: &[u32], moves: &[Move]) -> Option<Idiom>
     ensures { result ≡ plain.free_idiom vars.now (moves_of moves.now) }
 {
-    match (vars, moves) {
-        ([var], [first]) => one_move(*var, *first),
-        ([var], [first, second]) => two_moves(*var, *first, *second),
-        ([var], [first, second, third]) => three_moves(*var, *first, *second, *third),
-        ([_, _], [first, second, third]) => exchange(*first, *second, *third),
+    match vars {
+        [var] => idiom_of_one(*var, moves),
+        [_, _] => idiom_of_two(moves),
         _ => None,
     }
 }
