@@ -1,4 +1,4 @@
-use Rattle.std.proofs.Common.{◌≡◌, ◌∙◌, ℕ, List, Bor, ap, map}
+use Rattle.std.proofs.Common.{◌∙◌, ℕ, List, Bor, ap, map}
 use Rattle.og_report_refusal.specs.Reasons.{found_line}
 use Rattle.og_report_refusal.proofs.template_expected.reason_among.Goals as goal
 
