@@ -12,7 +12,7 @@ use Rattle.og_template_outline.specs.declared.fault.ExpandFault.{ExpandFault}
 use Rattle.og_report_refusal.specs.Advice.{is_one_line, hint_text}
 use Rattle.og_report_refusal.specs.Expansion.{IsTold}
 use Rattle.og_report_refusal.specs.Quotes.{shown_byte}
-use Rattle.og_report_refusal.specs.Templates.{IsShortReason, IsReasonBy, IsTemplateReason}
+use Rattle.og_report_refusal.specs.Templates.{IsShortReason, IsReasonBy}
 
 -- a text with a fault has no words
 pub no_words : (source : List ℕ) (fault : LexFault) → length source ≤ 2 ^ 20 → IsErrorOf source (errors.Fault fault)
