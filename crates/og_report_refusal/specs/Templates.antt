@@ -8,7 +8,6 @@ use Rattle.og_template.specs.declared.word.Word.{Word}
 use Rattle.og_template_outline.specs.declared.fault.ExpandFault.{ExpandFault}
 use Rattle.og_template_outline.specs.declared.fault.ExpandFault.TheVariants as faults
 use Rattle.og_typed.specs.declared.source_fault.SourceFault.TheVariants as sources
-use Rattle.og_report_text.specs.Places.{◌&◌}
 use Rattle.og_report_text.specs.declared.fault.InputFault.TheVariants as inputs
 use Rattle.og_report_refusal.specs.Reasons.{wrong_text, found_at, found_line, rule_text, IsReason}
 

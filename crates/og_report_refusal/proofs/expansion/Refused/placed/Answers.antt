@@ -1,4 +1,4 @@
-use Rattle.std.proofs.Common.{◌≡◌, subst, sym, Some}
+use Rattle.std.proofs.Common.{subst, sym, Some}
 use Rattle.og_report_refusal.specs.Advice.{place_text, refusal_text}
 use Rattle.og_report_refusal.specs.Expansion.{IsTold}
 use Rattle.og_report_refusal.specs.Names.{shown_name}
