@@ -14,7 +14,7 @@ returns-in_ok-report-in-Ok-clause-outcome g c =
     let given = ok_of (IsGiven Constants world name []) c.in_ok-given.field-0 c.in-Ok.given c.in-Ok.is c.in_ok-given.ensures.given in (
       c.in-Ok.given.text.items,
       given.0,
-      inl (subst (λ (t : List ℕ). IsFormatted format.check (named name t) c.in_ok-report-in-Ok.report) c.deref-in-Ok.ensures.value c.in_ok-report-in-Ok.ensures.report),
+      inl (subst (λ (t : List ℕ). IsFormatted format.check (named name t) c.in_ok-report-in-Ok.report) c.deref.ensures.value c.in_ok-report-in-Ok.ensures.report),
     )
 
 pub returns-in-Err-clause-outcome : goal.returns-in-Err-clause-outcome
