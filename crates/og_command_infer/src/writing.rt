@@ -138,7 +138,6 @@ fn shown_length(report: &[u8]) -> usize {
 impl Inferred {
     // Whether the report says that the outline is unblocked: at its end, but for JSON of an outline
     // that is not safe.
-    #[tactic(auto, using(crate::proofs::Ends::tested))]
     fn is_unblocked(&self, json: bool) -> bool
         ensures { self.now.report.status ≡ 0
             → (result ≡ true) ↔ SaysUnblocked json self.now.report.text.items }
