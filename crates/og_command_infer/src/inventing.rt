@@ -25,8 +25,8 @@ use std::thread::Threads;
 // A plan with more is not tried: an outline has at most so many variables.
 const MOST_AUXILIARIES: usize = 256;
 
-// The styles that are tried, and which part of the questions that are left each one may take.
-const STYLES: [(Style, u64); 2] = [(Style::Counter, 5), (Style::Flags, 2)];
+// The styles that are tried, and how many hundredths of the questions that are left each may take.
+const STYLES: [(Style, u64); 2] = [(Style::Counter, 20), (Style::Flags, 60)];
 
 // A simpler plan may take so many times the questions of the first one that suffices, and at least
 // so many.
@@ -138,12 +138,12 @@ impl<'r, G: Gate, H: Threads + Wait + Sync> Inferrer<'r, G, H> {
         ensures spawn { IfErr result (λ e. e ≡ refusals.Spawn → 1 < self.now.effort.workers) }
     {
         let mut left = questions;
-        for (style, part) in STYLES {
+        for (style, hundredths) in STYLES {
             let plan = Plan::of_all(self.alloc, style, original.actions)?;
             if plan.auxiliaries() > MOST_AUXILIARIES {
                 break;
             }
-            let found = self.found_planned(original, &plan, left / part, TIERS)?;
+            let found = self.found_planned(original, &plan, left / 100 * hundredths, TIERS)?;
             left = left.saturating_sub(found.questions);
             if found.is_final {
                 let share = found.questions.saturating_mul(SHARE).max(LEAST_QUESTIONS);

@@ -1,20 +1,23 @@
--- The findings on assertions.
-use Rattle.std.proofs.Common.{◌≡◌, ◌∙◌, ◌&&◌, ◌++◌, refl, sym, ap, ℤ, Bool, true, false, List, [], ◌∷◌}
+-- The findings on questions.
+use Rattle.std.proofs.Common.{◌≡◌, ◌∙◌, ◌&&◌, ◌++◌, refl, sym, ap, ℤ, Bool, true, false, List, [], ◌∷◌, map}
 use Rattle.std.specs.List.{AllByRecursion}
 use Rattle.std.proofs.lemmas.Bool.{true≢false}
 use Rattle.og_linear.specs.Linear.{IsProper}
-use Rattle.og_typed.specs.Syntax.{Formula}
-use Rattle.og_typed.specs.Truth.{truth}
-use Rattle.og_cond.specs.Condition.{Hypothesis, Is, Yes}
-use Rattle.og_cond.specs.Valid.{hypotheses_true}
-use Rattle.og_command_notes.specs.Claims.{Claim, IsFound, IsMetByNone}
+use Rattle.og_cond.specs.Condition.{Part, Hypothesis, Is}
+use Rattle.og_cond.specs.Valid.{part_true, all_parts, hypotheses_true}
+use Rattle.og_command_notes.specs.Claims.{Claim, IsFound, AreNeverTrue}
 
--- where nothing follows from an assertion in any state, no state meets it
-pub met_by_none : (hs : List Hypothesis) (a : Formula) → hs ≡ Is (Yes a) ∷ [] → ((s : List ℤ) → IsProper s → hypotheses_true s hs ≡ true → false ≡ true) → IsMetByNone a
-met_by_none hs a is valid s proper = go (truth a s) refl
+-- hypotheses that are facts are true where the facts are
+pub as_facts : (s : List ℤ) (parts : List Part) → hypotheses_true s (map Is parts) ≡ all_parts s parts
+as_facts s [] = refl
+as_facts s (part ∷ parts) = ap (λ (b : Bool). part_true s part && b) (as_facts s parts)
+
+-- where nothing follows from facts in any state, they are never true together
+pub never_true : (hs : List Hypothesis) (parts : List Part) → hs ≡ map Is parts → ((s : List ℤ) → IsProper s → hypotheses_true s hs ≡ true → false ≡ true) → AreNeverTrue parts
+never_true hs parts is valid s proper = go (all_parts s parts) refl
   where
-    go : (b : Bool) → truth a s ≡ b → truth a s ≡ false
-    go true e = absurd (true≢false (sym (valid s proper (ap (hypotheses_true s) is ∙ ap (λ (b : Bool). b && true) e))))
+    go : (b : Bool) → all_parts s parts ≡ b → all_parts s parts ≡ false
+    go true e = absurd (true≢false (sym (valid s proper (ap (hypotheses_true s) is ∙ (as_facts s parts ∙ e)))))
     go false e = e
 
 pub found_more : (cs : List Claim) (c : Claim) → AllByRecursion IsFound cs → IsFound c → AllByRecursion IsFound (cs ++ c ∷ [])

@@ -1,36 +1,84 @@
 -- The notes on an outline, as they are printed.
-use Rattle.std.specs.Prelude.{ℕ, ◌-◌, ◌==◌, nat_lt, List, [], length, flat_map, if◌then◌else◌, codes}
+use Rattle.std.specs.Prelude.{ℕ, ◌+◌, ◌-◌, ◌==◌, ◌&&◌, nat_lt, Bool, true, false, List, [], length, take, flat_map, if◌then◌else◌, codes, Option, Some, None, slice_get}
 use Rattle.std.specs.List.{range_with_len}
-use Rattle.og_typed.specs.Syntax.{Noted, Statement, Skip, Assign, If, While, Await, Program}
+use Rattle.std.specs.Fmt.{decimal}
+use Rattle.og_typed.specs.Syntax.{Noted, Statement, Program}
 use Rattle.og_typed.specs.Erase.{erased}
 use Rattle.og_erase.specs.Collected.{raw_of}
+use Rattle.og_erase_readable.specs.Readable.{readable}
 use Rattle.og_print.specs.Print.{program_text}
 use Rattle.og_report_text.specs.Origins.{Rows, place_text_at}
 use Rattle.og_report_text.specs.Places.{◌&◌}
 use Rattle.og_report_text.specs.Assertions.{assertion_text}
 use Rattle.og_report_text.specs.Values.{names_text}
-use Rattle.og_command_notes.specs.Steps.{Step, all_steps, shared}
+use Rattle.og_command_notes.specs.Points.{Point, points}
+use Rattle.og_command_notes.specs.Steps.{Step, all_steps, accessed}
 use Rattle.og_command_notes.specs.Claims.{Claim}
-use Rattle.og_command_notes.specs.declared.claims.Role.{Role}
-use Rattle.og_command_notes.specs.declared.claims.Role.TheVariants as roles
+use Rattle.og_command_notes.specs.Idioms.{idiom_of}
+use Rattle.og_command_notes.specs.Unused.{unused_lines}
+use Rattle.og_command_notes.specs.Hidden.{hidden_lines}
+use Rattle.og_command_notes.specs.declared.claims.Asked.{Asked}
+use Rattle.og_command_notes.specs.declared.claims.Asked.TheVariants as asked
+use Rattle.og_command_notes.specs.declared.idioms.Idiom.{Idiom}
+use Rattle.og_command_notes.specs.declared.idioms.Idiom.TheVariants as idioms
+use Rattle.og_command_notes.specs.declared.steps.Access.{Access}
+use Rattle.og_command_notes.specs.declared.steps.Access.TheVariants as access
+use Rattle.og_command_notes.specs.declared.together.Block.{Block}
+use Rattle.og_command_notes.specs.declared.together.Span.{Span}
 
-abbrev pub role_text : Role → List ℕ
-role_text roles.Precondition = codes "precondition"
-role_text roles.Inner = codes "assertion"
-role_text roles.Postcondition = codes "postcondition"
+-- ---- words
 
--- what follows for a yes where no state meets it
-abbrev pub empty_text : Role → List ℕ
-empty_text roles.Precondition = codes "a yes is empty"
-empty_text roles.Inner = codes "nothing is claimed behind it"
-empty_text roles.Postcondition = codes "it is claimed that no run ends"
+-- what is asked of which part, and what is so of it
+abbrev pub subject_text : Asked → List ℕ
+subject_text asked.Precondition = codes "precondition"
+subject_text asked.Assertion = codes "assertion"
+subject_text asked.Falsity = codes "assertion"
+subject_text asked.LoopEntered = codes "loop"
+subject_text asked.LoopLeft = codes "loop"
+subject_text asked.BranchTaken = codes "branch"
+subject_text asked.ElseTaken = codes "else branch"
+subject_text asked.AwaitPassed = codes "await"
+subject_text asked.AllEnded = codes "the processes"
+subject_text asked.Postcondition = codes "postcondition"
+subject_text asked.PostconditionFalse = codes "postcondition"
 
-abbrev pub step_text : Statement → List ℕ
-step_text Skip = codes "skip"
-step_text (Assign x e) = codes "assignment"
-step_text (If b branch other) = codes "test"
-step_text (While b body) = codes "test"
-step_text (Await b body) = codes "await"
+abbrev pub finding_text : Asked → List ℕ
+finding_text asked.Precondition = codes " is never true\n"
+finding_text asked.Assertion = codes " is never true: nothing is claimed behind it\n"
+finding_text asked.Falsity = codes " is false: the step before it is never made\n"
+finding_text asked.LoopEntered = codes " is never entered\n"
+finding_text asked.LoopLeft = codes " is never left\n"
+finding_text asked.BranchTaken = codes " is never taken\n"
+finding_text asked.ElseTaken = codes " is never taken\n"
+finding_text asked.AwaitPassed = codes " never passes\n"
+finding_text asked.AllEnded = codes " never all end: nothing is claimed of the postcondition\n"
+finding_text asked.Postcondition = codes " is never true: it is claimed that no run ends\n"
+finding_text asked.PostconditionFalse = codes " is always true\n"
+
+-- it is about the whole program, which has no place
+abbrev pub is_of_all : Asked → Bool
+is_of_all asked.Precondition = false
+is_of_all asked.Assertion = false
+is_of_all asked.Falsity = false
+is_of_all asked.LoopEntered = false
+is_of_all asked.LoopLeft = false
+is_of_all asked.BranchTaken = false
+is_of_all asked.ElseTaken = false
+is_of_all asked.AwaitPassed = false
+is_of_all asked.AllEnded = true
+is_of_all asked.Postcondition = false
+is_of_all asked.PostconditionFalse = false
+
+abbrev pub access_text : Access → List ℕ
+access_text access.ReadsAndWrites = codes "reads and writes "
+access_text access.Reads = codes "reads "
+access_text access.Writes = codes "writes "
+
+abbrev pub idiom_text : Idiom → List ℕ
+idiom_text idioms.FetchAndAdd = codes " (fetch and add)"
+idiom_text idioms.TestAndSet = codes " (test and set)"
+idiom_text idioms.Swap = codes " (swap)"
+idiom_text idioms.CompareAndSwap = codes " (compare and swap)"
 
 -- of what a yes speaks, and what carries it
 abbrev pub unblocked_line : List ℕ
@@ -39,60 +87,141 @@ unblocked_line = codes "unblocked is said of the whole program: until all proces
 abbrev pub definitions_line : List ℕ
 definitions_line = codes "a yes is carried by 948 lines of definitions, from the bytes of the source to its runs: docs/THEOREM.md\n"
 
+-- ---- steps
+
+-- variables that a step both reads and writes, that it reads alone, and that it writes alone are at most one access
+abbrev pub are_one : List ℕ → List ℕ → List ℕ → Bool
+are_one both reads writes = length both == 0 && nat_lt (length reads + length writes) 2
+
+-- a way to use variables, where there are some
+abbrev pub access_part : List (List ℕ) → Bool → Access → List ℕ → List ℕ
+access_part names first way vars =
+    if length vars == 0 then [] else (if first then codes " " else codes "; ") & access_text way & names_text names [] vars
+
+abbrev pub accesses_text : List (List ℕ) → List ℕ → List ℕ → List ℕ → List ℕ
+accesses_text names both reads writes =
+    access_part names true access.ReadsAndWrites both
+    & access_part names (length both == 0) access.Reads reads
+    & access_part names (length both == 0 && length reads == 0) access.Writes writes
+
+abbrev pub idiom_name : Option Idiom → List ℕ
+idiom_name None = []
+idiom_name (Some idiom) = idiom_text idiom
+
+-- the idiom of a step that reads and writes these variables and has no other access
+abbrev pub idiom_part : ℕ → List ℕ → List ℕ → List ℕ → Statement → List ℕ
+idiom_part n both reads writes stmt =
+    if length reads == 0 && length writes == 0 then idiom_name (idiom_of n both stmt) else []
+
 module _ (source : List ℕ) (rows : Rows) where
   -- WORD at LINE:COLUMN, of a template with the values of an instance
   abbrev pub placed_text : List ℕ → ℕ → List ℕ
   placed_text word at = word & codes " at " & place_text_at source rows at
 
-  -- an assertion that no state meets
-  abbrev pub unmet_line : Claim → List ℕ
-  unmet_line c =
-      if c.unmet then codes "no state meets the " & placed_text (role_text c.role) c.note.at & codes ": " & empty_text c.role & codes "\n" else []
+  -- an assertion with its place
+  abbrev pub assertion_line : List (List ℕ) → List ℕ → Noted → List ℕ
+  assertion_line names word note = placed_text word note.at & codes ": " & assertion_text names note.assertion & codes "\n"
 
-  module _ (names : List (List ℕ)) where
-    -- an assertion with its place
-    abbrev pub claim_line : List ℕ → Noted → List ℕ
-    claim_line word note = placed_text word note.at & codes ": " & assertion_text names note.assertion & codes "\n"
+  -- ---- what is so in no state
 
-    -- a step that touches these variables, where they are more than one
-    abbrev pub wide_line : Statement → ℕ → List ℕ → List ℕ
-    wide_line stmt at vars =
-        if nat_lt 1 (length vars)
-        then codes "the " & placed_text (step_text stmt) at & codes " touches " & names_text names [] vars & codes ", which other processes assign: one step of the proof, maybe not one of the machine\n"
-        else []
+  abbrev pub subject_at : Asked → ℕ → List ℕ
+  subject_at what at = if is_of_all what then subject_text what else placed_text (subject_text what) at
 
-    -- a step, where it touches more than one variable below n that some step of another process assigns
-    abbrev pub step_line : List Step → ℕ → Step → List ℕ
-    step_line all n step = wide_line step.stmt step.at (shared all n step)
+  abbrev pub claim_line : Claim → List ℕ
+  claim_line c = if c.refuted then subject_at c.question.asked c.question.at & finding_text c.question.asked else []
 
-    abbrev pub step_lines : List Step → ℕ → List ℕ
-    step_lines all n = flat_map (step_line all n) all
+  -- ---- steps
 
--- the precondition, the postcondition, and each assertion that no state meets
+  module _ (names : List (List ℕ)) (n : ℕ) where
+    -- a step with these accesses, where they are more than one
+    abbrev pub accesses_line : Step → List ℕ → List ℕ → List ℕ → List ℕ
+    accesses_line step both reads writes =
+        if are_one both reads writes
+        then []
+        else placed_text (codes "step") step.at & accesses_text names both reads writes & idiom_part n both reads writes step.stmt & codes "\n"
+
+    -- one of these steps, by its accesses to variables below n
+    abbrev pub step_line : List Step → Step → List ℕ
+    step_line all step =
+        accesses_line step (accessed all n step access.ReadsAndWrites) (accessed all n step access.Reads) (accessed all n step access.Writes)
+
+    abbrev pub step_lines : List Step → List ℕ
+    step_lines all = flat_map (step_line all) all
+
+  -- ---- places that no state has together
+
+  abbrev pub point_text : Option Point → List ℕ
+  point_text None = []
+  point_text (Some p) = place_text_at source rows p.note.at
+
+  module _ (points : List Point) where
+    -- FIRST..LAST, or the one place
+    abbrev pub span_text : Span → List ℕ
+    span_text s =
+        point_text (slice_get points s.from) & (if s.from == s.to then [] else codes ".." & point_text (slice_get points s.to))
+
+    -- a process, counted from 1, with places
+    abbrev pub side_text : ℕ → Span → List ℕ
+    side_text process s = codes "process " & decimal (process + 1) & codes " at " & span_text s
+
+    abbrev pub block_line : Block → List ℕ
+    block_line b = codes " " & side_text b.one b.rows & codes " with " & side_text b.other b.columns & codes "\n"
+
+-- how many blocks there are beyond 40
+abbrev pub more_text : ℕ → List ℕ
+more_text count = if nat_lt 40 count then codes " and " & decimal (count - 40) & codes " more\n" else []
+
+module _ (source : List ℕ) (rows : Rows) (points : List Point) where
+  -- a line for each of the first 40
+  abbrev pub table_text : List Block → List ℕ
+  table_text blocks =
+      if length blocks == 0
+      then codes "never together: none found\n"
+      else codes "never together:\n" & flat_map (block_line source rows points) (take 40 blocks) & more_text (length blocks)
+
+  -- where there are two processes or more; it is told where not all pairs were compared
+  abbrev pub together_text : ℕ → List Block → Bool → List ℕ
+  together_text processes blocks cut =
+      if nat_lt processes 2
+      then []
+      else table_text blocks & (if cut then codes " only the first 20000 pairs of places were compared\n" else [])
+
+-- ---- all
+
+-- the precondition, the postcondition, and what is so in no state
 abbrev pub claims_text : Program → List ℕ → Rows → List Claim → List ℕ
 claims_text o source rows claims =
-    claim_line source rows o.names (codes "precondition") o.pre
-    & claim_line source rows o.names (codes "postcondition") o.post
-    & flat_map (unmet_line source rows) claims
+    assertion_line source rows o.names (codes "precondition") o.pre
+    & assertion_line source rows o.names (codes "postcondition") o.post
+    & flat_map (claim_line source rows) claims
+
+-- the lines that are about the outline
+abbrev pub findings_text : Program → List ℕ → Rows → List Claim → List Block → Bool → List ℕ
+findings_text o source rows claims blocks cut =
+    claims_text o source rows claims
+    & unused_lines o
+    & together_text source rows (points o) (length o.processes) blocks cut
+    & step_lines source rows o.names o.vars (all_steps o)
 
 -- the auxiliaries by number
 abbrev pub auxiliaries : Program → List ℕ
 auxiliaries o = range_with_len o.vars (length o.names - o.vars)
 
--- auxiliaries, with the program that is left without them
-abbrev pub some_auxiliaries_text : Program → List ℕ → List ℕ
-some_auxiliaries_text o vars =
-    codes "auxiliary variables: " & names_text o.names [] vars & codes "\nthe program without them:\n" & program_text (raw_of (erased o))
-
--- the same of these, where there are some
+-- these auxiliaries, and what the text behind them is
 abbrev pub auxiliaries_text : Program → List ℕ → List ℕ
 auxiliaries_text o vars =
-    if length vars == 0 then codes "auxiliary variables: none\n" else some_auxiliaries_text o vars
+    if length vars == 0
+    then codes "auxiliary variables: none\nthe program:\n"
+    else codes "auxiliary variables: " & names_text o.names [] vars & codes "\nthe program without them:\n"
 
--- the notes on an outline of whose assertions this is found
-abbrev pub notes_text : Program → List ℕ → Rows → List Claim → List ℕ
-notes_text o source rows claims =
-    claims_text o source rows claims
-    & step_lines source rows o.names (all_steps o) o.vars
+-- the program that is left without auxiliaries, with terms on both sides of its relations
+abbrev pub program_of : Program → List ℕ
+program_of o = program_text (readable (raw_of (erased o)))
+
+-- the notes on an outline of which this is found
+abbrev pub notes_text : Program → List ℕ → Rows → List Claim → List Block → Bool → List ℕ
+notes_text o source rows claims blocks cut =
+    findings_text o source rows claims blocks cut
+    & hidden_lines source
     & (unblocked_line & definitions_line)
-    & auxiliaries_text o (auxiliaries o)
+    & (auxiliaries_text o (auxiliaries o) & program_of o)

@@ -1,48 +1,94 @@
-//! The assertions of an outline, and which of them no state meets.
+//! What an outline may claim of no run, and what of it a search shows.
 
-ghost use Rattle.std.specs.Prelude.{◌≡◌, true, map, IfOk, OnOk};
-ghost use Rattle.og_cond.specs.Seen.{seen};
+ghost use Rattle.std.specs.Prelude.{◌≡◌, [], ◌∷◌, true, map, flat_map, IfOk, OnOk};
+ghost use Rattle.og_cond.specs.Condition.{Is, Yes};
+ghost use Rattle.og_cond.specs.Seen.{seen, hypothesis_of, part_of, parts_of};
 ghost use Rattle.og_cond.specs.Valid.{IsValid};
-ghost use Rattle.og_typed.specs.Plain.{formula, noted};
-ghost use Rattle.og_command_notes.specs.Claims.{IsMetByNone, IsFound, AreClaims, inner, inner_notes};
-ghost use Rattle.og_command_notes.specs.Seen.{claim_of, claims_of, notes_of, Gains};
+ghost use Rattle.og_typed.specs.Plain.{formula, sequence, statement};
+ghost use Rattle.og_typed.specs.Syntax.{last_of};
+ghost use Rattle.og_command_notes.specs.Claims.{AreNeverTrue, AreClaims, asked_of, end_question, point_questions, postcondition_questions, statement_questions};
+ghost use Rattle.og_command_notes.specs.Points as plain;
+ghost use Rattle.og_command_notes.specs.Seen.{claims_of, point_of, points_of, question, Gains};
 
+use crate::walk::Point;
 use og_cond::{Condition, Goal, Hypothesis, Kind, Part};
 use og_find::find;
 use og_io::Budget;
-use og_typed::{Assert, Note, Outline};
+use og_typed::{Assert, Outline, Seq, Stmt};
 use std::alloc::{AllocError, Global};
 
-/// What an assertion is for its outline.
+/// What may be so of no run.
 #[derive(Clone, Copy, Debug, PartialEq, Eq)]
-pub(crate) enum Role {
+pub(crate) enum Asked {
+    /// The precondition is true.
     Precondition,
-    /// Neither of the two.
-    Inner,
+    /// An assertion of the program is true.
+    Assertion,
+    /// An assertion that is written as `false` is true.
+    Falsity,
+    LoopEntered,
+    LoopLeft,
+    BranchTaken,
+    ElseTaken,
+    AwaitPassed,
+    /// All processes have ended.
+    AllEnded,
+    /// The postcondition is true.
     Postcondition,
+    /// The postcondition is false.
+    PostconditionFalse,
 }
 
-/// An assertion of an outline, and whether it was found that no state meets it.
+/// What is asked, and whether it was found to be so in no state: the facts are never true together.
 #[derive(Debug, Drop)]
 pub(crate) struct Claim<'a> {
-    pub(crate) role: Role,
-    pub(crate) note: &'a Note,
-    pub(crate) unmet: bool,
+    pub(crate) asked: Asked,
+    pub(crate) at: u32,
+    pub(crate) facts: Vec<Part<'a>>,
+    pub(crate) refuted: bool,
 }
 
 /// How certificates are searched for: over how many variables, and with how many facts at most.
 #[derive(Clone, Copy)]
-struct Search {
+pub(crate) struct Search {
+    alloc: Global,
     variables: u32,
     facts: u64,
 }
 
-// The condition that no state meets the assertion.
-fn never(alloc: Global, search: Search, assertion: &Assert) -> Result<Condition<'_>, AllocError>
-    ensures { IfOk result (λ c. IsValid (seen c) → IsMetByNone (formula assertion.now)) }
+impl Search {
+    /// A search over the variables of an outline.
+    pub(crate) fn new(alloc: Global, outline: &Outline, budget: Budget) -> Search {
+        outline.follows_rule();
+        Search {
+            alloc,
+            variables: outline.names().len() as u32,
+            facts: budget.facts(),
+        }
+    }
+
+    /// The allocator.
+    pub(crate) fn alloc(self) -> Global {
+        self.alloc
+    }
+}
+
+// The facts, each as a hypothesis.
+fn hypotheses_of<'a>(alloc: Global, facts: &[Part<'a>]) -> Result<Vec<Hypothesis<'a>>, AllocError>
+    ensures { IfOk result (λ v. map hypothesis_of v.items ≡ map Is (map part_of facts.now)) }
 {
     let mut hypotheses = Vec::new(alloc);
-    hypotheses.push(Hypothesis::Is(Part::Yes(assertion)))?;
+    for fact in facts {
+        hypotheses.push(Hypothesis::Is(*fact))?;
+    }
+    Ok(hypotheses)
+}
+
+// The condition that the facts are never true together.
+fn never<'a>(search: Search, facts: &[Part<'a>]) -> Result<Condition<'a>, AllocError>
+    ensures { IfOk result (λ c. IsValid (seen c) → AreNeverTrue (map part_of facts.now)) }
+{
+    let hypotheses = hypotheses_of(search.alloc, facts)?;
     Ok(Condition {
         kind: Kind::Start,
         at: 0,
@@ -54,65 +100,244 @@ fn never(alloc: Global, search: Search, assertion: &Assert) -> Result<Condition<
     })
 }
 
-// Whether a certificate is found that no state meets the assertion.
-fn is_unmet(alloc: Global, search: Search, assertion: &Assert) -> Result<bool, AllocError>
-    ensures { IfOk result (λ yes. yes ≡ true → IsMetByNone (formula assertion.now)) }
-{
-    let condition = never(alloc, search, assertion)?;
-    let found = find(alloc, &condition, search.facts)?;
-    Ok(found.is_some())
-}
-
-// An assertion, and the finding on it.
-fn examined(alloc: Global, search: Search, role: Role, note: &Note) -> Result<Claim<'_>, AllocError>
-    ensures claim { IfOk result (λ c. (c.role ≡ role) × (noted c.note.now ≡ noted note.now)) }
-    ensures found { IfOk result (λ c. IsFound (claim_of c)) }
-{
-    let unmet = is_unmet(alloc, search, &note.assertion)?;
-    Ok(Claim { role, note, unmet })
-}
-
-// Adds the assertions between the precondition and the postcondition.
-#[tactic(auto, using(crate::proofs::Claiming::found_more))]
-fn add_inner<'a>(
-    claims: &mut Vec<Claim<'a>>,
-    search: Search,
-    notes: &[&'a Note],
-) -> Result<(), AllocError>
-    ensures { OnOk result (Gains (claims_of claims.old.items) (claims_of claims.new.items)
-        (map inner (notes_of notes.now))) }
-{
-    let alloc = *claims.allocator();
-    for note in notes {
-        claims.push(examined(alloc, search, Role::Inner, note)?)?;
-    }
-    Ok(())
-}
-
-/// The assertions of an outline, which has these between the precondition and the postcondition;
-/// and which of them a search within the budget finds to be met by no state.
+/// Whether a certificate is found that the facts are never true together.
 ///
 /// # Errors
 ///
 /// An allocation was refused.
+pub(crate) fn is_refuted(search: Search, facts: &[Part]) -> Result<bool, AllocError>
+    ensures { IfOk result (λ yes. yes ≡ true → AreNeverTrue (map part_of facts.now)) }
+{
+    let condition = never(search, facts)?;
+    let found = find(search.alloc, &condition, search.facts)?;
+    Ok(found.is_some())
+}
+
+// The same, where it is to be told; nothing is looked for where it is not.
+fn is_told_refuted(search: Search, is_told: bool, facts: &[Part]) -> Result<bool, AllocError>
+    ensures { IfOk result (λ yes. yes ≡ true → AreNeverTrue (map part_of facts.now)) }
+{
+    if !is_told {
+        return Ok(false);
+    }
+    is_refuted(search, facts)
+}
+
+// Adds a question, and what is found of it, where it is to be told.
 #[tactic(auto, using(crate::proofs::Claiming::found_more))]
-pub(crate) fn claims_of<'a>(
-    alloc: Global,
+fn add<'a>(
+    claims: &mut Vec<Claim<'a>>,
+    search: Search,
+    is_told: bool,
+    asked: Asked,
+    at: u32,
+    facts: Vec<Part<'a>>,
+) -> Result<bool, AllocError>
+    ensures { OnOk result (Gains (claims_of claims.old.items) (claims_of claims.new.items)
+        (question asked at (parts_of facts.entry) ∷ [])) }
+{
+    let refuted = is_told_refuted(search, is_told, &facts)?;
+    claims.push(Claim {
+        asked,
+        at,
+        facts,
+        refuted,
+    })?;
+    Ok(refuted)
+}
+
+// Adds a question about one fact.
+fn add_alone<'a>(
+    claims: &mut Vec<Claim<'a>>,
+    search: Search,
+    asked: Asked,
+    at: u32,
+    fact: Part<'a>,
+) -> Result<bool, AllocError>
+    ensures { OnOk result (Gains (claims_of claims.old.items) (claims_of claims.new.items)
+        (question asked at (part_of fact.entry ∷ []) ∷ [])) }
+{
+    let mut facts = Vec::new(search.alloc);
+    facts.push(fact)?;
+    add(claims, search, true, asked, at, facts)
+}
+
+/// What stands at a place: an assertion, and whether it was found to be never true.
+#[derive(Clone, Copy)]
+struct Before<'a> {
+    assertion: &'a Assert,
+    is_never: bool,
+}
+
+// Adds a question about an assertion and a test behind it. Where the assertion is never true, no
+// more is to be told.
+fn add_tested<'a>(
+    claims: &mut Vec<Claim<'a>>,
+    search: Search,
+    asked: Asked,
+    at: u32,
+    before: Before<'a>,
+    test: Part<'a>,
+) -> Result<(), AllocError>
+    ensures { OnOk result (Gains (claims_of claims.old.items) (claims_of claims.new.items)
+        (question asked at (Yes (formula before.entry.assertion.now) ∷ part_of test.entry ∷ []) ∷ [])) }
+{
+    let mut facts = Vec::new(search.alloc);
+    facts.push(Part::Yes(before.assertion))?;
+    facts.push(test)?;
+    add(claims, search, !before.is_never, asked, at, facts)?;
+    Ok(())
+}
+
+// Adds the questions about a statement.
+fn add_statement<'a>(
+    claims: &mut Vec<Claim<'a>>,
+    search: Search,
+    before: Before<'a>,
+    stmt: &'a Stmt,
+    at: u32,
+) -> Result<(), AllocError>
+    ensures { OnOk result (Gains (claims_of claims.old.items) (claims_of claims.new.items)
+        (statement_questions (formula before.entry.assertion.now) (statement stmt.now) at)) }
+{
+    match stmt {
+        Stmt::Skip | Stmt::Assign(..) => Ok(()),
+        Stmt::If(test, _, other) => {
+            add_tested(
+                claims,
+                search,
+                Asked::BranchTaken,
+                at,
+                before,
+                Part::Yes(test),
+            )?;
+            match other {
+                Some(_) => add_tested(claims, search, Asked::ElseTaken, at, before, Part::No(test)),
+                None => Ok(()),
+            }
+        }
+        Stmt::While(test, _) => {
+            add_tested(
+                claims,
+                search,
+                Asked::LoopEntered,
+                at,
+                before,
+                Part::Yes(test),
+            )?;
+            add_tested(claims, search, Asked::LoopLeft, at, before, Part::No(test))
+        }
+        Stmt::Await(guard, _) => {
+            add_tested(
+                claims,
+                search,
+                Asked::AwaitPassed,
+                at,
+                before,
+                Part::Yes(guard),
+            )
+        }
+    }
+}
+
+// What is asked of an assertion.
+fn asked_of(assertion: &Assert) -> Asked
+    ensures { result ≡ asked_of (formula assertion.now) }
+{
+    match assertion {
+        Assert::False => Asked::Falsity,
+        _ => Asked::Assertion,
+    }
+}
+
+// Adds the questions about a place.
+fn add_point<'a>(
+    claims: &mut Vec<Claim<'a>>,
+    search: Search,
+    point: &Point<'a>,
+) -> Result<(), AllocError>
+    ensures { OnOk result (Gains (claims_of claims.old.items) (claims_of claims.new.items)
+        (point_questions (point_of point.now))) }
+{
+    let assertion = &point.note.assertion;
+    let asked = asked_of(assertion);
+    let is_never = add_alone(claims, search, asked, point.note.at, Part::Yes(assertion))?;
+    let before = Before {
+        assertion,
+        is_never,
+    };
+    match point.item {
+        Some(item) => add_statement(claims, search, before, &item.stmt, item.at),
+        None => Ok(()),
+    }
+}
+
+// Adds the questions about places.
+fn add_points<'a>(
+    claims: &mut Vec<Claim<'a>>,
+    search: Search,
+    points: &[Point<'a>],
+) -> Result<(), AllocError>
+    ensures { OnOk result (Gains (claims_of claims.old.items) (claims_of claims.new.items)
+        (flat_map point_questions (points_of points.now))) }
+{
+    for point in points {
+        add_point(claims, search, point)?;
+    }
+    Ok(())
+}
+
+// The last assertions of processes.
+fn last_facts<'a>(alloc: Global, processes: &'a [Seq]) -> Result<Vec<Part<'a>>, AllocError>
+    ensures { IfOk result (λ facts. parts_of facts
+        ≡ map (λ q. Yes (last_of q).assertion) (map sequence processes.now)) }
+{
+    let mut facts = Vec::new(alloc);
+    for process in processes {
+        facts.push(Part::Yes(&process.last().assertion))?;
+    }
+    Ok(facts)
+}
+
+// Adds the questions about the ends of the processes and the postcondition.
+fn add_ends<'a>(
+    claims: &mut Vec<Claim<'a>>,
+    search: Search,
     outline: &'a Outline,
-    notes: &[&'a Note],
-    budget: Budget,
+) -> Result<(), AllocError>
+    ensures { OnOk result (Gains (claims_of claims.old.items) (claims_of claims.new.items)
+        (end_question outline.now ∷ postcondition_questions outline.now)) }
+{
+    let facts = last_facts(search.alloc, outline.processes())?;
+    let at = outline.cobegin_at();
+    add(claims, search, true, Asked::AllEnded, at, facts)?;
+    let post = outline.post();
+    let is_true = Part::Yes(&post.assertion);
+    let is_false = Part::No(&post.assertion);
+    add_alone(claims, search, Asked::Postcondition, post.at, is_true)?;
+    add_alone(claims, search, Asked::PostconditionFalse, post.at, is_false)?;
+    Ok(())
+}
+
+/// The questions about an outline with these places, and what a search within the budget finds of
+/// each.
+///
+/// # Errors
+///
+/// An allocation was refused.
+pub(crate) fn claims_of<'a>(
+    search: Search,
+    outline: &'a Outline,
+    points: &[Point<'a>],
 ) -> Result<Vec<Claim<'a>>, AllocError>
-    requires { notes_of notes.now ≡ inner_notes outline.now }
+    requires { points_of points.now ≡ plain.points outline.now }
     ensures { IfOk result (λ v. AreClaims outline.now (claims_of v.items)) }
 {
-    outline.follows_rule();
-    let search = Search {
-        variables: outline.names().len() as u32,
-        facts: budget.facts(),
-    };
-    let mut claims = Vec::new(alloc);
-    claims.push(examined(alloc, search, Role::Precondition, outline.pre())?)?;
-    add_inner(&mut claims, search, notes)?;
-    claims.push(examined(alloc, search, Role::Postcondition, outline.post())?)?;
+    let mut claims = Vec::new(search.alloc);
+    let pre = outline.pre();
+    let is_true = Part::Yes(&pre.assertion);
+    add_alone(&mut claims, search, Asked::Precondition, pre.at, is_true)?;
+    add_points(&mut claims, search, points)?;
+    add_ends(&mut claims, search, outline)?;
     Ok(claims)
 }

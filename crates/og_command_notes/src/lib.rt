@@ -1,16 +1,23 @@
-//! Notes on an outline for whoever reviews a yes: what it claims, of which assertions no state is
-//! met, which steps may be several of a machine, and the program without its auxiliary variables.
+//! Notes on an outline for whoever reviews a yes: what it claims, what it claims of no run, which
+//! places it shows to exclude each other, which steps may be several of a machine, what may hide
+//! text, and the program without its auxiliary variables.
 //!
-//! specs/Claims.antt says what the assertions of an outline are, specs/Steps.antt which variables
-//! of a step other processes assign, specs/Notes.antt the text, and specs/Noted.antt the
-//! promise of an answer.
+//! specs/Claims.antt says what may be claimed of no run, specs/Together.antt which places exclude
+//! each other, specs/Steps.antt how a step uses variables of other processes, specs/Idioms.antt
+//! which steps machines have, specs/Unused.antt which variables nothing assigns or reads,
+//! specs/Hidden.antt which characters may hide text, specs/Notes.antt the text, and specs/Noted.antt
+//! the promise of an answer.
 #![tactic(auto)]
 
 mod claims;
+mod hidden;
+mod idioms;
 mod laws;
 mod lines;
 mod notes;
 mod steps;
+mod together;
+mod unused;
 mod walk;
 
 pub use laws::notes_laws;

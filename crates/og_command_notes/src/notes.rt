@@ -1,22 +1,20 @@
 //! The notes on an outline, and the answer for a source.
 
 ghost use Rattle.std.specs.Prelude.{◌≡◌, ◌≤◌, ◌^◌, ◌++◌, length, IfOk, OnOk};
-ghost use Rattle.og_erase.specs.Collected.{raw_of};
-ghost use Rattle.og_parse.specs.TreeOf.{tree_of};
-ghost use Rattle.og_print.specs.Print.{program_text};
-ghost use Rattle.og_typed.specs.Erase.{erased};
 ghost use Rattle.og_report_text.specs.Subject.{subject_of, IsShort};
-ghost use Rattle.og_command_notes.specs.Noted.{IsNotesText, IsNotes};
+ghost use Rattle.og_command_notes.specs.Noted.{AreFindings, IsNotesText, IsNotes};
 ghost use Rattle.og_command_notes.specs.Notes as wanted;
-ghost use Rattle.og_command_notes.specs.Seen.{claims_of, steps_of};
-ghost use Rattle.og_command_notes.specs.Steps.{all_steps};
+ghost use Rattle.og_command_notes.specs.Seen.{claims_of};
 
-use crate::claims::{Claim, claims_of};
-use crate::lines::{put_all_unmet, put_claim, put_steps};
-use crate::walk::{Step, walk_of};
+use crate::claims::{Claim, Search, claims_of};
+use crate::hidden::put_all_hidden;
+use crate::lines::{put_assertion_line, put_claims, put_steps, put_together};
+use crate::together::{Together, compared};
+use crate::unused::put_unused;
+use crate::walk::{Walk, walk_of};
 use og_erase::erase;
+use og_erase_readable::print_readable;
 use og_io::Budget;
-use og_print::print_program;
 use og_report_text::{Answer, Origins, Places, Subject, put_names};
 use og_typed::Outline;
 use std::alloc::{AllocError, Global};
@@ -37,42 +35,38 @@ fn auxiliaries(alloc: Global, outline: &Outline) -> Result<Vec<u32>, AllocError>
 
 // The text of the program without auxiliary variables.
 fn program_text(alloc: Global, outline: &Outline) -> Result<Vec<u8>, AllocError>
-    ensures { IfOk result (λ text. text.items ≡ program_text (raw_of (erased outline.now))) }
+    ensures { IfOk result (λ text. text.items ≡ wanted.program_of outline.now) }
 {
     let program = erase(alloc, outline)?;
-    let raw = program.raw(alloc);
+    let text = print_readable(alloc, &program);
     drop(program);
-    let raw = raw?;
-    let text = print_program(alloc, &raw);
-    drop(raw);
     text
 }
 
-// Auxiliary variables, and the program that is left without them.
-fn put_some_auxiliaries(
-    text: &mut Vec<u8>,
-    outline: &Outline,
-    vars: &[u32],
-) -> Result<(), AllocError>
-    ensures { OnOk result (text.new.items ≡ text.old.items
-        ++ wanted.some_auxiliaries_text outline.now vars.now) }
-{
-    let program = program_text(*text.allocator(), outline)?;
-    text.extend_from_slice(b"auxiliary variables: ")?;
-    put_names(text, outline.names(), vars)?;
-    text.extend_from_slice(b"\nthe program without them:\n")?;
-    text.extend_from_slice(&program)
-}
-
-// These auxiliary variables, and the program that is left without them, where there are some.
+// The auxiliary variables, and what the program behind them is.
 fn put_auxiliaries(text: &mut Vec<u8>, outline: &Outline, vars: &[u32]) -> Result<(), AllocError>
     ensures { OnOk result (text.new.items ≡ text.old.items
         ++ wanted.auxiliaries_text outline.now vars.now) }
 {
     if vars.is_empty() {
-        return text.extend_from_slice(b"auxiliary variables: none\n");
+        return text.extend_from_slice(b"auxiliary variables: none\nthe program:\n");
     }
-    put_some_auxiliaries(text, outline, vars)
+    text.extend_from_slice(b"auxiliary variables: ")?;
+    put_names(text, outline.names(), vars)?;
+    text.extend_from_slice(b"\nthe program without them:\n")
+}
+
+// The auxiliary variables, and the program that is left without them.
+fn put_program(text: &mut Vec<u8>, outline: &Outline) -> Result<(), AllocError>
+    ensures { OnOk result (text.new.items ≡ text.old.items
+        ++ (wanted.auxiliaries_text outline.now (wanted.auxiliaries outline.now)
+        ++ wanted.program_of outline.now)) }
+{
+    let alloc = *text.allocator();
+    let auxiliaries = auxiliaries(alloc, outline)?;
+    let program = program_text(alloc, outline)?;
+    put_auxiliaries(text, outline, &auxiliaries)?;
+    text.extend_from_slice(&program)
 }
 
 // What everybody should know of every yes.
@@ -88,8 +82,8 @@ fn put_meaning(text: &mut Vec<u8>) -> Result<(), AllocError>
     )
 }
 
-// The precondition, the postcondition, and each assertion that no state meets.
-fn put_claims(
+// The precondition, the postcondition, and what is claimed of no run.
+fn put_claimed(
     text: &mut Vec<u8>,
     outline: &Outline,
     origins: &Origins,
@@ -100,30 +94,82 @@ fn put_claims(
         ++ wanted.claims_text outline.now origins.now.source.now origins.now.rows
         (claims_of claims.now)) }
 {
-    put_claim(text, origins, outline, "precondition", outline.pre())?;
-    put_claim(text, origins, outline, "postcondition", outline.post())?;
-    put_all_unmet(text, origins, claims)
+    put_assertion_line(text, origins, outline, "precondition", outline.pre())?;
+    put_assertion_line(text, origins, outline, "postcondition", outline.post())?;
+    put_claims(text, origins, claims)
 }
 
-// The notes, by the outline's steps and assertions.
+/// What is known of an outline.
+#[derive(Debug, Drop)]
+struct Findings<'a> {
+    walk: Walk<'a>,
+    claims: Vec<Claim<'a>>,
+    together: Together,
+}
+
+// What a search within the budget finds.
+fn found_in<'a>(
+    alloc: Global,
+    outline: &'a Outline,
+    budget: Budget,
+) -> Result<Findings<'a>, AllocError>
+    ensures { IfOk result (AreFindings outline.now) }
+{
+    let walk = walk_of(alloc, outline)?;
+    let search = Search::new(alloc, outline, budget);
+    let claims = claims_of(search, outline, &walk.points)?;
+    let together = compared(search, &walk.points)?;
+    Ok(Findings {
+        walk,
+        claims,
+        together,
+    })
+}
+
+// The lines that are about the outline.
+fn put_findings(
+    text: &mut Vec<u8>,
+    outline: &Outline,
+    origins: &Origins,
+    found: &Findings,
+) -> Result<(), AllocError>
+    requires found { AreFindings outline.now found.now }
+    requires places { origins.now.places.now ≡ origins.now.source.now }
+    ensures { OnOk result (text.new.items ≡ text.old.items ++ wanted.findings_text outline.now
+        origins.now.source.now origins.now.rows (claims_of found.now.claims.items)
+        found.now.together.blocks.items found.now.together.is_cut) }
+{
+    let processes = outline.processes().len();
+    put_claimed(text, outline, origins, &found.claims)?;
+    put_unused(text, outline, &found.walk)?;
+    put_together(
+        text,
+        origins,
+        &found.walk.points,
+        processes,
+        &found.together,
+    )?;
+    put_steps(text, origins, outline, &found.walk.steps)
+}
+
+// The notes, by what is found of the outline.
 fn put_notes(
     text: &mut Vec<u8>,
     outline: &Outline,
     origins: &Origins,
-    steps: &[Step],
-    claims: &[Claim],
+    found: &Findings,
 ) -> Result<(), AllocError>
-    requires steps { steps_of steps.now ≡ all_steps outline.now }
+    requires found { AreFindings outline.now found.now }
     requires places { origins.now.places.now ≡ origins.now.source.now }
-    ensures { OnOk result (text.new.items ≡ text.old.items
-        ++ wanted.notes_text outline.now origins.now.source.now origins.now.rows
-        (claims_of claims.now)) }
+    requires short { length origins.now.source.now ≤ 2 ^ 20 }
+    ensures { OnOk result (text.new.items ≡ text.old.items ++ wanted.notes_text outline.now
+        origins.now.source.now origins.now.rows (claims_of found.now.claims.items)
+        found.now.together.blocks.items found.now.together.is_cut) }
 {
-    let auxiliaries = auxiliaries(*text.allocator(), outline)?;
-    put_claims(text, outline, origins, claims)?;
-    put_steps(text, origins, outline.names(), steps, outline.vars())?;
+    put_findings(text, outline, origins, found)?;
+    put_all_hidden(text, origins.places, origins.source)?;
     put_meaning(text)?;
-    put_auxiliaries(text, outline, &auxiliaries)
+    put_program(text, outline)
 }
 
 // The text of the notes on an outline.
@@ -138,20 +184,20 @@ fn notes_text(alloc: Global, subject: &Subject, budget: Budget) -> Result<Vec<u8
         places: &places,
         rows: subject.rows,
     };
-    let walk = walk_of(alloc, outline)?;
-    let claims = claims_of(alloc, outline, &walk.notes, budget)?;
+    let found = found_in(alloc, outline, budget)?;
     let mut text = Vec::new(alloc);
-    put_notes(&mut text, outline, &origins, &walk.steps, &claims)?;
+    put_notes(&mut text, outline, &origins, &found)?;
     Ok(text)
 }
 
 /// Notes on an outline for whoever reviews a yes, and status 0, with places of the text that was
 /// given. That has at most 1,048,576 bytes.
 ///
-/// They have the precondition and the postcondition; each assertion for which a search within the
-/// budget finds a certificate that no state meets it; each step of a process that touches more than
-/// one variable which other processes assign; and the auxiliary variables, with the program that is
-/// left without them.
+/// They have the precondition and the postcondition; what a search within the budget shows to be so
+/// in no state: assertions, loops, branches and awaits, the end; variables that nothing assigns or
+/// reads; places of different processes that no state has together; each step that makes more than
+/// one access to variables which other processes use; characters that may hide text; and the
+/// auxiliary variables, with the program that is left without them.
 ///
 /// # Errors
 ///

@@ -1,4 +1,4 @@
-//! All assertions and all steps of an outline, in text order.
+//! All places and all steps of an outline, in text order.
 
 ghost use Rattle.std.specs.Prelude.{◌≡◌, ◌≤◌, map, option_map, length, IfOk, OnOk};
 ghost use Rattle.og_typed.specs.Plain.{sequence};
@@ -14,31 +14,48 @@ pub(crate) struct Step<'a> {
     pub(crate) item: &'a Item,
 }
 
-/// Assertions and steps, each in text order.
+/// A place of a part of a program: an assertion, and the statement behind it, which the last
+/// assertion of a sequence lacks.
+#[derive(Clone, Copy, Debug)]
+pub(crate) struct Point<'a> {
+    pub(crate) part: Part,
+    pub(crate) note: &'a Note,
+    pub(crate) item: Option<&'a Item>,
+}
+
+/// Places and steps, each in text order.
 #[derive(Debug, Drop)]
 pub(crate) struct Walk<'a> {
-    pub(crate) notes: Vec<&'a Note>,
+    pub(crate) points: Vec<Point<'a>>,
     pub(crate) steps: Vec<Step<'a>>,
 }
 
 #[cycle(walking)]
-#[tactic(auto, using(crate::proofs::WalkItems::more_notes, crate::proofs::WalkItems::whole_notes, crate::proofs::WalkItems::last_note, crate::proofs::WalkItems::more_steps, crate::proofs::WalkItems::whole_steps, crate::proofs::WalkItems::no_steps))]
+#[tactic(auto, using(crate::proofs::WalkItems::more_points, crate::proofs::WalkItems::whole_points, crate::proofs::WalkItems::last_point, crate::proofs::WalkItems::more_steps, crate::proofs::WalkItems::whole_steps, crate::proofs::WalkItems::no_steps))]
 fn add_seq<'a>(walk: &mut Walk<'a>, part: Part, seq: &'a Seq) -> Result<(), AllocError>
     ensures { OnOk result (Adds walk.old walk.new part (sequence seq.now)) }
 {
     for item in &seq.items {
         add_item(walk, part, item)?;
     }
-    walk.notes.push(&seq.last)?;
+    walk.points.push(Point {
+        part,
+        note: &seq.last,
+        item: None,
+    })?;
     Ok(())
 }
 
-// Adds a statement, the assertion before it, and what stands in it.
+// Adds a statement, the place before it, and what stands in it.
 #[cycle(walking)]
 fn add_item<'a>(walk: &mut Walk<'a>, part: Part, item: &'a Item) -> Result<(), AllocError>
     ensures { OnOk result (AddsItem walk.old walk.new part item.now) }
 {
-    walk.notes.push(&item.before)?;
+    walk.points.push(Point {
+        part,
+        note: &item.before,
+        item: Some(item),
+    })?;
     walk.steps.push(Step { part, item })?;
     match &item.stmt {
         Stmt::Skip | Stmt::Assign(..) | Stmt::Await(..) => Ok(()),
@@ -76,7 +93,7 @@ fn add_processes<'a>(walk: &mut Walk<'a>, processes: &'a [Seq]) -> Result<(), Al
     Ok(())
 }
 
-/// All assertions of an outline but the precondition and the postcondition, and all its steps.
+/// All places of an outline between the precondition and the postcondition, and all its steps.
 ///
 /// # Errors
 ///
@@ -85,7 +102,7 @@ pub(crate) fn walk_of<'a>(alloc: Global, outline: &'a Outline) -> Result<Walk<'a
     ensures { IfOk result (HasAll outline.now) }
 {
     let mut walk = Walk {
-        notes: Vec::new(alloc),
+        points: Vec::new(alloc),
         steps: Vec::new(alloc),
     };
     outline.follows_rule();

@@ -58,6 +58,7 @@ use Rattle.og_words.specs.declared.job.Erase.{Erase}
 use Rattle.og_words.specs.declared.job.Expand.{Expand}
 use Rattle.og_words.specs.declared.job.Explore.{Explore}
 use Rattle.og_words.specs.declared.job.Find.{Find}
+use Rattle.og_words.specs.declared.job.Format.{Format}
 use Rattle.og_words.specs.declared.job.Infer.{Infer}
 use Rattle.og_words.specs.declared.job.Migrate.{Migrate}
 use Rattle.og_words.specs.declared.job.Notes.{Notes}
@@ -68,6 +69,7 @@ use Rattle.og_words.specs.declared.job.Job.{Job}
 use Rattle.og_words.specs.declared.job.Job.TheVariants as jobs
 use Rattle.og_program.specs.World.{World, Text, named, OfSource, OfCerts, OfBoth}
 use Rattle.og_program.specs.Given.{HasNoMeaning, OfMeaning}
+use Rattle.og_program.specs.Layout.{IsFormatted}
 use Rattle.og_program.specs.Beside.{IsNote, Noted, OnReport, OnCertificates, OnBadValue, Answers, Refuses}
 use Rattle.og_program.specs.declared.outcome.Outcome.{Outcome}
 use Rattle.og_program.specs.declared.outcome.Outcome.TheVariants as outcomes
@@ -135,6 +137,14 @@ ExpandsText expand text outcome =
 abbrev pub Expands : World → Expand → Outcome → Type 0
 Expands world expand outcome =
     OfSource world expand.template.now (λ text. ExpandsText expand text outcome)
+
+-- ---- fmt
+
+-- a source or a template in its layout, or whether it has it; or why it means no outline
+abbrev pub Formats : World → Format → Outcome → Type 0
+Formats world format outcome =
+    OfSource world format.source.now
+    (λ text. OnReport (IsFormatted format.check text) outcome ⊎ HasNoMeaning takes.Constants text [] outcome)
 
 -- ---- prove and show
 
@@ -353,4 +363,5 @@ IsOutcome world (jobs.Erase erase) = Erases world erase
 IsOutcome world (jobs.Run run) = Runs world run
 IsOutcome world (jobs.Explore explore) = Explores world explore
 IsOutcome world (jobs.Expand expand) = Expands world expand
+IsOutcome world (jobs.Format format) = Formats world format
 IsOutcome world (jobs.Migrate migrate) = Migrates world migrate

@@ -1,4 +1,5 @@
 pub mod World
+pub mod Layout
 pub mod Sound
 pub mod Unblocked
 pub mod Opened

@@ -28,6 +28,7 @@ opened (jobs.Erase erase) = One erase.source.now
 opened (jobs.Run run) = opened_by_run run.source.now run.certs
 opened (jobs.Explore explore) = One explore.source.now
 opened (jobs.Expand expand) = One expand.template.now
+opened (jobs.Format format) = One format.source.now
 opened (jobs.Migrate migrate) = One migrate.certs.now
 
 -- a file of this name is among them

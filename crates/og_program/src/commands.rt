@@ -7,11 +7,12 @@ ghost use Rattle.og_report_text.specs.InputErrors.{OnFault, IsFaultOfConditions}
 ghost use Rattle.og_program.specs.World.{world_of};
 ghost use Rattle.og_program.specs.Opened.{One, LeavesInput, lacks};
 ghost use Rattle.og_program.specs.Failing.{IsFault, IsUnread};
-ghost use Rattle.og_program.specs.Commands.{form_of, IsListing, NotesOn, Lists, Erases, Explores, Expands, Migrates};
+ghost use Rattle.og_program.specs.Commands.{form_of, IsListing, NotesOn, Lists, Erases, Explores, Expands, Formats, Migrates};
 
 use crate::beside::{alone, beside_listing, beside_reply};
 use crate::fault::Fault;
 use crate::files::Files;
+use crate::formatting::formatted;
 use crate::given::Given;
 use crate::outcome::Outcome;
 use crate::program::Program;
@@ -24,7 +25,7 @@ use og_report_refusal::Names;
 use og_report_text::InputError;
 use og_template_outline::{Takes, expanded};
 use og_typed::Source;
-use og_words::{Conditions, Erase, Expand, Explore, Migrate, Notes};
+use og_words::{Conditions, Erase, Expand, Explore, Format, Migrate, Notes};
 use std::alloc::Global;
 use std::io::Read;
 
@@ -174,6 +175,29 @@ impl<'r, F: Files, G, H> Program<'r, F, G, H> {
                 let Given { text, reading } = given;
                 let answer = expanded(self.alloc, &text, reading.meaning, expand.as_map)?;
                 Ok(Outcome::Report(alone(answer)))
+            }
+            Err(outcome) => Ok(outcome),
+        }
+    }
+
+    /// The text of an outline or of a template laid out, or whether it is.
+    pub(crate) fn format<'a, I: Read>(
+        &self,
+        format: &Format<'a>,
+        input: &mut I,
+    ) -> Result<Outcome<'a>, Fault<'a>>
+        ensures outcome { IfOk result
+            (Formats (world_of F.contents F.is_missing I.remaining self.now input.old) format.now) }
+        ensures fault { IfErr result (IsFault (One format.now.source.now) ⊥) }
+        ensures missing { lacks (F.is_missing self.now.files.now) (One format.now.source.now) ≡ true
+            → IsUnread result }
+        ensures kept { LeavesInput (One format.now.source.now)
+            → I.remaining input.new ≡ I.remaining input.old }
+    {
+        match self.given(format.source, &[], Takes::Constants, input)? {
+            Ok(given) => {
+                let report = formatted(self.alloc, format, &given.text)?;
+                Ok(Outcome::Report(report))
             }
             Err(outcome) => Ok(outcome),
         }

@@ -60,7 +60,7 @@ impl<'r, F: Files, G, H> Program<'r, F, G, H> {
         let text = self.source_bytes(name, input)?;
         match read_text(self.alloc, &text, words, takes) {
             Ok(reading) => Ok(Ok(Given { text, reading })),
-            Err(error) => Ok(Err(refuse_meaning(self.alloc, name, &text, error)?)),
+            Err(error) => Ok(Err(refuse_meaning(self.alloc, name, &text, words, error)?)),
         }
     }
 }

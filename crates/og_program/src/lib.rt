@@ -7,6 +7,7 @@ mod commands;
 mod ended;
 mod fault;
 mod files;
+mod formatting;
 mod given;
 mod outcome;
 mod program;

@@ -17,7 +17,7 @@ ghost use Rattle.og_program.specs.Given.{IsTemplateRefusal, FollowsError};
 use crate::fault::Fault;
 use crate::outcome::{BadValue, Outcome, Report};
 use og_judge::Refusal;
-use og_report_refusal::{Names, advise, expansion_remark};
+use og_report_refusal::{Names, Refused, advise};
 use og_report_text::{Answer, InputFault};
 use og_template_outline::{ExpandFault, MeaningError};
 use og_typed::SourceError;
@@ -98,28 +98,26 @@ pub(crate) fn refuse_unread<'a>(
 }
 
 // The report of the fault of a template: its line, with status 2, and beside it why it is one.
-fn report_of_template(
-    alloc: Global,
-    name: &str,
-    template: &[u8],
-    fault: &ExpandFault,
-) -> Result<Report, AllocError>
-    requires { IsSome (place_of_fault fault.now) → length template.now ≤ 2 ^ 20 }
-    ensures { IfOk result (IsTemplateRefusal (named name.now template.now) fault.now) }
+fn report_of_template(alloc: Global, refused: Refused<'_>) -> Result<Report, AllocError>
+    requires { IsSome (place_of_fault refused.fault.now) → length refused.source.now ≤ 2 ^ 20 }
+    ensures { IfOk result (IsTemplateRefusal
+        (named refused.entry.name.now refused.entry.source.now) refused.entry.fault.now) }
 {
-    let answer = fault.answer(alloc, template)?;
-    let note = expansion_remark(alloc, name, template, fault).map(Some);
+    let answer = refused.fault.answer(alloc, refused.source)?;
+    let note = refused.remark(alloc).map(Some);
     Ok(Report { answer, note })
 }
 
-/// The outcome of a text of this name that means no outline. Refused memory is a fault of the job.
+/// The outcome of a text of this name that means no outline with these words. Refused memory is a
+/// fault of the job.
 pub(crate) fn refuse_meaning<'a>(
     alloc: Global,
     name: &str,
     text: &[u8],
+    words: &[&str],
     error: MeaningError<'a>,
 ) -> Result<Outcome<'a>, Fault<'a>>
-    requires { (takes : Takes) × (words : List (List ℕ)) × IsNotMeant takes text.now words error }
+    requires { (takes : Takes) × (all : List (List ℕ)) × IsNotMeant takes text.now all error }
     ensures outcome { IfOk result (FollowsError (named name.now text.now) error.entry) }
     ensures want { IfErr result (IsWant ⊥) }
 {
@@ -129,7 +127,13 @@ pub(crate) fn refuse_meaning<'a>(
             refuse_source(alloc, name, text, Refusal::Input(InputFault::Source(fault)))
         }
         MeaningError::Template(fault) => {
-            let report = report_of_template(alloc, name, text, &fault)?;
+            let refused = Refused {
+                name,
+                source: text,
+                words,
+                fault: &fault,
+            };
+            let report = report_of_template(alloc, refused)?;
             Ok(Outcome::Report(report))
         }
         MeaningError::BadValue(word) => Ok(Outcome::BadValue(BadValue { word, why: None })),

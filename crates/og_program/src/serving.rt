@@ -49,6 +49,7 @@ impl<'r, F: Files, G: Gate, H: Threads + Wait + Sync> Program<'r, F, G, H> {
             Job::Run(run) => self.run(run, input),
             Job::Explore(explore) => self.explore(explore, input),
             Job::Expand(expand) => self.expand(expand, input),
+            Job::Format(format) => self.format(format, input),
             Job::Migrate(migrate) => self.migrate(migrate, input),
         }
     }

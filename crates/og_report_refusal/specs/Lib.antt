@@ -6,4 +6,5 @@ pub mod Words
 pub mod Missing
 pub mod Starting
 pub mod Values
+pub mod Templates
 pub mod Expansion

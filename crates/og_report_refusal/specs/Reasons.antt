@@ -7,9 +7,11 @@ use Rattle.std.specs.Fmt.{decimal}
 use Rattle.og_text.specs.Lexemes.{is_word_byte}
 use Rattle.og_text.specs.Cut.{AreTokensOf}
 use Rattle.og_text.specs.declared.fault.LexFault.TheVariants as lex
+use Rattle.og_text.specs.declared.place.Span.{Span}
 use Rattle.og_text.specs.declared.token.Token.{Token}
 use Rattle.og_text.specs.declared.token.TokenKind.{TokenKind}
 use Rattle.og_parse.specs.declared.fault.ParseFault.TheVariants as parse
+use Rattle.og_typed.specs.declared.fault.TypeFault.{TypeFault}
 use Rattle.og_typed.specs.declared.fault.TypeFault.TheVariants as names
 use Rattle.og_cert_text.specs.declared.fault.CertTextFault.{CertTextFault}
 use Rattle.og_cert_text.specs.declared.fault.CertTextFault.TheVariants as certs
@@ -54,13 +56,29 @@ count_before tokens at = prefix_len (λ t. nat_le t.span.end at) tokens
 abbrev pub cut_at : List ℕ → ℕ → ℕ → List ℕ
 cut_at source start end = take 64 (drop start (take end source))
 
--- the token that is found, as it is written
+-- in quotes
+abbrev pub cut_text : List ℕ → Span → List ℕ
+cut_text source span = codes "'" & cut_at source span.start span.end & codes "'"
+
+-- what is found there, as it is written
+abbrev pub found_at : List ℕ → Option Span → List ℕ
+found_at source None = codes "the end of the file"
+found_at source (Some span) = cut_text source span
+
+abbrev pub first_span : List Token → Option Span
+first_span [] = None
+first_span (t ∷ tokens) = Some t.span
+
+-- the token that is found
 abbrev pub found_text : List ℕ → List Token → List ℕ
-found_text source [] = codes "the end of the file"
-found_text source (t ∷ tokens) = codes "'" & cut_at source t.span.start t.span.end & codes "'"
+found_text source tokens = found_at source (first_span tokens)
+
+-- what is found, and the words for what may stand there
+abbrev pub found_line : List ℕ → List (List ℕ) → List ℕ
+found_line found words = codes "found " & found & codes ", expected " & listed words
 
 abbrev pub expected_text : List ℕ → List TokenKind → Bool → List ℕ
-expected_text found symbols may_end = codes "found " & found & codes ", expected " & listed (words_of symbols may_end)
+expected_text found symbols may_end = found_line found (words_of symbols may_end)
 
 -- the symbol found behind the tokens before a place, and exactly the symbols that may stand there
 pub record IsExpectedText (source : List ℕ) (at : ℕ) (text : List ℕ) : Type 0 where
@@ -102,6 +120,20 @@ pub record IsDeclaredText (source : List ℕ) (at : ℕ) (text : List ℕ) : Typ
 
 -- ---- the reasons
 
+-- of a rule that names or numbers break
+abbrev pub rule_text : List ℕ → TypeFault → List ℕ
+rule_text source (names.Undeclared at) = wrong_text source at (codes "' is not declared")
+rule_text source (names.DeclaredTwice at) = wrong_text source at (codes "' was declared before")
+rule_text source (names.AuxUsed at) =
+    wrong_text source at (codes "' is an auxiliary: no test, no guard and no other variable may depend on it")
+rule_text source (names.AuxInPrePost at) =
+    wrong_text source at (codes "' is an auxiliary: the precondition and the postcondition name none")
+rule_text source (names.CoefficientTooLarge at) =
+    codes "a coefficient is at most 2147483648, and a constant is a 64-bit number with a sign"
+rule_text source (names.TooManyVariables at) = codes "the 257th variable is declared here"
+rule_text source (names.TooManyProcesses at) = codes "the 257th process begins here"
+rule_text source (names.AwaitTooLong at) = codes "the 65th element of the body begins here"
+
 -- of a text of certificates
 abbrev pub certs_text : CertTextFault → List ℕ
 certs_text certs.CertsTooLong = codes "certificates have at most 67108864 bytes"
@@ -119,17 +151,8 @@ IsReason source (faults.Source (sources.Lex lex.SourceTooLong)) text = text ≡ 
 IsReason source (faults.Source (sources.Parse (parse.Expected span))) text = IsExpectedText source span.start text
 IsReason source (faults.Source (sources.Parse (parse.TooDeep span))) text = text ≡ codes "the 101st level opens here"
 IsReason source (faults.Source (sources.Parse (parse.TooManyStatements span))) text = text ≡ codes "the 4097th statement begins here"
-IsReason source (faults.Source (sources.Resolve (names.Undeclared at))) text = text ≡ wrong_text source at (codes "' is not declared")
 IsReason source (faults.Source (sources.Resolve (names.DeclaredTwice at))) text = IsDeclaredText source at text
-IsReason source (faults.Source (sources.Resolve (names.AuxUsed at))) text =
-    text ≡ wrong_text source at (codes "' is an auxiliary: no test, no guard and no other variable may depend on it")
-IsReason source (faults.Source (sources.Resolve (names.AuxInPrePost at))) text =
-    text ≡ wrong_text source at (codes "' is an auxiliary: the precondition and the postcondition name none")
-IsReason source (faults.Source (sources.Resolve (names.CoefficientTooLarge at))) text =
-    text ≡ codes "a coefficient is at most 2147483648, and a constant is a 64-bit number with a sign"
-IsReason source (faults.Source (sources.Resolve (names.TooManyVariables at))) text = text ≡ codes "the 257th variable is declared here"
-IsReason source (faults.Source (sources.Resolve (names.TooManyProcesses at))) text = text ≡ codes "the 257th process begins here"
-IsReason source (faults.Source (sources.Resolve (names.AwaitTooLong at))) text = text ≡ codes "the 65th element of the body begins here"
+IsReason source (faults.Source (sources.Resolve fault)) text = text ≡ rule_text source fault
 IsReason source (faults.Conditions many) text = text ≡ codes "the outline has more than 4000000 conditions"
 IsReason source (faults.Certs fault) text = text ≡ certs_text fault
 IsReason source (faults.Stray n) text = text ≡ codes "the outline has no condition " & decimal n

@@ -1,15 +1,17 @@
 //! The message about a refusal on standard error.
 
-ghost use Rattle.std.specs.Prelude.{◌≡◌, ◌++◌, OnOk, IfOk, IfSome, IsTrue, option_map};
+ghost use Rattle.std.specs.Prelude.{◌≡◌, ◌++◌, OnOk, IfOk};
 ghost use Rattle.og_report_text.specs.Faults.{place_of_input};
-ghost use Rattle.og_report_refusal.specs.Advice.{IsKnown, is_one_line, front_text, hint_text, IsAdvice};
+ghost use Rattle.og_report_refusal.specs.Advice.{IsKnown, front_text, IsAdvice};
 
 use crate::head::put_head;
+use crate::help::{help_of, put_help};
 use crate::hint::Hint;
 use crate::quotes::put_quote;
 use crate::reasons::reason;
 use og_report_text::InputFault;
 use og_template::is_template;
+use og_typed::{SourceFault, TypeFault};
 use std::alloc::{AllocError, Global};
 
 /// How a source and its certificates are named.
@@ -43,26 +45,11 @@ fn put_front(text: &mut Vec<u8>, source: &[u8], fault: &InputFault) -> Result<()
     }
 }
 
-// Adds a line of advice, where there is some.
-fn put_hint(text: &mut Vec<u8>, hint: Option<&str>) -> Result<(), AllocError>
-    ensures { OnOk result (text.new.items ≡ text.old.items
-        ++ hint_text (option_map (λ h. h.now) hint.entry)) }
-{
-    let Some(hint) = hint else {
-        return Ok(());
-    };
-    text.extend_from_slice(b"help: ")?;
-    text.extend_from_slice(hint.as_bytes())?;
-    text.extend_from_slice(b"\n")
-}
-
-// The line of advice, where there is some.
-fn line_of(hint: Option<Hint>) -> Option<&'static str>
-    ensures { IfSome result (λ h. IsTrue (is_one_line h.now)) }
-{
-    match hint {
-        Some(hint) => Some(hint.text()),
-        None => None,
+// Where a name stands that is not declared, if that is the fault.
+fn undeclared(fault: &InputFault) -> Option<u32> {
+    match fault {
+        InputFault::Source(SourceFault::Resolve(TypeFault::Undeclared(at))) => Some(*at),
+        _ => None,
     }
 }
 
@@ -96,8 +83,9 @@ pub fn advise(
     put_front(&mut text, source, fault)?;
     let (reason, hint) = reason(alloc, names, fault, source)?;
     let hint = template_hint(fault, source).or(hint);
+    let help = help_of(alloc, hint, source, undeclared(fault))?;
     text.extend_from_slice(&reason)?;
     text.extend_from_slice(b"\n")?;
-    put_hint(&mut text, line_of(hint))?;
+    put_help(&mut text, &help)?;
     Ok(text)
 }

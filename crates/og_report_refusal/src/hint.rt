@@ -42,6 +42,28 @@ pub(crate) enum Hint {
     TwoFiles,
     NoCertificates,
     ExpandTemplate,
+    WriteTemplate,
+    WriteParallel,
+    WriteBoth,
+    NoNoteInAwait,
+    MissingBodyEnd,
+    NoParentheses,
+    NoTruthValues,
+    SignBehindMinus,
+    SignBehindPlus,
+    WriteIncrement,
+    WriteDecrement,
+    WriteAwait,
+    CoendMissing,
+    ProcessMissing,
+    NoBreakSpace,
+    WriteRange,
+    GroupQuantifier,
+    NamesNotHidden,
+    NumbersAlone,
+    WriteElement,
+    WriteFamily,
+    AssertionInSum,
 }
 
 impl Hint {
@@ -93,7 +115,32 @@ impl Hint {
                 "'og check SOURCE CERTS' takes two files; 'og prove SOURCE' takes none",
             Hint::NoCertificates =>
                 "'og find SOURCE' prints certificates; of a template 'og expand' makes a source",
-            Hint::ExpandTemplate => "this is a template: 'og expand' makes an outline of it",
+            Hint::ExpandTemplate => "this is a template: og expand FILE > x.og",
+            Hint::WriteTemplate => "this is a form of templates: put 'template;' in front",
+            Hint::WriteParallel => "write '//' between processes",
+            Hint::WriteBoth => "write both implications: '(x = 0 -> y = 0) and (y = 0 -> x = 0)'",
+            Hint::NoNoteInAwait => "no assertions stand in the body of an 'await'",
+            Hint::MissingBodyEnd =>
+                "no assertions stand in the body of an 'await'; or is its 'end' missing?",
+            Hint::NoParentheses => "no parentheses stand in a sum",
+            Hint::NoTruthValues => "there are no truth values in variables: write 0 or 1",
+            Hint::SignBehindMinus => "no sign stands behind another: write '1 + 1' for '1 - -1'",
+            Hint::SignBehindPlus => "no sign stands behind another: write '1 - 1' for '1 + -1'",
+            Hint::WriteIncrement => "write 'x := x + 1'",
+            Hint::WriteDecrement => "write 'x := x - 1'",
+            Hint::WriteAwait => "an atomic step is written 'await true then x := 1'",
+            Hint::CoendMissing => "is a 'coend' missing?",
+            Hint::ProcessMissing => "is a process missing?",
+            Hint::NoBreakSpace => "this is a no-break space: write a blank",
+            Hint::WriteRange => "a range is written '1..3'",
+            Hint::GroupQuantifier =>
+                "a quantifier left of '->' or behind 'not' stands in parentheses",
+            Hint::NamesNotHidden => "no name hides another: choose a different one",
+            Hint::NumbersAlone =>
+                "an expression has numbers, constants, parameters and bound names alone",
+            Hint::WriteElement => "a variable of a family has an index, as 'x[1]'",
+            Hint::WriteFamily => "a family is declared with its range, as 'var x[1..3];'",
+            Hint::AssertionInSum => "an assertion stands for no number",
         }
     }
 }

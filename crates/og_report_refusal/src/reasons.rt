@@ -7,7 +7,7 @@ ghost use Rattle.og_typed.specs.Refused.{IsSourceFault};
 ghost use Rattle.og_report_text.specs.declared.fault.InputFault.TheVariants as faults;
 ghost use Rattle.og_typed.specs.declared.source_fault.SourceFault.TheVariants as sources;
 ghost use Rattle.og_report_refusal.specs.Advice.{IsKnown};
-ghost use Rattle.og_report_refusal.specs.Reasons.{wrong_text, certs_text, is_word, first_start, start_from, HasTokens, declared_text, IsDeclaredText, IsReason};
+ghost use Rattle.og_report_refusal.specs.Reasons.{wrong_text, certs_text, is_word, first_start, start_from, HasTokens, declared_text, IsDeclaredText, rule_text, IsReason};
 
 use crate::advice::Names;
 use crate::bytes::{put_bad_byte, rest_of, word_at};
@@ -24,8 +24,17 @@ use std::alloc::{AllocError, Global};
 /// A reason, and advice where there is some.
 pub(crate) type Reason = (Vec<u8>, Option<Hint>);
 
-// A word of the source, and its fault.
-fn wrong_word(alloc: Global, source: &[u8], at: u32, why: &str) -> Result<Reason, AllocError>
+/// A word of the source, and its fault.
+///
+/// # Errors
+///
+/// An allocation was refused.
+pub(crate) fn wrong_word(
+    alloc: Global,
+    source: &[u8],
+    at: u32,
+    why: &str,
+) -> Result<Reason, AllocError>
     ensures { IfOk result (λ r. r.0.items ≡ wrong_text source.now at why.now) }
 {
     let mut text = Vec::from_slice(alloc, b"'")?;
@@ -68,8 +77,12 @@ fn first_place(source: &[u8], tokens: &[Token], at: u32) -> u32
     }
 }
 
-// Adds a place of the source to the text.
-fn put_place(text: &mut Vec<u8>, source: &[u8], at: u32) -> Result<(), AllocError>
+/// Adds a place of the source to the text.
+///
+/// # Errors
+///
+/// An allocation was refused; the text has what it had, and perhaps a part of this.
+pub(crate) fn put_place(text: &mut Vec<u8>, source: &[u8], at: u32) -> Result<(), AllocError>
     requires { length source.now ≤ 2 ^ 20 }
     ensures { OnOk result (text.new.items ≡ text.old.items
         ++ position_text (position_of source.now at)) }
@@ -101,16 +114,28 @@ fn declared(alloc: Global, source: &[u8], at: u32) -> Result<Reason, AllocError>
     declared_at(alloc, source, at, first)
 }
 
-// A reason without parts.
-fn plain(alloc: Global, why: &str, hint: Option<Hint>) -> Result<Reason, AllocError>
+/// A reason without parts.
+///
+/// # Errors
+///
+/// An allocation was refused.
+pub(crate) fn plain(alloc: Global, why: &str, hint: Option<Hint>) -> Result<Reason, AllocError>
     ensures { IfOk result (λ r. r.0.items ≡ why.now) }
 {
     let text = Vec::from_slice(alloc, why.as_bytes())?;
     Ok((text, hint))
 }
 
-// Why a text is not cut into tokens.
-fn lex_reason(alloc: Global, fault: &LexFault, source: &[u8]) -> Result<Reason, AllocError>
+/// Why a text is not cut into tokens.
+///
+/// # Errors
+///
+/// An allocation was refused.
+pub(crate) fn lex_reason(
+    alloc: Global,
+    fault: &LexFault,
+    source: &[u8],
+) -> Result<Reason, AllocError>
     ensures { IfOk result (λ r.
         IsReason source.now (faults.Source (sources.Lex fault.now)) r.0.items) }
 {
@@ -119,7 +144,7 @@ fn lex_reason(alloc: Global, fault: &LexFault, source: &[u8]) -> Result<Reason, 
             let rest = rest_of(source, *at as usize);
             let mut text = Vec::new(alloc);
             put_bad_byte(&mut text, rest)?;
-            Ok((text, byte_hint(rest)))
+            Ok((text, byte_hint(alloc, source, *at)?))
         }
         LexFault::NumberTooLarge(_) => {
             plain(alloc, "a number is at most 9223372036854775808", None)
@@ -138,7 +163,7 @@ fn parse_reason(alloc: Global, fault: &ParseFault, source: &[u8]) -> Result<Reas
     match fault {
         ParseFault::Expected(span) => {
             let (text, symbols) = expected_reason(alloc, source, span.start)?;
-            let hint = expected_hint(alloc, source, span.start, &symbols)?;
+            let hint = expected_hint(alloc, source, span.start, symbols)?;
             Ok((text, hint))
         }
         ParseFault::TooDeep(_) => plain(alloc, "the 101st level opens here", None),
@@ -148,16 +173,21 @@ fn parse_reason(alloc: Global, fault: &ParseFault, source: &[u8]) -> Result<Reas
     }
 }
 
-// Why names or numbers are not as they must be.
-fn resolve_reason(alloc: Global, fault: &TypeFault, source: &[u8]) -> Result<Reason, AllocError>
-    requires has_tokens { HasTokens source.now }
-    requires short { length source.now ≤ 2 ^ 20 }
-    ensures { IfOk result (λ r.
-        IsReason source.now (faults.Source (sources.Resolve fault.now)) r.0.items) }
+/// Why names or numbers break a rule.
+///
+/// # Errors
+///
+/// An allocation was refused.
+pub(crate) fn rule_reason(
+    alloc: Global,
+    fault: &TypeFault,
+    source: &[u8],
+) -> Result<Reason, AllocError>
+    ensures { IfOk result (λ r. r.0.items ≡ rule_text source.now fault.now) }
 {
     match fault {
         TypeFault::Undeclared(at) => wrong_word(alloc, source, *at, "' is not declared"),
-        TypeFault::DeclaredTwice(at) => declared(alloc, source, *at),
+        TypeFault::DeclaredTwice(at) => wrong_word(alloc, source, *at, "' was declared before"),
         TypeFault::AuxUsed(at) => {
             let why = "' is an auxiliary: no test, no guard and no other variable may depend on it";
             wrong_word(alloc, source, *at, why)
@@ -178,6 +208,25 @@ fn resolve_reason(alloc: Global, fault: &TypeFault, source: &[u8]) -> Result<Rea
             "the 65th element of the body begins here",
             None,
         ),
+    }
+}
+
+// Why names or numbers are not as they must be.
+fn resolve_reason(alloc: Global, fault: &TypeFault, source: &[u8]) -> Result<Reason, AllocError>
+    requires has_tokens { HasTokens source.now }
+    requires short { length source.now ≤ 2 ^ 20 }
+    ensures { IfOk result (λ r.
+        IsReason source.now (faults.Source (sources.Resolve fault.now)) r.0.items) }
+{
+    match fault {
+        TypeFault::DeclaredTwice(at) => declared(alloc, source, *at),
+        TypeFault::Undeclared(_)
+        | TypeFault::AuxUsed(_)
+        | TypeFault::AuxInPrePost(_)
+        | TypeFault::CoefficientTooLarge(_)
+        | TypeFault::TooManyVariables(_)
+        | TypeFault::TooManyProcesses(_)
+        | TypeFault::AwaitTooLong(_) => rule_reason(alloc, fault, source),
     }
 }
 

@@ -3,6 +3,7 @@
 ghost use Rattle.std.specs.Prelude.{◌≡◌, ◌++◌, OnOk, IfOk, map};
 ghost use Rattle.og_report_refusal.specs.Words.{word_of, with_end, words_of, others_text, listed};
 
+use og_template::{Special, WordKind};
 use og_text::TokenKind;
 use std::alloc::{AllocError, Global};
 
@@ -75,6 +76,44 @@ pub(crate) fn words_of(
     let mut words = Vec::new(alloc);
     for kind in symbols {
         words.push(word_of(kind))?;
+    }
+    put_end(&mut words, may_end)?;
+    Ok(words)
+}
+
+// A keyword or a mark of templates in quotes.
+fn special_word(special: Special) -> &'static str {
+    match special {
+        Special::Template => "'template'",
+        Special::Const => "'const'",
+        Special::Let => "'let'",
+        Special::Process => "'process'",
+        Special::For => "'for'",
+        Special::In => "'in'",
+        Special::Where => "'where'",
+        Special::All => "'all'",
+        Special::Any => "'some'",
+        Special::Sum => "'sum'",
+        Special::Mod => "'mod'",
+        Special::Dots => "'..'",
+        Special::OpenBracket => "'['",
+        Special::CloseBracket => "']'",
+        Special::Colon => "':'",
+    }
+}
+
+/// The words for what may stand somewhere in a template: the symbols, and the end where it may.
+pub(crate) fn all_words_of(
+    alloc: Global,
+    symbols: &[WordKind],
+    may_end: bool,
+) -> Result<Vec<&'static str>, AllocError> {
+    let mut words = Vec::new(alloc);
+    for symbol in symbols {
+        words.push(match symbol {
+            WordKind::Lexeme(kind) => word_of(kind),
+            WordKind::Special(special) => special_word(*special),
+        })?;
     }
     put_end(&mut words, may_end)?;
     Ok(words)

@@ -7,6 +7,7 @@ ghost use Rattle.og_template.specs.declared.fault.FaultKind.TheVariants.{TooMany
 ghost use Rattle.og_template_expand.specs.declared.fault.Stop.TheVariants.{Spent};
 
 use crate::fault::{Stop, fault_at};
+use crate::indices::Outside;
 use crate::origin::{Binding, Origin};
 use crate::scope::same_bindings;
 use itoa::Buffer;
@@ -21,11 +22,12 @@ const STEP_LIMIT: u32 = 2_097_152;
 /// The greatest number of statements outside the bodies of awaits.
 const STATEMENT_LIMIT: u32 = 4096;
 
-/// The steps and statements that are left, and the origins so far.
+/// The steps and statements that are left, the origins so far, and the index that was outside.
 #[derive(Drop)]
 pub(crate) struct Expander<'a> {
     pub(crate) alloc: Global,
     pub(crate) origins: Vec<Origin<'a>>,
+    pub(crate) outside: Option<Outside>,
     steps_left: u32,
     statements_left: u32,
 }
@@ -73,6 +75,7 @@ impl<'a> Expander<'a> {
         Expander {
             alloc,
             origins: Vec::new(alloc),
+            outside: None,
             steps_left: STEP_LIMIT,
             statements_left: STATEMENT_LIMIT,
         }

@@ -1,7 +1,8 @@
 //! The expansion of a template: the tree of the outline that it means, under values of its
 //! constants.
 //!
-//! [`expand`] gives the tree with the place of each note and statement in the template.
+//! [`expand`] gives the tree with the place of each note and statement in the template; [`outside`]
+//! says more of an index that is outside of its range.
 #![tactic(auto)]
 
 mod assertions;
@@ -11,6 +12,7 @@ mod declarations;
 mod expander;
 mod exprs;
 mod fault;
+mod indices;
 mod origin;
 mod prefix;
 mod range;
@@ -20,5 +22,6 @@ mod statements;
 mod sums;
 mod template;
 
+pub use indices::{Bound, Outside};
 pub use origin::{Binding, Origin};
-pub use template::{Expanded, expand};
+pub use template::{Expanded, expand, outside};

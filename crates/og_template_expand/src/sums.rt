@@ -13,6 +13,7 @@ use crate::binders::{enter, values};
 use crate::expander::{Expander, element_name, same_name};
 use crate::exprs::value;
 use crate::fault::{Stop, fault, fault_at};
+use crate::indices::Outside;
 use crate::range::Range;
 use crate::scope::{Meaning, Scope};
 use og_parse::{RawFactor, RawName, RawSum, RawTerm, Sign};
@@ -71,6 +72,19 @@ fn element_in(alloc: Global, range: Range, name: &RawName, index: i64) -> Result
     }
 }
 
+// Notes an index that is outside of a range.
+fn note_outside(
+    scope: &Scope<'_, '_>,
+    work: &mut Expander<'_>,
+    range: Range,
+    index: i64,
+) -> Result<(), AllocError> {
+    if !within(index, range) {
+        work.outside = Some(Outside::new(work.alloc, index, range, &scope.bound)?);
+    }
+    Ok(())
+}
+
 /// The name of the element of a family that an index picks.
 pub(crate) fn element(
     scope: &Scope<'_, '_>,
@@ -83,6 +97,7 @@ pub(crate) fn element(
 {
     let index = value(scope, work, index)?;
     let range = scope.family(name)?;
+    note_outside(scope, work, range, index)?;
     element_in(work.alloc, range, name, index)
 }
 

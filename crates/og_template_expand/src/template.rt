@@ -13,6 +13,7 @@ use crate::declarations::{
 };
 use crate::expander::Expander;
 use crate::fault::{Stop, fault};
+use crate::indices::Outside;
 use crate::origin::{Binding, Origin};
 use crate::repeated::{Repeated, all_made};
 use crate::scope::{Names, Scope};
@@ -20,7 +21,7 @@ use crate::statements::sequence;
 use og_parse::{Raw, RawAux, RawName, RawProcesses, RawSeq};
 use og_template::{Binder, FaultKind, Process, Sequence, Template, TemplateError};
 use og_text::Span;
-use std::alloc::Global;
+use std::alloc::{AllocError, Global};
 
 /// The tree of an outline, with places of the template, and where it comes from.
 #[derive(Debug, Drop)]
@@ -167,4 +168,26 @@ pub fn expand<'a>(
         raw,
         origins: work.origins,
     })
+}
+
+/// The index that is outside of its family's range, where [`expand`] gives `OutOfRange` for this
+/// template and these values.
+///
+/// # Errors
+///
+/// An allocation was refused.
+pub fn outside(
+    alloc: Global,
+    template: &Template,
+    values: &[Binding<'_>],
+) -> Result<Option<Outside>, AllocError> {
+    let mut work = Expander::new(alloc);
+    match whole(&mut work, template, values) {
+        Ok(raw) => {
+            drop(raw);
+            Ok(None)
+        }
+        Err(Stop::Memory) => Err(AllocError),
+        Err(_) => Ok(work.outside),
+    }
 }

@@ -1,21 +1,18 @@
 //! The names of assertions.
 
+use crate::details::{Kind, Wanted};
 use crate::exprs::{check_exprs, check_sum, enter_binder};
-use crate::scope::{Kind, Scope, fault_at};
+use crate::scope::{NameError, Scope, wrong_count, wrong_kind};
 use og_parse::RawName;
-use og_template::{
-    Assertion, Binder, Conjunction, Disjunction, Expr, FaultKind, TemplateError, Unit,
-};
+use og_template::{Assertion, Binder, Conjunction, Disjunction, Expr, Unit};
 
 // Asks the names of the use of a named assertion.
-fn check_use(scope: &Scope<'_>, name: &RawName, arguments: &[Expr]) -> Result<(), TemplateError> {
-    let Kind::Named(count) = scope.kind(name)? else {
-        return Err(fault_at(FaultKind::WrongKind, name));
-    };
-    if count != arguments.len() {
-        return Err(fault_at(FaultKind::WrongCount, name));
+fn check_use(scope: &Scope<'_>, name: &RawName, arguments: &[Expr]) -> Result<(), NameError> {
+    match scope.kind(name)? {
+        Kind::Named(count) if count == arguments.len() => check_exprs(scope, arguments),
+        Kind::Named(count) => Err(wrong_count(name, count, arguments.len())),
+        other => Err(wrong_kind(name, other, Wanted::Named)),
     }
-    check_exprs(scope, arguments)
 }
 
 #[cycle(assertions)]
@@ -23,7 +20,7 @@ fn check_quantified<'a>(
     scope: &mut Scope<'a>,
     binder: &'a Binder,
     inner: &'a Unit,
-) -> Result<(), TemplateError> {
+) -> Result<(), NameError> {
     let len = scope.len();
     enter_binder(scope, binder)?;
     check_unit(scope, inner)?;
@@ -32,7 +29,7 @@ fn check_quantified<'a>(
 }
 
 #[cycle(assertions)]
-fn check_unit<'a>(scope: &mut Scope<'a>, unit: &'a Unit) -> Result<(), TemplateError> {
+fn check_unit<'a>(scope: &mut Scope<'a>, unit: &'a Unit) -> Result<(), NameError> {
     match unit {
         Unit::True(_) | Unit::False(_) => Ok(()),
         Unit::Compare(left, _, right) => {
@@ -52,7 +49,7 @@ fn check_unit<'a>(scope: &mut Scope<'a>, unit: &'a Unit) -> Result<(), TemplateE
 fn check_conjunction<'a>(
     scope: &mut Scope<'a>,
     conjunction: &'a Conjunction,
-) -> Result<(), TemplateError> {
+) -> Result<(), NameError> {
     for unit in &conjunction.parts {
         check_unit(scope, unit)?;
     }
@@ -63,7 +60,7 @@ fn check_conjunction<'a>(
 fn check_disjunction<'a>(
     scope: &mut Scope<'a>,
     disjunction: &'a Disjunction,
-) -> Result<(), TemplateError> {
+) -> Result<(), NameError> {
     for conjunction in &disjunction.parts {
         check_conjunction(scope, conjunction)?;
     }
@@ -75,7 +72,7 @@ fn check_disjunction<'a>(
 pub(crate) fn check_assertion<'a>(
     scope: &mut Scope<'a>,
     assertion: &'a Assertion,
-) -> Result<(), TemplateError> {
+) -> Result<(), NameError> {
     check_disjunction(scope, &assertion.left)?;
     match &assertion.implied {
         Some((_, right)) => check_assertion(scope, right),

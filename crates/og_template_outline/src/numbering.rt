@@ -1,20 +1,20 @@
 //! The names of a template.
 
 use crate::assertions::check_assertion;
+use crate::details::{Kind, NameDetail};
 use crate::exprs::{check_bounds, check_expr, enter_binder};
-use crate::scope::{Kind, Scope, fault_at};
+use crate::scope::{NameError, Scope, declared_before};
 use crate::statements::check_sequence;
 use og_parse::RawName;
 use og_template::{
-    Auxiliary, Bounds, Constant, FaultKind, Named, Process, Sequence, Template, TemplateError,
-    Variable,
+    Auxiliary, Bounds, Constant, Named, Process, Sequence, Template, TemplateError, Variable,
 };
-use std::alloc::Global;
+use std::alloc::{AllocError, Global};
 
 fn declare_constants<'a>(
     scope: &mut Scope<'a>,
     constants: &'a [Constant],
-) -> Result<(), TemplateError> {
+) -> Result<(), NameError> {
     for constant in constants {
         scope.absent(&constant.name)?;
         check_expr(scope, &constant.value)?;
@@ -24,7 +24,7 @@ fn declare_constants<'a>(
 }
 
 // Asks the names of a family's range; the kind that it gives.
-fn kind_of(scope: &Scope<'_>, family: &Option<Bounds>) -> Result<Kind, TemplateError> {
+fn kind_of(scope: &Scope<'_>, family: &Option<Bounds>) -> Result<Kind, NameError> {
     match family {
         Some(bounds) => {
             check_bounds(scope, bounds)?;
@@ -37,7 +37,7 @@ fn kind_of(scope: &Scope<'_>, family: &Option<Bounds>) -> Result<Kind, TemplateE
 fn declare_variables<'a>(
     scope: &mut Scope<'a>,
     variables: &'a [Variable],
-) -> Result<(), TemplateError> {
+) -> Result<(), NameError> {
     for variable in variables {
         scope.free(&variable.name)?;
         let kind = kind_of(scope, &variable.family)?;
@@ -49,7 +49,7 @@ fn declare_variables<'a>(
 fn declare_auxiliaries<'a>(
     scope: &mut Scope<'a>,
     auxiliaries: &'a [Auxiliary],
-) -> Result<(), TemplateError> {
+) -> Result<(), NameError> {
     for auxiliary in auxiliaries {
         scope.free(&auxiliary.name)?;
         let kind = kind_of(scope, &auxiliary.family)?;
@@ -64,18 +64,18 @@ fn enter_parameters<'a>(
     scope: &mut Scope<'a>,
     name: &RawName,
     parameters: &'a [RawName],
-) -> Result<(), TemplateError> {
+) -> Result<(), NameError> {
     for parameter in parameters {
         scope.absent(parameter)?;
         if parameter.name.as_slice() == name.name.as_slice() {
-            return Err(fault_at(FaultKind::DeclaredTwice, parameter));
+            return Err(declared_before(parameter, name.span.start));
         }
         scope.enter(parameter, Kind::Value)?;
     }
     Ok(())
 }
 
-fn declare_named<'a>(scope: &mut Scope<'a>, all: &'a [Named]) -> Result<(), TemplateError> {
+fn declare_named<'a>(scope: &mut Scope<'a>, all: &'a [Named]) -> Result<(), NameError> {
     for named in all {
         scope.absent(&named.name)?;
         let len = scope.len();
@@ -87,14 +87,14 @@ fn declare_named<'a>(scope: &mut Scope<'a>, all: &'a [Named]) -> Result<(), Temp
     Ok(())
 }
 
-fn check_main<'a>(scope: &mut Scope<'a>, main: &'a Option<Sequence>) -> Result<(), TemplateError> {
+fn check_main<'a>(scope: &mut Scope<'a>, main: &'a Option<Sequence>) -> Result<(), NameError> {
     match main {
         Some(sequence) => check_sequence(scope, sequence),
         None => Ok(()),
     }
 }
 
-fn check_process<'a>(scope: &mut Scope<'a>, process: &'a Process) -> Result<(), TemplateError> {
+fn check_process<'a>(scope: &mut Scope<'a>, process: &'a Process) -> Result<(), NameError> {
     let len = scope.len();
     if let Some(binder) = &process.binder {
         enter_binder(scope, binder)?;
@@ -104,23 +104,15 @@ fn check_process<'a>(scope: &mut Scope<'a>, process: &'a Process) -> Result<(), 
     Ok(())
 }
 
-fn check_processes<'a>(
-    scope: &mut Scope<'a>,
-    processes: &'a [Process],
-) -> Result<(), TemplateError> {
+fn check_processes<'a>(scope: &mut Scope<'a>, processes: &'a [Process]) -> Result<(), NameError> {
     for process in processes {
         check_process(scope, process)?;
     }
     Ok(())
 }
 
-/// Asks that each name of a template is declared once before it is used, and used as what it is.
-///
-/// # Errors
-///
-/// `Fault`, the first in the order of the text, at the name: `Undeclared`, `DeclaredTwice`,
-/// `ReservedName`, `WrongKind` or `WrongCount`. `Memory` where an allocation was refused.
-pub fn check_names(alloc: Global, template: &Template) -> Result<(), TemplateError> {
+// Asks the names of a template.
+fn check_template(alloc: Global, template: &Template) -> Result<(), NameError> {
     let mut scope = Scope::new(alloc);
     declare_constants(&mut scope, &template.constants)?;
     declare_variables(&mut scope, &template.variables)?;
@@ -131,4 +123,30 @@ pub fn check_names(alloc: Global, template: &Template) -> Result<(), TemplateErr
     check_processes(&mut scope, &template.processes)?;
     check_main(&mut scope, &template.epilogue)?;
     check_assertion(&mut scope, &template.post.assertion)
+}
+
+/// Asks that each name of a template is declared once before it is used, and used as what it is.
+///
+/// # Errors
+///
+/// `Fault`, the first in the order of the text, at the name: `Undeclared`, `DeclaredTwice`,
+/// `ReservedName`, `WrongKind` or `WrongCount`. `Memory` where an allocation was refused.
+pub fn check_names(alloc: Global, template: &Template) -> Result<(), TemplateError> {
+    Ok(check_template(alloc, template)?)
+}
+
+/// What more is known of the fault of [`check_names`], where it has one.
+///
+/// # Errors
+///
+/// An allocation was refused.
+pub(crate) fn name_detail(
+    alloc: Global,
+    template: &Template,
+) -> Result<Option<NameDetail>, AllocError> {
+    match check_template(alloc, template) {
+        Ok(()) => Ok(None),
+        Err(NameError::Memory) => Err(AllocError),
+        Err(NameError::Fault(_, detail)) => Ok(detail),
+    }
 }

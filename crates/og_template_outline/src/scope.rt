@@ -1,30 +1,85 @@
 //! Names that are in scope.
 
+use crate::details::{Kind, NameDetail, Wanted};
 use indexmap::IndexMap;
 use og_parse::RawName;
-use og_template::{FaultKind, TemplateError};
-use std::alloc::Global;
+use og_template::{FaultKind, TemplateError, TemplateFault};
+use std::alloc::{AllocError, AllocFailed, Global};
 
-/// What a name stands for.
-#[derive(Clone, Copy, Drop, PartialEq, Eq)]
-pub(crate) enum Kind {
-    /// A number: a constant, a parameter or a bound name.
-    Value,
-    Variable,
-    Family,
-    /// An assertion with this many parameters.
-    Named(usize),
+/// Why the names of a template are not as they must be.
+#[derive(Clone, Copy, Drop)]
+pub(crate) enum NameError {
+    /// An allocation was refused.
+    Memory,
+    /// The fault, and what more is known of it.
+    Fault(TemplateFault, Option<NameDetail>),
+}
+
+impl From<AllocError> for NameError {
+    fn from(_: AllocError) -> NameError {
+        NameError::Memory
+    }
+}
+
+impl<T: Drop> From<AllocFailed<T>> for NameError {
+    fn from(_: AllocFailed<T>) -> NameError {
+        NameError::Memory
+    }
+}
+
+impl From<NameError> for TemplateError {
+    fn from(error: NameError) -> TemplateError {
+        match error {
+            NameError::Memory => TemplateError::Memory,
+            NameError::Fault(fault, _) => TemplateError::Fault(fault),
+        }
+    }
+}
+
+// What a name stands for, and where it was declared or bound.
+#[derive(Clone, Copy, Drop)]
+struct Entry {
+    kind: Kind,
+    at: u32,
 }
 
 /// The names in scope, in the order in which they came into it.
 #[derive(Drop)]
 pub(crate) struct Scope<'a> {
-    names: IndexMap<&'a [u8], Kind>,
+    names: IndexMap<&'a [u8], Entry>,
 }
 
-/// The error of a fault at a name.
-pub(crate) fn fault_at(kind: FaultKind, name: &RawName) -> TemplateError {
-    TemplateError::at(kind, name.span.start)
+// The error of a fault at a name.
+fn fault_at(kind: FaultKind, name: &RawName, detail: Option<NameDetail>) -> NameError {
+    let at = name.span.start;
+    NameError::Fault(TemplateFault { kind, at }, detail)
+}
+
+/// The error of a name that was declared before, at a byte offset.
+pub(crate) fn declared_before(name: &RawName, first: u32) -> NameError {
+    fault_at(
+        FaultKind::DeclaredTwice,
+        name,
+        Some(NameDetail::First(first)),
+    )
+}
+
+/// The error of a name of one kind in a place for another.
+pub(crate) fn wrong_kind(name: &RawName, is: Kind, wanted: Wanted) -> NameError {
+    fault_at(
+        FaultKind::WrongKind,
+        name,
+        Some(NameDetail::Kind { is, wanted }),
+    )
+}
+
+/// The error of a named assertion with another number of values than parameters.
+pub(crate) fn wrong_count(name: &RawName, parameters: usize, values: usize) -> NameError {
+    fault_at(
+        FaultKind::WrongCount,
+        name,
+        Some(NameDetail::Count { parameters, values }),
+    )
 }
 
 // Whether a name ends in `_` and one digit or more.
@@ -55,40 +110,42 @@ impl<'a> Scope<'a> {
     }
 
     /// Asks that the name is not in scope.
-    pub(crate) fn absent(&self, name: &RawName) -> Result<(), TemplateError> {
-        if self.names.get(name.name.as_slice()).is_some() {
-            return Err(fault_at(FaultKind::DeclaredTwice, name));
+    pub(crate) fn absent(&self, name: &RawName) -> Result<(), NameError> {
+        match self.names.get(name.name.as_slice()) {
+            Some(entry) => Err(declared_before(name, entry.at)),
+            None => Ok(()),
         }
-        Ok(())
     }
 
     /// Asks that the name may be that of a variable or a family.
-    pub(crate) fn free(&self, name: &RawName) -> Result<(), TemplateError> {
+    pub(crate) fn free(&self, name: &RawName) -> Result<(), NameError> {
         self.absent(name)?;
         if is_reserved(name.name.as_slice()) {
-            return Err(fault_at(FaultKind::ReservedName, name));
+            return Err(fault_at(FaultKind::ReservedName, name, None));
         }
         Ok(())
     }
 
     /// Brings a name into scope.
-    pub(crate) fn enter(&mut self, name: &'a RawName, kind: Kind) -> Result<(), TemplateError> {
-        self.names.insert(name.name.as_slice(), kind)?;
+    pub(crate) fn enter(&mut self, name: &'a RawName, kind: Kind) -> Result<(), NameError> {
+        let at = name.span.start;
+        self.names.insert(name.name.as_slice(), Entry { kind, at })?;
         Ok(())
     }
 
     /// What a name in scope stands for.
-    pub(crate) fn kind(&self, name: &RawName) -> Result<Kind, TemplateError> {
+    pub(crate) fn kind(&self, name: &RawName) -> Result<Kind, NameError> {
         match self.names.get(name.name.as_slice()) {
-            Some(kind) => Ok(*kind),
-            None => Err(fault_at(FaultKind::Undeclared, name)),
+            Some(entry) => Ok(entry.kind),
+            None => Err(fault_at(FaultKind::Undeclared, name, None)),
         }
     }
 
-    /// Asks that the name is in scope and stands for something of this kind.
-    pub(crate) fn expect(&self, name: &RawName, kind: Kind) -> Result<(), TemplateError> {
-        if self.kind(name)? != kind {
-            return Err(fault_at(FaultKind::WrongKind, name));
+    /// Asks that the name is in scope and may stand where this is wanted.
+    pub(crate) fn expect(&self, name: &RawName, wanted: Wanted) -> Result<(), NameError> {
+        let is = self.kind(name)?;
+        if !wanted.takes(is) {
+            return Err(wrong_kind(name, is, wanted));
         }
         Ok(())
     }

@@ -1,27 +1,24 @@
 //! The names of statements.
 
 use crate::assertions::check_assertion;
+use crate::details::Wanted;
 use crate::exprs::{check_expr, check_sum, enter_binder};
-use crate::scope::{Kind, Scope};
+use crate::scope::{NameError, Scope};
 use og_parse::RawName;
-use og_template::{Basic, Element, Expr, Sequence, Statement, Step, TemplateError};
+use og_template::{Basic, Element, Expr, Sequence, Statement, Step};
 
 // Asks the names of the assigned variables.
-fn check_target(
-    scope: &Scope<'_>,
-    name: &RawName,
-    index: &Option<Expr>,
-) -> Result<(), TemplateError> {
+fn check_target(scope: &Scope<'_>, name: &RawName, index: &Option<Expr>) -> Result<(), NameError> {
     match index {
-        None => scope.expect(name, Kind::Variable),
+        None => scope.expect(name, Wanted::Variable),
         Some(index) => {
-            scope.expect(name, Kind::Family)?;
+            scope.expect(name, Wanted::Family)?;
             check_expr(scope, index)
         }
     }
 }
 
-fn check_basic<'a>(scope: &mut Scope<'a>, basic: &'a Basic) -> Result<(), TemplateError> {
+fn check_basic<'a>(scope: &mut Scope<'a>, basic: &'a Basic) -> Result<(), NameError> {
     match basic {
         Basic::Skip => Ok(()),
         Basic::Assign(name, index, sum) => {
@@ -31,7 +28,7 @@ fn check_basic<'a>(scope: &mut Scope<'a>, basic: &'a Basic) -> Result<(), Templa
     }
 }
 
-fn check_element<'a>(scope: &mut Scope<'a>, element: &'a Element) -> Result<(), TemplateError> {
+fn check_element<'a>(scope: &mut Scope<'a>, element: &'a Element) -> Result<(), NameError> {
     let len = scope.len();
     if let Some(binder) = &element.binder {
         enter_binder(scope, binder)?;
@@ -41,7 +38,7 @@ fn check_element<'a>(scope: &mut Scope<'a>, element: &'a Element) -> Result<(), 
     Ok(())
 }
 
-fn check_elements<'a>(scope: &mut Scope<'a>, all: &'a [Element]) -> Result<(), TemplateError> {
+fn check_elements<'a>(scope: &mut Scope<'a>, all: &'a [Element]) -> Result<(), NameError> {
     for element in all {
         check_element(scope, element)?;
     }
@@ -49,10 +46,7 @@ fn check_elements<'a>(scope: &mut Scope<'a>, all: &'a [Element]) -> Result<(), T
 }
 
 #[cycle(statements)]
-fn check_other<'a>(
-    scope: &mut Scope<'a>,
-    other: &'a Option<Sequence>,
-) -> Result<(), TemplateError> {
+fn check_other<'a>(scope: &mut Scope<'a>, other: &'a Option<Sequence>) -> Result<(), NameError> {
     match other {
         Some(sequence) => check_sequence(scope, sequence),
         None => Ok(()),
@@ -60,10 +54,7 @@ fn check_other<'a>(
 }
 
 #[cycle(statements)]
-fn check_statement<'a>(
-    scope: &mut Scope<'a>,
-    statement: &'a Statement,
-) -> Result<(), TemplateError> {
+fn check_statement<'a>(scope: &mut Scope<'a>, statement: &'a Statement) -> Result<(), NameError> {
     match statement {
         Statement::Basic(basic) => check_basic(scope, basic),
         Statement::If(test, branch, other) => {
@@ -83,7 +74,7 @@ fn check_statement<'a>(
 }
 
 #[cycle(statements)]
-fn check_step<'a>(scope: &mut Scope<'a>, step: &'a Step) -> Result<(), TemplateError> {
+fn check_step<'a>(scope: &mut Scope<'a>, step: &'a Step) -> Result<(), NameError> {
     match step {
         Step::Statement(statement, _, after) => {
             check_statement(scope, statement)?;
@@ -100,7 +91,7 @@ fn check_step<'a>(scope: &mut Scope<'a>, step: &'a Step) -> Result<(), TemplateE
 }
 
 #[cycle(statements)]
-fn check_steps<'a>(scope: &mut Scope<'a>, steps: &'a [Step]) -> Result<(), TemplateError> {
+fn check_steps<'a>(scope: &mut Scope<'a>, steps: &'a [Step]) -> Result<(), NameError> {
     for step in steps {
         check_step(scope, step)?;
     }
@@ -112,7 +103,7 @@ fn check_steps<'a>(scope: &mut Scope<'a>, steps: &'a [Step]) -> Result<(), Templ
 pub(crate) fn check_sequence<'a>(
     scope: &mut Scope<'a>,
     sequence: &'a Sequence,
-) -> Result<(), TemplateError> {
+) -> Result<(), NameError> {
     check_assertion(scope, &sequence.before.assertion)?;
     check_steps(scope, &sequence.steps)
 }

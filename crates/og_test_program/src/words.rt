@@ -160,6 +160,11 @@ const JOBS: &[(&str, &str)] = &[
         "expand - --map N=2 K=3",
         "Expand(Expand { template: \"-\", as_map: true, values: [\"N=2\", \"K=3\"] })",
     ),
+    ("fmt a", "Format(Format { source: \"a\", check: false })"),
+    (
+        "fmt --check -",
+        "Format(Format { source: \"-\", check: true })",
+    ),
     ("migrate c", "Migrate(Migrate { certs: \"c\" })"),
 ];
 

@@ -138,6 +138,9 @@ explorer =
 abbrev pub expander : Shape
 expander = command (codes "expand") (template ∷ flag (codes "map") ∷ values ∷ [])
 
+abbrev pub formatter : Shape
+formatter = command (codes "fmt") (source ∷ flag (codes "check") ∷ [])
+
 abbrev pub migrate : Shape
 migrate = command (codes "migrate") (certs ∷ [])
 
@@ -165,5 +168,5 @@ og = record {
   };
   subs =
       prover ∷ infer ∷ check ∷ notes ∷ show ∷ conditions ∷ finder ∷ erase ∷ run ∷ explorer ∷ expander
-      ∷ migrate ∷ [];
+      ∷ formatter ∷ migrate ∷ [];
 }

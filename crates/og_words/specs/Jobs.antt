@@ -11,6 +11,7 @@ use Rattle.og_words.specs.declared.job.Erase.{Erase}
 use Rattle.og_words.specs.declared.job.Expand.{Expand}
 use Rattle.og_words.specs.declared.job.Explore.{Explore}
 use Rattle.og_words.specs.declared.job.Find.{Find}
+use Rattle.og_words.specs.declared.job.Format.{Format}
 use Rattle.og_words.specs.declared.job.Infer.{Infer}
 use Rattle.og_words.specs.declared.job.Migrate.{Migrate}
 use Rattle.og_words.specs.declared.job.Notes.{Notes}
@@ -34,6 +35,7 @@ verb_name verbs.Erase = codes "erase"
 verb_name verbs.Run = codes "run"
 verb_name verbs.Explore = codes "explore"
 verb_name verbs.Expand = codes "expand"
+verb_name verbs.Format = codes "fmt"
 verb_name verbs.Migrate = codes "migrate"
 
 -- how the words behind a source are named, of a command that takes some
@@ -49,6 +51,7 @@ words_form verbs.Erase = None
 words_form verbs.Run = Some (codes "NAME=INT")
 words_form verbs.Explore = Some (codes "NAME=INT|LO..HI")
 words_form verbs.Expand = Some (codes "NAME=INT")
+words_form verbs.Format = None
 words_form verbs.Migrate = None
 
 -- the words for an argument of this name, where there is one
@@ -69,6 +72,7 @@ command_of (jobs.Erase erase) = Some (codes "erase")
 command_of (jobs.Run run) = Some (codes "run")
 command_of (jobs.Explore explore) = Some (codes "explore")
 command_of (jobs.Expand expand) = Some (codes "expand")
+command_of (jobs.Format format) = Some (codes "fmt")
 command_of (jobs.Migrate migrate) = Some (codes "migrate")
 
 -- the bytes of the words
@@ -154,6 +158,10 @@ pub record HoldsExpand (rows : List Row) (expand : Expand) : Type 0 where
   pub as_map : expand.as_map ≡ is_given (codes "map") rows
   pub values : word_bytes expand.values.items ≡ texts_of (codes "NAME=INT") rows
 
+pub record HoldsFormat (rows : List Row) (format : Format) : Type 0 where
+  pub source : text_of (codes "SOURCE") rows ≡ Some format.source.now
+  pub check : format.check ≡ is_given (codes "check") rows
+
 pub record HoldsMigrate (rows : List Row) (migrate : Migrate) : Type 0 where
   pub certs : text_of (codes "CERTS") rows ≡ Some migrate.certs.now
 
@@ -171,6 +179,7 @@ Holds rows (jobs.Erase erase) = HoldsErase rows erase
 Holds rows (jobs.Run run) = HoldsRun rows run
 Holds rows (jobs.Explore explore) = HoldsExplore rows explore
 Holds rows (jobs.Expand expand) = HoldsExpand rows expand
+Holds rows (jobs.Format format) = HoldsFormat rows format
 Holds rows (jobs.Migrate migrate) = HoldsMigrate rows migrate
 
 -- what words ask for

@@ -400,6 +400,15 @@ fn expand_command<'a>(alloc: Global) -> Result<Command<'a>, AllocError>
     with_arg(expand, Ok(values))
 }
 
+fn format_command<'a>(alloc: Global) -> Result<Command<'a>, AllocError>
+    ensures { IfOk result (IsCommand line.formatter) }
+{
+    let about = "Lay out an outline or a template";
+    let help = "Print nothing, and tell by the status whether it is laid out";
+    let format = with_arg(Ok(command(alloc, "fmt", about)), Ok(source_arg(alloc)));
+    with_arg(format, Ok(flag_arg(alloc, "check", help)))
+}
+
 fn migrate_command<'a>(alloc: Global) -> Result<Command<'a>, AllocError>
     ensures { IfOk result (IsCommand line.migrate) }
 {
@@ -446,5 +455,6 @@ pub(crate) fn program<'a>(alloc: Global) -> Result<Command<'a>, AllocError>
     let program = with_word(program, run_command(alloc));
     let program = with_word(program, explore_command(alloc));
     let program = with_word(program, expand_command(alloc));
+    let program = with_word(program, format_command(alloc));
     with_word(program, migrate_command(alloc))
 }

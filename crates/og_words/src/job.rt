@@ -21,6 +21,7 @@ pub(crate) enum Verb {
     Run,
     Explore,
     Expand,
+    Format,
     Migrate,
 }
 
@@ -51,6 +52,8 @@ pub enum Job<'a> {
     Explore(Explore<'a>),
     /// Print the outline that a template means.
     Expand(Expand<'a>),
+    /// Print an outline or a template laid out, or say whether it is.
+    Format(Format<'a>),
     /// Print certificates in version 2 of their format.
     Migrate(Migrate<'a>),
 }
@@ -212,6 +215,15 @@ pub struct Expand<'a> {
     pub as_map: bool,
     /// Words that give constants their values.
     pub values: Vec<&'a str>,
+}
+
+/// The arguments of `fmt`.
+#[derive(Debug, Drop)]
+pub struct Format<'a> {
+    /// The file of the outline or the template; `-` is standard input.
+    pub source: &'a str,
+    /// Whether only to say if it is laid out already.
+    pub check: bool,
 }
 
 /// The arguments of `migrate`.

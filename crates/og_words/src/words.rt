@@ -8,8 +8,8 @@ ghost use Rattle.og_words.specs.Jobs.{verb_name, words_form, command_of, word_by
 
 use crate::commands::program;
 use crate::job::{
-    Check, Conditions, Erase, Expand, Explore, Find, Infer, Job, Migrate, Notes, Prove, Run, Show,
-    Usage, Verb,
+    Check, Conditions, Erase, Expand, Explore, Find, Format, Infer, Job, Migrate, Notes, Prove,
+    Run, Show, Usage, Verb,
 };
 use clap::ArgMatches;
 use clap::error::{Error, ErrorKind};
@@ -31,6 +31,7 @@ fn verb_of(word: &str) -> Option<Verb>
         "run" => Some(Verb::Run),
         "explore" => Some(Verb::Explore),
         "expand" => Some(Verb::Expand),
+        "fmt" => Some(Verb::Format),
         "migrate" => Some(Verb::Migrate),
         _ => None,
     }
@@ -182,6 +183,15 @@ fn erase_job<'a>(m: &ArgMatches<'a>) -> Option<Job<'a>>
     Some(Job::Erase(Erase { source, readable }))
 }
 
+fn format_job<'a>(m: &ArgMatches<'a>) -> Option<Job<'a>>
+    ensures command { IfSome result (λ job. command_of job ≡ Some (verb_name Verb.Format)) }
+    ensures holds { IfSome result (Holds (rows_of (found_of m.now))) }
+{
+    let source = text_of(m, "SOURCE")?;
+    let check = has_flag(m, "check");
+    Some(Job::Format(Format { source, check }))
+}
+
 fn migrate_job<'a>(m: &ArgMatches<'a>) -> Option<Job<'a>>
     ensures command { IfSome result (λ job. command_of job ≡ Some (verb_name Verb.Migrate)) }
     ensures holds { IfSome result (Holds (rows_of (found_of m.now))) }
@@ -288,7 +298,8 @@ fn words_form(verb: Verb) -> Option<&'static str>
     match verb {
         Verb::Notes | Verb::Run | Verb::Expand => Some("NAME=INT"),
         Verb::Prove | Verb::Infer | Verb::Show | Verb::Explore => Some("NAME=INT|LO..HI"),
-        Verb::Check | Verb::Conditions | Verb::Find | Verb::Erase | Verb::Migrate => None,
+        Verb::Check | Verb::Conditions | Verb::Find | Verb::Erase | Verb::Format | Verb::Migrate =>
+            None,
     }
 }
 
@@ -321,6 +332,7 @@ fn job_with<'a>(verb: Verb, m: &ArgMatches<'a>, words: Vec<&'a str>) -> Option<J
         Verb::Run => run_job(m, words),
         Verb::Explore => explore_job(m, words),
         Verb::Expand => expand_job(m, words),
+        Verb::Format => format_job(m),
         Verb::Migrate => migrate_job(m),
     }
 }

@@ -6,5 +6,5 @@ use Rattle.og_command_notes.proofs.lines.put_steps.Given as goal
 
 abbrev pub invariant-loop-step : goal.invariant-loop-step
 invariant-loop-step l =
-    l.text.items ++ flat_map (step_line l.origins.source.now l.origins.rows l.names (steps_of l.steps) l.vars) (steps_of (drop l.step-index l.steps))
-    ≡ l.initial.text.items ++ step_lines l.origins.source.now l.origins.rows l.names (steps_of l.steps) l.vars
+    l.text.items ++ flat_map (step_line l.origins.source.now l.origins.rows l.outline.names l.outline.vars (steps_of l.steps)) (steps_of (drop l.step-index l.steps))
+    ≡ l.initial.text.items ++ step_lines l.origins.source.now l.origins.rows l.outline.names l.outline.vars (steps_of l.steps)

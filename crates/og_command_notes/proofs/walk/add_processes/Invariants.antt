@@ -2,14 +2,14 @@ use Rattle.std.proofs.Common.{◌≡◌, ◌++◌, map}
 use Rattle.og_typed.specs.Plain.{sequence}
 use Rattle.og_typed.specs.Sites.{of_processes}
 use Rattle.og_typed.proofs.SiteItems.{processes_from}
-use Rattle.og_command_notes.specs.Claims.{sequence_notes}
-use Rattle.og_command_notes.specs.Seen.{notes_of, steps_of}
+use Rattle.og_command_notes.specs.Points.{sequence_points}
+use Rattle.og_command_notes.specs.Seen.{points_of, steps_of}
 use Rattle.og_command_notes.specs.Steps.{sequence_steps}
 use Rattle.og_command_notes.proofs.walk.add_processes.Given as goal
 
 abbrev pub invariant-loop-index : goal.invariant-loop-index
 invariant-loop-index l =
-    (notes_of l.walk.notes.items ++ processes_from (λ p. sequence_notes) l.index l.processes
-    ≡ notes_of l.fn.walk.notes.items ++ of_processes (λ p. sequence_notes) 0 (map sequence l.processes))
+    (points_of l.walk.points.items ++ processes_from sequence_points l.index l.processes
+    ≡ points_of l.fn.walk.points.items ++ of_processes sequence_points 0 (map sequence l.processes))
     × (steps_of l.walk.steps.items ++ processes_from sequence_steps l.index l.processes
     ≡ steps_of l.fn.walk.steps.items ++ of_processes sequence_steps 0 (map sequence l.processes))

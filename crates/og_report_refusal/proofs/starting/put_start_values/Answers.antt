@@ -1,4 +1,4 @@
-use Rattle.std.proofs.Common.{◌≡◌, ◌++◌, ◌+◌, ℕ, suc, sym, subst, arith}
+use Rattle.std.proofs.Common.{◌≡◌, ◌++◌, ◌+◌, ℕ, suc, subst, arith}
 use Rattle.og_report_refusal.specs.Starting.{start_value, start_values}
 use Rattle.og_report_refusal.proofs.Joins.{then}
 use Rattle.og_report_refusal.proofs.starting.put_start_values.Goals as goal

@@ -1,4 +1,4 @@
-use Rattle.std.proofs.Common.{rules, subst}
+use Rattle.std.proofs.Common.{rules}
 use Rattle.og_report_refusal.proofs.starting.start_text_of.Goals as goal
 
 pub returns-in-Ok : goal.returns-in-Ok

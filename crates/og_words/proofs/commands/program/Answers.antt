@@ -14,4 +14,5 @@ returns c =
     let nine = c.with_word-program-9.ensures _ line.run eight c.run_command.ensures in
     let ten = c.with_word-program-10.ensures _ line.explorer nine c.explore_command.ensures in
     let eleven = c.with_word-program-11.ensures _ line.expander ten c.expand_command.ensures in
-    c.with_word.ensures _ line.migrate eleven c.migrate_command.ensures
+    let twelve = c.with_word-program-12.ensures _ line.formatter eleven c.format_command.ensures in
+    c.with_word.ensures _ line.migrate twelve c.migrate_command.ensures
