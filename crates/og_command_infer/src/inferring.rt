@@ -40,7 +40,7 @@ pub(crate) const TIERS: u8 = 3;
 // A law: what a report warrants of an outline, it warrants of each one that this completes.
 fn warranted(new: &Outline, old: &Outline)
     ensures { Completes new.now old.now → (form : ReportForm) (report : Answer)
-        → WarrantsAnswer form false new.now report → WarrantsAnswer form false old.now report }
+        → WarrantsAnswer form new.now report → WarrantsAnswer form old.now report }
 {
     new.follows_rule();
     old.follows_rule();

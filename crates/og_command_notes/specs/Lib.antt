@@ -1,10 +1,5 @@
-pub mod Points
-pub mod Steps
 pub mod Claims
 pub mod Together
-pub mod Idioms
-pub mod Unused
-pub mod Hidden
 pub mod Seen
 pub mod Notes
 pub mod Noted

@@ -1,3 +1,4 @@
+pub mod Concluded
 pub mod Lists
 pub mod Refusals
 pub mod Rows

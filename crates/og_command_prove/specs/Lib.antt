@@ -1,4 +1,5 @@
 pub mod Answer
+pub mod Concluded
 pub mod Found
 pub mod Moments
 pub mod Printed

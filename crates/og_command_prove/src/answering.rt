@@ -1,6 +1,6 @@
 //! The answer for an outline: its findings in a form, and the status.
 
-ghost use Rattle.std.specs.Prelude.{◌≡◌, ◌<◌, ◌≤◌, true, is_some, length, map, IfOk, IfErr};
+ghost use Rattle.std.specs.Prelude.{◌≡◌, ◌<◌, ◌≤◌, Bool, true, is_some, length, map, IfOk, IfErr};
 ghost use Rattle.og_typed.specs.Erase.{erased};
 ghost use Rattle.og_cond.specs.Conditions.{conditions as conditions_of};
 ghost use Rattle.og_cond.specs.Limits.{condition_limit};
@@ -14,7 +14,7 @@ ghost use Rattle.og_judge.specs.NotJudged.{OnInput};
 ghost use Rattle.og_judge.specs.declared.refusal.Refusal.TheVariants as refusals;
 ghost use Rattle.og_report_text.specs.InputErrors.{IsFaultOfCount};
 ghost use Rattle.og_command_prove.specs.Answer.{status_of, IsReported};
-ghost use Rattle.og_command_prove.specs.Found.{AreFound};
+ghost use Rattle.og_command_prove.specs.Found.{IsAsked, AreFound};
 ghost use Rattle.og_report_text.specs.Subject.{subject_of, IsShort};
 
 use crate::finding::Findings;
@@ -62,7 +62,9 @@ fn answer_of(
     requires few { length (conditions_of subject.now.outline.now) ≤ condition_limit }
     requires found { AreFound subject.now.outline.now (conditions_of subject.now.outline.now)
         findings.rows.items findings.explored }
-    ensures { IfOk result (IsReported form (is_some findings.entry.explored) (subject_of subject.now)) }
+    ensures { IfOk result (λ a. (runs : Bool)
+        → IsAsked runs (map (λ r. r.diagnosis) findings.entry.rows.items) findings.entry.explored
+        → IsReported form runs (subject_of subject.now) a) }
 {
     let table = findings.into_table(alloc)?;
     let text = printed(alloc, subject, &table, form)?;
@@ -92,8 +94,8 @@ impl<'r, G: Gate, H: Threads + Wait + Sync> Prover<'r, G, H> {
 
     /// What is found of the conditions of an outline, in a form, and the status: 0 where every
     /// condition but the last is proved, and 1 where one is not. Status 0 says that every run of
-    /// the outline is as promised, with its auxiliaries and without them; and a text that says then
-    /// that it is unblocked, that none gets stuck. The texts have at most 1,048,576 bytes.
+    /// the outline is as promised, with its auxiliaries and without them; and a text with the verdict
+    /// that none gets stuck, that none does. The texts have at most 1,048,576 bytes.
     ///
     /// # Errors
     ///

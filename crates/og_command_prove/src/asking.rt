@@ -1,6 +1,6 @@
 //! From an outline and words to a reply.
 
-ghost use Rattle.std.specs.Prelude.{◌≡◌, ◌<◌, is_some, map, true, false, IfOk, IfErr};
+ghost use Rattle.std.specs.Prelude.{◌≡◌, ◌<◌, is_some, map, true, IfOk, IfErr};
 ghost use Rattle.og_judge.specs.NotJudged.{OnInput};
 ghost use Rattle.og_judge.specs.declared.refusal.Refusal.TheVariants as refusals;
 ghost use Rattle.og_report_text.specs.InputErrors.{IsFaultOfCount};
@@ -51,8 +51,9 @@ impl<'r, G: Gate, H: Threads + Wait + Sync> Prover<'r, G, H> {
     /// values of the names bound round them alone are reported together; JSON has places of the
     /// outline's own text, and a page shows that. The texts have at most 1,048,576 bytes.
     ///
-    /// Where runs are asked for, it is also found of each false condition whether a run gets to a
-    /// state in which it is false. The words in `starts` say where the runs start, each NAME=INT or
+    /// Where runs are asked for and a condition is false, it is also found of each false one whether
+    /// a run gets to a state in which it is false, and whether something is wrong in the runs. The
+    /// words in `starts` say where the runs start, each NAME=INT or
     /// NAME=LO..HI, as in an exploration. Without them the starts are one that a search finds for
     /// the precondition, and for each false condition two more, up to 64. What is known of the runs
     /// to conditions that are reported together is the first one's. Where no runs are asked for,
@@ -60,8 +61,8 @@ impl<'r, G: Gate, H: Threads + Wait + Sync> Prover<'r, G, H> {
     ///
     /// The status is 0 where every condition but the last is proved, and 1 where one is not. Status
     /// 0 says that every run of the outline is as promised, with its auxiliaries and without them;
-    /// and where no runs are asked for, a text or JSON that says then that it is unblocked, that
-    /// none gets stuck. The answer is the same for every number of workers.
+    /// and a text or JSON with the verdict that none gets stuck, that none does. The answer is the
+    /// same for every number of workers.
     ///
     /// `BadValue` holds the first word that gives no variable a range.
     ///
@@ -78,8 +79,7 @@ impl<'r, G: Gate, H: Threads + Wait + Sync> Prover<'r, G, H> {
         requires { IsShort (subject_of subject.now) }
         ensures reply { IfOk result (IsReply form (is_some self.now.search.runs)
             (subject_of subject.now) (map (λ w. w.now) starts.now)) }
-        ensures warrants { IfOk result
-            (Warrants form (is_some self.now.search.runs) subject.now.outline.now) }
+        ensures warrants { IfOk result (Warrants form subject.now.outline.now) }
         ensures refused { IfErr result (OnInput (IsFaultOfCount subject.now.outline.now)) }
         ensures spawn { IfErr result (λ e. e ≡ refusals.Spawn → 1 < self.now.search.workers) }
     {

@@ -14,7 +14,7 @@ pub struct Finding<'a> {
     pub condition: Condition<'a>,
     /// Whether it is proved, false in a state, or neither.
     pub diagnosis: Diagnosis<'a>,
-    /// What is known of the runs to a state in which it is false; nothing where none is asked for.
+    /// What is known of the runs to a state in which it is false; nothing where none was followed.
     pub run: Run,
 }
 
@@ -23,7 +23,7 @@ pub struct Finding<'a> {
 pub(crate) struct Findings<'a> {
     /// A row for each condition, in their order.
     pub(crate) rows: Vec<Finding<'a>>,
-    /// How far runs were followed, where some were asked for.
+    /// How far runs were followed, where some were.
     pub(crate) explored: Option<Explored>,
 }
 

@@ -68,9 +68,9 @@ use Rattle.og_words.specs.declared.job.Show.{Show}
 use Rattle.og_words.specs.declared.job.Job.{Job}
 use Rattle.og_words.specs.declared.job.Job.TheVariants as jobs
 use Rattle.og_program.specs.World.{World, Text, named, OfSource, OfCerts, OfBoth}
-use Rattle.og_program.specs.Given.{HasNoMeaning, OfMeaning}
+use Rattle.og_program.specs.Given.{HasNoMeaning, OfMeaning, OfMeaningAsJson}
 use Rattle.og_program.specs.Layout.{IsFormatted}
-use Rattle.og_program.specs.Beside.{IsNote, Noted, OnReport, OnCertificates, OnBadValue, Answers, Refuses}
+use Rattle.og_program.specs.Beside.{IsNote, Noted, OnReport, OnCertificates, OnBadValue, Answers, Refuses, RefusesAsJson}
 use Rattle.og_program.specs.declared.outcome.Outcome.{Outcome}
 use Rattle.og_program.specs.declared.outcome.Outcome.TheVariants as outcomes
 use Rattle.og_program.specs.declared.outcome.Report.{Report}
@@ -168,14 +168,28 @@ FollowsReply o (replies.BadValue word) = OnBadValue (IsValueRemark gives.Ranges 
 abbrev pub ProvesOutline : ReportForm → Bool → Text → Subject → List (List ℕ) → Outcome → Type 0
 ProvesOutline form runs text s starts outcome =
     ((reply : Reply) × proving.IsReply form runs s starts reply
-    × proving.Warrants form runs s.outline reply × FollowsReply s.outline reply outcome)
+    × proving.Warrants form s.outline reply × FollowsReply s.outline reply outcome)
     ⊎ Refuses (IsFaultOfCount s.outline) text [] outcome
 
-abbrev pub Proves : World → Prove → Outcome → Type 0
-Proves world prove outcome =
+-- the same as JSON, refusals too
+abbrev pub ProvesOutlineAsJson : Bool → Text → Subject → List (List ℕ) → Outcome → Type 0
+ProvesOutlineAsJson runs text s starts outcome =
+    ((reply : Reply) × proving.IsReply reports.Json runs s starts reply
+    × proving.Warrants reports.Json s.outline reply × FollowsReply s.outline reply outcome)
+    ⊎ RefusesAsJson (IsFaultOfCount s.outline) text outcome
+
+abbrev pub ProvesBy : Bool → World → Prove → Outcome → Type 0
+ProvesBy true world prove outcome =
+    let runs = is_some prove.runs in
+    OfMeaningAsJson (takes_for runs) world prove.source.now (word_bytes prove.words.items)
+    (ProvesOutlineAsJson runs) outcome
+ProvesBy false world prove outcome =
     let runs = is_some prove.runs in
     OfMeaning (takes_for runs) world prove.source.now (word_bytes prove.words.items)
-    (ProvesOutline (report_form prove.json) runs) outcome
+    (ProvesOutline reports.Text runs) outcome
+
+abbrev pub Proves : World → Prove → Outcome → Type 0
+Proves world prove outcome = ProvesBy prove.json world prove outcome
 
 -- the same as a page
 abbrev pub Shows : World → Show → Outcome → Type 0

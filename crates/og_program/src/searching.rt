@@ -13,7 +13,7 @@ ghost use Rattle.og_words.specs.Jobs.{word_bytes};
 ghost use Rattle.og_program.specs.World.{named, world_of};
 ghost use Rattle.og_program.specs.Opened.{One, LeavesInput, lacks};
 ghost use Rattle.og_program.specs.Failing.{IsFault, IsUnread, IsWant};
-ghost use Rattle.og_program.specs.Commands.{report_form, takes_for, Finds, InfersOutline, Infers, ProvesOutline, Proves, Shows};
+ghost use Rattle.og_program.specs.Commands.{report_form, takes_for, Finds, InfersOutline, Infers, ProvesOutline, ProvesOutlineAsJson, ProvesBy, Proves, Shows};
 
 use crate::beside::{beside_found, beside_inferred, beside_reply};
 use crate::fault::Fault;
@@ -21,14 +21,14 @@ use crate::files::Files;
 use crate::given::Given;
 use crate::outcome::Outcome;
 use crate::program::Program;
-use crate::refusing::refuse_source;
+use crate::refusing::{refuse_as_json, refuse_meaning_as_json, refuse_source};
 use og_command_check::{CERTS_LIMIT, FindReply, Wanted, found};
 use og_command_infer::{Effort, Inferrer};
 use og_command_prove::{Prover, ReportForm, Search};
 use og_io::{Budget, MomentLimit};
 use og_judge::Refusal;
 use og_pool::Gate;
-use og_template_outline::Takes;
+use og_template_outline::{Takes, read_text};
 use og_typed::Source;
 use og_words::{Find, Infer, Prove, Show};
 use std::io::Read;
@@ -120,6 +120,54 @@ impl<'r, F: Files, G: Gate, H: Threads + Wait + Sync> Program<'r, F, G, H> {
         }
     }
 
+    // The same as JSON, refusals too.
+    fn proved_as_json<'a>(
+        &self,
+        name: &str,
+        given: &Given<'a>,
+        search: Search,
+    ) -> Result<Outcome<'a>, Fault<'a>>
+        requires meaning { IsMeaning given.now.text.items given.now.reading.meaning }
+        ensures outcome { IfOk result (λ outcome. (s : Subject) × Means given.now.text.items s
+            × ProvesOutlineAsJson (is_some search.runs) (named name.now given.now.text.items) s
+            (word_bytes given.now.reading.starts.items) outcome) }
+        ensures want { IfErr result (IsWant (1 < search.workers)) }
+    {
+        let subject = given.subject();
+        match self
+            .prover(search)
+            .prove(&subject, &given.reading.starts, ReportForm::Json)
+        {
+            Ok(reply) => Ok(beside_reply(self.alloc, subject.outline, reply)),
+            Err(refusal) => refuse_as_json(self.alloc, name, &given.text, refusal),
+        }
+    }
+
+    // What searches find of the conditions of a source or of a template, as JSON, refusals too.
+    fn prove_as_json<'a, I: Read>(
+        &self,
+        prove: &Prove<'a>,
+        search: Search,
+        input: &mut I,
+    ) -> Result<Outcome<'a>, Fault<'a>>
+        requires { search.runs ≡ prove.now.runs }
+        ensures outcome { IfOk result (ProvesBy true
+            (world_of F.contents F.is_missing I.remaining self.now input.old) prove.now) }
+        ensures fault { IfErr result (IsFault (One prove.now.source.now) (1 < search.workers)) }
+        ensures missing { lacks (F.is_missing self.now.files.now) (One prove.now.source.now) ≡ true
+            → IsUnread result }
+        ensures kept { LeavesInput (One prove.now.source.now)
+            → I.remaining input.new ≡ I.remaining input.old }
+    {
+        let text = self.source_bytes(prove.source, input)?;
+        match read_text(self.alloc, &text, &prove.words, takes(prove.runs)) {
+            Ok(reading) => self.proved_as_json(prove.source, &Given { text, reading }, search),
+            Err(error) => {
+                refuse_meaning_as_json(self.alloc, prove.source, &text, &prove.words, error)
+            }
+        }
+    }
+
     /// What searches find of the conditions of a source, or of a template under the values that the
     /// words give, and of runs where they are to be looked for.
     pub(crate) fn prove<'a, I: Read>(
@@ -140,8 +188,11 @@ impl<'r, F: Files, G: Gate, H: Threads + Wait + Sync> Program<'r, F, G, H> {
             workers: prove.workers,
             runs: prove.runs,
         };
+        if prove.json {
+            return self.prove_as_json(prove, search, input);
+        }
         match self.given(prove.source, &prove.words, takes(prove.runs), input)? {
-            Ok(given) => self.proved(prove.source, &given, search, report_form(prove.json)),
+            Ok(given) => self.proved(prove.source, &given, search, ReportForm::Text),
             Err(outcome) => Ok(outcome),
         }
     }

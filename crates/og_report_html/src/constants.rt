@@ -30,11 +30,13 @@ pre{margin:0}
 .totals .yes{color:var(--good)}
 .totals .no{color:var(--bad)}
 .key{list-style:none;padding:0;font-size:.875rem}
+.key{margin-top:1rem}
 .key li{margin:.25rem 0}
 main{display:grid;gap:2rem;margin-top:1.5rem}
 section{min-width:0}
-.source{overflow-x:auto;padding:.75rem 1rem .75rem 0;background:var(--soft);border:1px solid var(--rule);border-radius:.375rem;tab-size:4}
-.n{display:inline-block;width:5ch;margin-right:3ch;text-align:right;color:var(--faint);user-select:none}
+.source{white-space:pre-wrap;overflow-wrap:anywhere;padding:.75rem 1rem .75rem 0;background:var(--soft);border:1px solid var(--rule);border-radius:.375rem;tab-size:4}
+.source code{display:block;padding-left:8ch}
+.n{display:inline-block;width:5ch;margin:0 3ch 0 -8ch;text-align:right;color:var(--faint);user-select:none}
 .n:target{background:var(--link);color:var(--page)}
 i{color:var(--faint);font-style:normal}
 .ok,.false,.open{border-radius:.2rem;text-decoration:none}
@@ -62,9 +64,8 @@ article{margin:0 0 1rem;padding:.75rem 1rem;border:1px solid var(--rule);border-
 article.open{border-left:.375rem dashed var(--maybe)}
 article:target{background:var(--soft);box-shadow:0 0 0 3px var(--link)}
 article pre{white-space:pre-wrap;overflow-wrap:anywhere}
-#blocks h2:last-child::after{content:': nothing. Every condition is proved.';font-weight:400}
-@media(min-width:75rem){main{grid-template-columns:3fr 2fr}.source{max-height:92vh;overflow:auto}#source{position:sticky;top:1rem;align-self:start}}
-@media print{body{padding:0;max-width:none}.source{white-space:pre-wrap;overflow-wrap:anywhere}article{break-inside:avoid}a.false,a.open{border:1px solid}}
+@media(min-width:75rem){main{grid-template-columns:3fr 2fr}.source{max-height:max(50vh,calc(100vh - 13rem));overflow:auto}#source{position:sticky;top:1rem;align-self:start}}
+@media print{body{padding:0;max-width:none}article{break-inside:avoid}a.false,a.open{border:1px solid}}
 </style>
 </head>
 <body>
@@ -80,6 +81,10 @@ pub(crate) const BEFORE_SOURCE: &[u8] = b"</ul>
 <main>
 <section id=source>
 <h2>Source</h2>
+<pre class=source tabindex=0><code>";
+
+/// Behind the source.
+pub(crate) const AFTER_SOURCE: &[u8] = b"</code></pre>
 <ul class=key>
 <li><span class=ok><b>&#10003;</b>{assertion}</span> every condition that leads to it is proved
 <li><span class=false><b>&#10007;</b>{assertion}</span> false in the state of the block to which it links
@@ -87,10 +92,6 @@ pub(crate) const BEFORE_SOURCE: &[u8] = b"</ul>
 <li><span class=wrong>statement</span> a value may be too large, or an assertion of another process may become false; at <code>cobegin</code>: all may wait
 <li><span class=maybe>statement</span> a condition that speaks of it is open
 </ul>
-<pre class=source tabindex=0><code>";
-
-/// Behind the source.
-pub(crate) const AFTER_SOURCE: &[u8] = b"</code></pre>
 </section>
 <section id=blocks>
 ";
@@ -105,6 +106,11 @@ pub(crate) const BEFORE_TABLE: &[u8] = b"<h2>Interference</h2>
 /// Behind them.
 pub(crate) const AFTER_TABLE: &[u8] = b"</table>
 </div>
+";
+
+/// In place of blocks, where there are none.
+pub(crate) const ALL_PROVED: &[u8] = b"<h2>Every condition is proved</h2>
+<p><code>og notes</code> prints what the outline claims, and what it does not.</p>
 ";
 
 /// Before the blocks.

@@ -8,10 +8,10 @@ ghost use Rattle.og_report_html.specs.Source.{source_text};
 ghost use Rattle.og_report_html.specs.Page.{blocks_text, page_text};
 
 use crate::articles::{Frame, put_articles};
-use crate::constants::{AFTER_SOURCE, BEFORE_BLOCKS, BEFORE_SOURCE, END, START};
+use crate::constants::{AFTER_SOURCE, BEFORE_SOURCE, END, START};
 use crate::escapes::is_utf8;
 use crate::marks::marks_of;
-use crate::numbers::put_numbers;
+use crate::numbers::{put_heading, put_numbers};
 use crate::source::put_source;
 use crate::table::put_table;
 use crate::target::Target;
@@ -136,7 +136,7 @@ pub fn page(
     put_marked(&mut text, source, listing)?;
     text.extend_from_slice(AFTER_SOURCE)?;
     put_table(&mut text, outline.processes().len(), diagnoses, targets)?;
-    text.extend_from_slice(BEFORE_BLOCKS)?;
+    put_heading(&mut text, diagnoses)?;
     put_blocks(&mut text, outline, source, additions, listing)?;
     text.extend_from_slice(END)?;
     Ok(text)

@@ -25,7 +25,7 @@ mod template_reasons;
 mod values;
 mod words;
 
-pub use advice::{Names, advise};
+pub use advice::{Advice, Names, advise, why};
 pub use expansion::Refused;
 pub use missing::{long_line, missing_line};
 pub use names::{put_command, put_name};

@@ -9,30 +9,34 @@ const JOBS: &[(&str, &str)] = &[
     ("", "Joined"),
     (
         "prove a",
-        "Prove(Prove { source: \"a\", budget: Budget { facts: 100000 }, workers: Workers { count: 1 }, json: false, words: [], runs: None })",
+        "Prove(Prove { source: \"a\", budget: Budget { facts: 100000 }, workers: Workers { count: 1 }, json: false, words: [], runs: Some(MomentLimit { moments: 100000 }) })",
     ),
     (
         "prove - --budget 1 --workers 64 --json",
-        "Prove(Prove { source: \"-\", budget: Budget { facts: 1 }, workers: Workers { count: 64 }, json: true, words: [], runs: None })",
+        "Prove(Prove { source: \"-\", budget: Budget { facts: 1 }, workers: Workers { count: 64 }, json: true, words: [], runs: Some(MomentLimit { moments: 100000 }) })",
     ),
     (
         "prove --json --workers 2 --budget 1000000000 a",
-        "Prove(Prove { source: \"a\", budget: Budget { facts: 1000000000 }, workers: Workers { count: 2 }, json: true, words: [], runs: None })",
+        "Prove(Prove { source: \"a\", budget: Budget { facts: 1000000000 }, workers: Workers { count: 2 }, json: true, words: [], runs: Some(MomentLimit { moments: 100000 }) })",
     ),
     (
         "prove a b",
-        "Prove(Prove { source: \"a\", budget: Budget { facts: 100000 }, workers: Workers { count: 1 }, json: false, words: [\"b\"], runs: None })",
+        "Prove(Prove { source: \"a\", budget: Budget { facts: 100000 }, workers: Workers { count: 1 }, json: false, words: [\"b\"], runs: Some(MomentLimit { moments: 100000 }) })",
     ),
     (
         "prove a N=3 M=-2 --budget 7",
-        "Prove(Prove { source: \"a\", budget: Budget { facts: 7 }, workers: Workers { count: 1 }, json: false, words: [\"N=3\", \"M=-2\"], runs: None })",
+        "Prove(Prove { source: \"a\", budget: Budget { facts: 7 }, workers: Workers { count: 1 }, json: false, words: [\"N=3\", \"M=-2\"], runs: Some(MomentLimit { moments: 100000 }) })",
     ),
     (
         "prove a --runs",
         "Prove(Prove { source: \"a\", budget: Budget { facts: 100000 }, workers: Workers { count: 1 }, json: false, words: [], runs: Some(MomentLimit { moments: 100000 }) })",
     ),
     (
-        "prove a x=1 --runs --limit 5 --json y=2..3 --workers 2",
+        "prove a N=3 --no-runs",
+        "Prove(Prove { source: \"a\", budget: Budget { facts: 100000 }, workers: Workers { count: 1 }, json: false, words: [\"N=3\"], runs: None })",
+    ),
+    (
+        "prove a x=1 --limit 5 --json y=2..3 --workers 2",
         "Prove(Prove { source: \"a\", budget: Budget { facts: 100000 }, workers: Workers { count: 2 }, json: true, words: [\"x=1\", \"y=2..3\"], runs: Some(MomentLimit { moments: 5 }) })",
     ),
     (

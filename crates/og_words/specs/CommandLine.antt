@@ -40,6 +40,10 @@ certs_option = record (option (codes "certs")) { is_free = false }
 abbrev pub schedule_option : Rule
 schedule_option = record (option (codes "schedule")) { is_free = false }
 
+-- `--no-runs`, which goes with neither `--runs` nor `--limit`
+abbrev pub no_runs_flag : Rule
+no_runs_flag = record (flag (codes "no-runs")) { is_free = false }
+
 -- words of this form, as many as there are
 abbrev pub words : Text → Rule
 words form = record (new_rule form) {
@@ -96,7 +100,7 @@ command name rules = record (new_shape name) { rules = rules }
 abbrev pub prover : Shape
 prover =
     command (codes "prove") (source ∷ budget ∷ workers ∷ flag (codes "json") ∷ flag (codes "runs")
-    ∷ run_moments ∷ ranges ∷ [])
+    ∷ no_runs_flag ∷ moments ∷ ranges ∷ [])
 
 abbrev pub infer : Shape
 infer =

@@ -85,6 +85,12 @@ HoldsRuns rows None = is_given (codes "runs") rows ≡ false
 HoldsRuns rows (Some limit) =
     (is_given (codes "runs") rows ≡ true) × (number_of (codes "limit") rows ≡ Some limit)
 
+-- runs are looked for unless the flag says that none are, and then through as many moments
+abbrev pub HoldsUsualRuns : List Row → Option ℕ → Type 0
+HoldsUsualRuns rows None = is_given (codes "no-runs") rows ≡ true
+HoldsUsualRuns rows (Some limit) =
+    (is_given (codes "no-runs") rows ≡ false) × (number_of (codes "limit") rows ≡ Some limit)
+
 -- ---- the arguments of each command are those that are given
 
 pub record HoldsProve (rows : List Row) (prove : Prove) : Type 0 where
@@ -93,7 +99,7 @@ pub record HoldsProve (rows : List Row) (prove : Prove) : Type 0 where
   pub workers : number_of (codes "workers") rows ≡ Some prove.workers
   pub json : prove.json ≡ is_given (codes "json") rows
   pub words : word_bytes prove.words.items ≡ texts_of (codes "NAME=INT|LO..HI") rows
-  pub runs : HoldsRuns rows prove.runs
+  pub runs : HoldsUsualRuns rows prove.runs
 
 pub record HoldsInfer (rows : List Row) (infer : Infer) : Type 0 where
   pub source : text_of (codes "SOURCE") rows ≡ Some infer.source.now

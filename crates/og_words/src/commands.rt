@@ -9,6 +9,10 @@ use clap::builder::ValueParser;
 use clap::{Arg, ArgAction, Command};
 use std::alloc::{AllocError, Global};
 
+// How help calls the words behind an outline or a template whose runs are looked for.
+const START_WORDS: &str =
+    "A constant's value, where SOURCE is a template; or a variable's value at the start, or its values";
+
 // A command without arguments.
 fn command<'a>(alloc: Global, name: &'a str, about: &'a str) -> Command<'a>
     ensures { IsCommand (line.command name.entry.now []) result }
@@ -160,6 +164,14 @@ fn json_arg<'a>(alloc: Global) -> Arg<'a>
     flag_arg(alloc, "json", "Print the report as JSON")
 }
 
+// `--runs` where runs are looked for without it too.
+fn usual_runs_arg<'a>(alloc: Global) -> Arg<'a>
+    ensures { IsArg (line.flag (codes "runs")) result }
+{
+    let help = "Look for runs to the states in which conditions are false, as without it";
+    flag_arg(alloc, "runs", help)
+}
+
 fn runs_arg<'a>(alloc: Global) -> Arg<'a>
     ensures { IsArg (line.flag (codes "runs")) result }
 {
@@ -168,6 +180,14 @@ fn runs_arg<'a>(alloc: Global) -> Arg<'a>
         "runs",
         "Look for runs to the states in which conditions are false",
     )
+}
+
+// `--no-runs`.
+fn no_runs_arg<'a>(alloc: Global) -> Result<Arg<'a>, AllocError>
+    ensures { IfOk result (IsArg line.no_runs_flag) }
+{
+    let no_runs = flag_arg(alloc, "no-runs", "Look for no runs");
+    without(without(no_runs, "runs")?, "limit")
 }
 
 fn run_moments_arg<'a>(alloc: Global) -> Result<Arg<'a>, AllocError>
@@ -199,13 +219,15 @@ fn prove_command<'a>(alloc: Global) -> Result<Command<'a>, AllocError>
 {
     let about = "Prove an outline, or say what is wrong with it";
     let workers = workers_arg(alloc, "How many threads work, 1 to 64");
+    let help = "How many moments may be looked at for runs, 1 to 1000000";
     let prove = with_arg(Ok(command(alloc, "prove", about)), Ok(source_arg(alloc)));
     let prove = with_arg(prove, Ok(condition_budget_arg(alloc)));
     let prove = with_arg(prove, Ok(workers));
     let prove = with_arg(prove, Ok(json_arg(alloc)));
-    let prove = with_arg(prove, Ok(runs_arg(alloc)));
-    let prove = with_arg(prove, run_moments_arg(alloc));
-    with_arg(prove, Ok(start_words_arg(alloc)))
+    let prove = with_arg(prove, Ok(usual_runs_arg(alloc)));
+    let prove = with_arg(prove, no_runs_arg(alloc));
+    let prove = with_arg(prove, Ok(moments_arg(alloc, help)));
+    with_arg(prove, Ok(ranges_arg(alloc, START_WORDS)))
 }
 
 // How many steps a search for an assertion may make.
@@ -240,15 +262,13 @@ fn infer_command<'a>(alloc: Global) -> Result<Command<'a>, AllocError>
 {
     let about = "Complete an outline by assertions that prove it";
     let workers = workers_arg(alloc, "How many threads work, 1 to 64");
-    let help =
-        "A constant's value, where SOURCE is a template; or a variable's value at the start, or its values";
     let infer = with_arg(Ok(command(alloc, "infer", about)), Ok(source_arg(alloc)));
     let infer = with_arg(infer, Ok(aux_arg(alloc)));
     let infer = with_arg(infer, Ok(infer_budget_arg(alloc)));
     let infer = with_arg(infer, Ok(questions_arg(alloc)));
     let infer = with_arg(infer, Ok(workers));
     let infer = with_arg(infer, Ok(json_arg(alloc)));
-    with_arg(infer, Ok(ranges_arg(alloc, help)))
+    with_arg(infer, Ok(ranges_arg(alloc, START_WORDS)))
 }
 
 fn check_command<'a>(alloc: Global) -> Result<Command<'a>, AllocError>
@@ -379,13 +399,11 @@ fn explore_command<'a>(alloc: Global) -> Result<Command<'a>, AllocError>
     let about = "Look through every run for what goes wrong";
     let moments = moments_arg(alloc, "How many moments may be looked at, 1 to 1000000");
     let erased = flag_arg(alloc, "erased", "Explore the erased program");
-    let help =
-        "A constant's value, where SOURCE is a template; or a variable's value at the start, or its values";
     let explore = with_arg(Ok(command(alloc, "explore", about)), Ok(source_arg(alloc)));
     let explore = with_arg(explore, Ok(moments));
     let explore = with_arg(explore, Ok(erased));
     let explore = with_arg(explore, Ok(json_arg(alloc)));
-    with_arg(explore, Ok(ranges_arg(alloc, help)))
+    with_arg(explore, Ok(ranges_arg(alloc, START_WORDS)))
 }
 
 fn expand_command<'a>(alloc: Global) -> Result<Command<'a>, AllocError>

@@ -72,7 +72,7 @@ pub struct Prove<'a> {
     /// Words that give a template's constants their values and, where runs are looked for,
     /// variables their values, or ranges of them, at the start.
     pub words: Vec<&'a str>,
-    /// Where runs are to be looked for that get to states in which conditions are false: how many
+    /// Unless no runs are to be looked for that get to states in which conditions are false: how many
     /// moments may be looked at.
     pub runs: Option<MomentLimit>,
 }

@@ -4,7 +4,7 @@ ghost use Rattle.std.specs.Prelude.{◌≡◌, IfOk, IfSome, Some, true, false, 
 ghost use Rattle.clap.specs.Words.{found_of, rows_of, subcommand_of, subcommand_rows_of};
 ghost use Rattle.og_words.specs.CommandLine.{og};
 ghost use Rattle.og_words.specs.Given.{rows_below, text_of, number_of, is_given, texts_of};
-ghost use Rattle.og_words.specs.Jobs.{verb_name, words_form, command_of, word_bytes, HasWords, HoldsRuns, Holds, IsAsked};
+ghost use Rattle.og_words.specs.Jobs.{verb_name, words_form, command_of, word_bytes, HasWords, HoldsRuns, HoldsUsualRuns, Holds, IsAsked};
 
 use crate::commands::program;
 use crate::job::{
@@ -96,6 +96,17 @@ fn runs_of(m: &ArgMatches<'_>) -> Option<Option<MomentLimit>>
     } else {
         Some(None)
     }
+}
+
+// The same, where they are looked for unless the flag says not to.
+fn usual_runs_of(m: &ArgMatches<'_>) -> Option<Option<MomentLimit>>
+    ensures { IfSome result (HoldsUsualRuns (rows_of (found_of m.now))) }
+{
+    if has_flag(m, "no-runs") {
+        return Some(None);
+    }
+    let limit = moments_of(m)?;
+    Some(Some(limit))
 }
 
 fn infer_job<'a>(m: &ArgMatches<'a>, words: Vec<&'a str>) -> Option<Job<'a>>
@@ -219,7 +230,7 @@ fn prove_job<'a>(m: &ArgMatches<'a>, words: Vec<&'a str>) -> Option<Job<'a>>
 {
     let source = text_of(m, "SOURCE")?;
     let (budget, workers) = (budget_of(m)?, workers_of(m)?);
-    let (json, runs) = (has_flag(m, "json"), runs_of(m)?);
+    let (json, runs) = (has_flag(m, "json"), usual_runs_of(m)?);
     Some(Job::Prove(Prove {
         source,
         budget,

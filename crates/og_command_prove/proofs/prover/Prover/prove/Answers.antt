@@ -1,13 +1,12 @@
 use Rattle.std.proofs.Common.{ap, is_some, map, subst, sym, Bool, IfOk}
 use Rattle.og_report_text.specs.Subject.{subject_of}
-use Rattle.og_command_prove.specs.Reply.{IsReply, WarrantsAnswer}
+use Rattle.og_command_prove.specs.Reply.{IsReply}
 use Rattle.og_command_prove.proofs.Warranted.{answer_warrants, warranted}
 use Rattle.og_command_prove.proofs.prover.Prover.prove.Goals as goal
 
 pub returns-in_ok-answer-in-None-clause-warrants : goal.returns-in_ok-answer-in-None-clause-warrants
 returns-in_ok-answer-in-None-clause-warrants g c =
-    subst (λ (b : Bool). WarrantsAnswer c.args.form b c.args.subject.now.outline.now c.in_ok-answer-in-None.field-0) (sym (ap (λ r. is_some r) c.in-None.is))
-    (answer_warrants c.args.form _ (subject_of c.args.subject.now) c.in_ok-answer-in-None.field-0 c.in_ok-answer-in-None.ensures.answer)
+    answer_warrants c.args.form _ (subject_of c.args.subject.now) c.in_ok-answer-in-None.field-0 c.in_ok-answer-in-None.ensures.answer
 
 pub returns-in-Some-clause-warrants : goal.returns-in-Some-clause-warrants
 returns-in-Some-clause-warrants g c =

@@ -1,0 +1,4 @@
+pub mod Errors
+pub mod Front
+pub mod Headers
+pub mod Read

@@ -1,0 +1,9 @@
+pub mod Alike
+pub mod Causes
+pub mod Entries
+pub mod Json
+pub mod Order
+pub mod Refused
+pub mod Report
+pub mod Says
+pub mod Verdicts
