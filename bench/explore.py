@@ -4,15 +4,13 @@
 usage: bench/explore.py PROGRAM [--rounds N] [--folder FOLDER] [--large]
 
 For each outline of examples/ and of several families that it makes in FOLDER (a temporary one by
-default), runs `PROGRAM explore OUTLINE --erased` and the verifier that `spin -a` makes of the
-outline's Promela twin (bench/promela.py), built by `cc -O2 -DSAFETY`, once with SPIN's reduction and
-once without it (-DNOREDUCE). Each runs once in each round, in turn. Prints a line for each outline:
+default), runs `PROGRAM explore OUTLINE --erased` and the verifier that `spin -a` makes of what
+`PROGRAM promela OUTLINE --erased` prints, without its tests of bounds, built by `cc -O2 -DSAFETY`, once
+with SPIN's reduction and once without it (-DNOREDUCE). Each runs once in each round, in turn. Prints a line for each outline:
 the moments of og and the states of SPIN without reduction, the rate of each by processor time and
 the memory for each moment, both beyond that of the smallest outline. Stops where the two differ on
 the number of moments, on whether the program can get stuck, or on whether the postcondition can be
-false; of an outline whose postcondition is false SPIN counts some states more, where its watching
-process has seen it. SPIN refuses the twin of an outline with a loop right before an `await`, and an outline
-with a prologue or an epilogue has none. With --large there are outlines of a million moments too.
+false. With --large there are outlines of a million moments too.
 PROGRAM is crates/og/out/og after `rt run` in crates/og; `spin` and `cc` are on the path.
 """
 
@@ -27,7 +25,6 @@ import tempfile
 
 from bench import write
 from find import semaphore
-from promela import read, twin
 
 LIMIT = 1000000
 # Below so many moments a rate is that of starting a program.
@@ -111,18 +108,18 @@ def first(pattern, text):
     return found[1]
 
 
-def starts_of(told):
-    """The one start that og names."""
+def twin(program, path, told):
+    """The twin of an outline from the one start that og names, without tests of bounds."""
     named = first(r"^starts: 1 with (.*)$", told)
-    return {} if named == "nothing" else {name: int(value) for name, value in (it.split(" = ") for it in named.split(", "))}
+    words = [] if named == "nothing" else [it.replace(" = ", "=") for it in named.split(", ")]
+    text = subprocess.run([program, "promela", path, "--erased", *words], capture_output=True, text=True, check=True).stdout
+    return re.sub(r"; within\(\w+\)", "", text)
 
 
 def built(folder, text, flags, name):
     write(folder, "twin.pml", text)
     for words in (["spin", "-a", "-o3", "twin.pml"], ["cc", "-O2", "-DSAFETY", *flags, "-w", "-o", name, "pan.c"]):
         made_of = subprocess.run(words, cwd=folder, capture_output=True, text=True)
-        if "jump into d_step sequence" in made_of.stdout:
-            return None
         if made_of.returncode:
             sys.exit(f"{' '.join(words)}: {made_of.stdout}{made_of.stderr}")
     return f"./{name}"
@@ -132,7 +129,7 @@ def compare(name, told, states, wrong, stuck):
     """Stops where og and SPIN differ."""
     moments, complete = int(first(r"^moments: (\d+)$", told)), first(r"^complete: (\w+)$", told)
     found = bool(re.search(r"^\S+: postcondition false", told, re.MULTILINE)), bool(re.search(r"^\S+: stuck", told, re.MULTILINE))
-    if complete == "yes" and (found != (wrong, stuck) or states < moments or (states != moments and not wrong)):
+    if complete == "yes" and (found != (wrong, stuck) or states != moments):
         sys.exit(f"{name}: og tells {moments} moments, postcondition false {found[0]}, stuck {found[1]}; SPIN {states}, {wrong}, {stuck}")
     return moments
 
@@ -151,16 +148,10 @@ def told_of(name, moments, states, og, plain, reduced, floor):
 
 
 def measure(program, folder, name, path, rounds, floor):
-    with open(path, encoding="utf-8", errors="replace") as file:
-        outline = read(file.read())
     words = [program, "explore", path, "--erased", "--limit", str(LIMIT)]
     told, _, _ = run(words, folder)
-    if outline.prologue is not None or outline.epilogue is not None:
-        return f"| {name} | {first(r'^moments: ([0-9]+)$', told)} | no twin | | | | | |", None
-    text = twin(outline, starts_of(told))
+    text = twin(program, path, told)
     plain, reduced = built(folder, text, ["-DNOREDUCE"], "plain"), built(folder, text, [], "reduced")
-    if plain is None:
-        return f"| {name} | {first(r'^moments: ([0-9]+)$', told)} | refused by SPIN | | | | | |", None
     depth = f"-m{2 * int(first(r'^moments: ([0-9]+)$', told)) + 10000}"
     stuck = "errors: 0" not in run([plain, "-c0", "-A", "-n", depth], folder)[0]
     ways = {"og": [], "plain": [], "reduced": []}
@@ -200,4 +191,5 @@ def main():
         print(f"\nmedian: {statistics.median(it[0] for it in rates) / 1e6:.2f} millions a second, {statistics.median(it[1] for it in rates):.2f} of SPIN's; least ratio {min(it[1] for it in rates):.2f}")
 
 
-main()
+if __name__ == "__main__":
+    main()

@@ -22,13 +22,14 @@ class Program:
         with open(f"{folder}/counter.og", "rb") as source, open(f"{folder}/counter.cert", "rb") as certs:
             self.joined = source.read() + certs.read()
 
-    def ask(self, words, request=0, start=0):
-        """The answer where the request, or the start, of this number is refused; none is where it is 0."""
+    def ask(self, words, request=0, start=0, given=None):
+        """The answer where the request, or the start, of this number is refused; none is where it is 0. Standard
+        input is what is given, or empty, or without words an outline and certificates."""
         count = f"{self.folder}/count-{request}-{start}-{os.getpid()}"
         environment = {"LD_PRELOAD": self.library, "OG_COUNT": count}
         environment |= {"OG_REFUSE": str(request), "OG_REFUSE_THREAD": str(start)}
-        ran = subprocess.run([self.path, *words], cwd=self.folder, env=environment, capture_output=True,
-                             input=b"" if words else self.joined, timeout=60)
+        given = given if given is not None else b"" if words else self.joined
+        ran = subprocess.run([self.path, *words], cwd=self.folder, env=environment, capture_output=True, input=given, timeout=60)
         counts = [0, 0, 0]
         if os.path.exists(count):
             with open(count, encoding="ascii") as file:

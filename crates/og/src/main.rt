@@ -1,8 +1,10 @@
 //! The program `og`.
 #![tactic(auto)]
 
+mod lsp;
 mod progress;
 
+use lsp::{is_lsp, serve_lsp};
 use og_program::{Program, Streams, serve_words};
 use og_words::given_words;
 use progress::Progress;
@@ -31,6 +33,12 @@ fn main(rt: HostRuntime) -> ExitCode {
     if matches!(&words, Ok(words) if words.is_empty()) && streams.input.is_terminal() {
         let _ = streams.err.write_all(WAITING.as_bytes());
     }
+    let asked = is_lsp(rt.alloc(), &words);
+    let words = match asked {
+        Ok(true) => return ExitCode::from(serve_lsp(&rt, rt.alloc(), &mut streams)),
+        Ok(false) => words,
+        Err(usage) => Err(usage),
+    };
     let progress = Progress::new(&rt);
     let program = Program {
         rt: &rt,

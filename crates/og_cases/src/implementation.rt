@@ -55,7 +55,7 @@ const WORKERS: [Implementation; 3] = [
 ];
 
 // The commands that take a number of workers, which changes nothing that they print.
-const SHARED: [&str; 3] = ["check\n", "find\n", "prove\n"];
+const SHARED: [&str; 4] = ["check\n", "explore\n", "find\n", "prove\n"];
 
 // Whether the words name such a command, and no number of workers.
 fn is_shared(words: &str) -> bool {

@@ -1,3 +1,4 @@
 pub mod Reported
 pub mod Explored
 pub mod Words
+pub mod Drawings

@@ -1,10 +1,11 @@
 //! The answer of an exploration of an outline.
 
-ghost use Rattle.std.specs.Prelude.{◌≡◌, ◌↔◌, ◌≤◌, ◌^◌, length, map, true, None, IfOk, IfSome, IfNone, IsTrue};
+ghost use Rattle.std.specs.Prelude.{◌≡◌, ◌↔◌, ◌<◌, ◌≤◌, ◌^◌, length, map, true, None, IfOk, IfErr, IfSome, IfNone, IsTrue};
 ghost use Rattle.std.specs.List.{AllByRecursion};
 ghost use Rattle.og_cond.specs.Seen.{seen};
 ghost use Rattle.og_explore.specs.ViolationStarts.{AreWithin};
 ghost use Rattle.og_explore.specs.Within.{HasNoStart};
+ghost use Rattle.og_pool.specs.declared.fault.PoolFault.TheVariants.{Spawn};
 ghost use Rattle.og_report_text.specs.Subject.{subject_of, IsShort};
 ghost use Rattle.og_report_explore.specs.Totals.{safe_of, unblocked_of};
 ghost use Rattle.og_command_explore.specs.Reported.{IsOneFinding, AreViolations};
@@ -15,10 +16,13 @@ use crate::reported::{FindingContext, Reported, add};
 use crate::request::Request;
 use og_cond::Condition;
 use og_explore::{Exploration, Range, explore};
+use og_pool::PoolFault;
 use og_report_explore::{Finding, Found, Totals, json, report};
 use og_report_text::{Answer, Subject};
 use og_typed::{Index, Outline};
 use std::alloc::{AllocError, Global};
+use std::sync::Wait;
+use std::thread::Threads;
 
 // The ends of the ranges.
 fn ends(alloc: Global, ranges: &[Range]) -> Result<Vec<(i64, i64)>, AllocError>
@@ -138,24 +142,28 @@ fn printed(
 ///
 /// # Errors
 ///
-/// An allocation was refused.
-pub fn answer(
+/// `Spawn`, of two workers or more, where a thread could not be started. `Memory` where an
+/// allocation was refused.
+pub fn answer<R: Threads + Wait + Sync>(
+    rt: &R,
     alloc: Global,
     subject: &Subject,
     conditions: &[Condition],
     ranges: &[Range],
     request: Request,
-) -> Result<Option<Answer>, AllocError>
+) -> Result<Option<Answer>, PoolFault>
     requires short { IsShort (subject_of subject.now) }
     requires ranges { length ranges.now ≡ subject.now.outline.now.vars }
     ensures explored { IfOk result (λ found. IfSome found
         (IsExplored request.json (subject_of subject.now) (map seen conditions.now) ranges.now)) }
     ensures none { IfOk result (λ found.
         IfNone found (HasNoStart subject.now.outline.now ranges.now)) }
+    ensures spawn { IfErr result (λ e. e ≡ Spawn → 1 < request.workers) }
 {
     let outline = subject.outline;
     outline.follows_rule();
-    let found = explore(alloc, outline, ranges, request.limit)?;
+    let workers = request.workers.count();
+    let found = explore(rt, alloc, outline, ranges, request.limit, workers)?;
     if has_no_start(&found) {
         return Ok(None);
     }
@@ -165,6 +173,7 @@ pub fn answer(
         starts: u64::from(found.starts),
         given: ends(alloc, ranges)?,
         moments: u64::from(found.moments),
+        ended: u64::from(found.ended),
         complete: reported.complete,
     };
     Ok(Some(Answer {

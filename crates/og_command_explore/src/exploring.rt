@@ -1,7 +1,8 @@
 //! The answers of `explore`.
 
-ghost use Rattle.std.specs.Prelude.{◌≡◌, ◌≤◌, ◌^◌, length, map, IfOk};
+ghost use Rattle.std.specs.Prelude.{◌≡◌, ◌<◌, ◌≤◌, ◌^◌, length, map, IfOk, IfErr};
 ghost use Rattle.og_cond.specs.Seen.{seen};
+ghost use Rattle.og_pool.specs.declared.fault.PoolFault.TheVariants.{Spawn};
 ghost use Rattle.og_report_text.specs.Subject.{subject_of, IsShort};
 ghost use Rattle.og_command_explore.specs.Explored.{AreConditions, IsAnswer, IsOfProgram, not_pre_line, IsReply};
 
@@ -12,10 +13,13 @@ use crate::words::{WordsError, given};
 use og_cond::{Condition, ConditionsError, conditions};
 use og_erase::erase;
 use og_explore::Range;
+use og_pool::PoolFault;
 use og_report_text::{Answer, Subject, put_opening};
 use og_step::StartFault;
 use og_typed::Outline;
 use std::alloc::{AllocError, Global};
+use std::sync::Wait;
+use std::thread::Threads;
 
 /// What comes of exploring a program.
 #[derive(Debug, Drop)]
@@ -49,19 +53,21 @@ fn conditions_of(alloc: Global, outline: &Outline) -> Result<Vec<Condition<'_>>,
 }
 
 // The answer for an outline: that it has no start, or the findings.
-fn of_outline(
+fn of_outline<R: Threads + Wait + Sync>(
+    rt: &R,
     alloc: Global,
     subject: &Subject,
     conditions: &[Condition],
     ranges: &[Range],
     request: Request,
-) -> Result<Answer, AllocError>
+) -> Result<Answer, PoolFault>
     requires short { IsShort (subject_of subject.now) }
     requires ranges { length ranges.now ≡ subject.now.outline.now.vars }
-    ensures { IfOk result (IsAnswer request.json (subject_of subject.now) (map seen conditions.now)
-        ranges.now) }
+    ensures answer { IfOk result (IsAnswer request.json (subject_of subject.now)
+        (map seen conditions.now) ranges.now) }
+    ensures spawn { IfErr result (λ e. e ≡ Spawn → 1 < request.workers) }
 {
-    match answer(alloc, subject, conditions, ranges, request)? {
+    match answer(rt, alloc, subject, conditions, ranges, request)? {
         Some(answer) => Ok(answer),
         None => Ok(Answer {
             text: not_pre(alloc)?,
@@ -71,15 +77,18 @@ fn of_outline(
 }
 
 // The answer for an outline, or its program without auxiliaries.
-fn of_program(
+fn of_program<R: Threads + Wait + Sync>(
+    rt: &R,
     alloc: Global,
     subject: &Subject,
     ranges: &[Range],
     request: Request,
-) -> Result<Answer, AllocError>
+) -> Result<Answer, PoolFault>
     requires short { IsShort (subject_of subject.now) }
     requires ranges { length ranges.now ≡ subject.now.outline.now.vars }
-    ensures { IfOk result (IsOfProgram request.json request.erased (subject_of subject.now)) }
+    ensures answer { IfOk result
+        (IsOfProgram request.json request.erased (subject_of subject.now)) }
+    ensures spawn { IfErr result (λ e. e ≡ Spawn → 1 < request.workers) }
 {
     if request.erased {
         let program = erase(alloc, subject.outline)?;
@@ -89,10 +98,10 @@ fn of_program(
             given: subject.given,
             rows: subject.rows,
         };
-        return of_outline(alloc, &without, &[], ranges, request);
+        return of_outline(rt, alloc, &without, &[], ranges, request);
     }
     let conditions = conditions_of(alloc, subject.outline)?;
-    of_outline(alloc, subject, &conditions, ranges, request)
+    of_outline(rt, alloc, subject, &conditions, ranges, request)
 }
 
 /// Explores the program of an outline, breadth first, from all starts within the ranges that the
@@ -103,28 +112,32 @@ fn of_program(
 /// was explored and nothing found, and else 1: as a text with places of the text that was given, or
 /// as JSON in one line with places of the outline's own text. Or, only where no start lies within
 /// the ranges, it is the line of 50 NotPre, with status 2. `BadValue` holds the first word that
-/// gives no range. The texts have at most 1,048,576 bytes.
+/// gives no range. The texts have at most 1,048,576 bytes. Every number of workers comes to the
+/// same.
 ///
 /// # Errors
 ///
-/// An allocation was refused.
-pub fn explored<'a>(
+/// `Spawn`, of two workers or more, where a thread could not be started. `Memory` where an
+/// allocation was refused.
+pub fn explored<'a, R: Threads + Wait + Sync>(
+    rt: &R,
     alloc: Global,
     subject: &Subject,
     words: &[&'a str],
     request: Request,
-) -> Result<Reply<'a>, AllocError>
+) -> Result<Reply<'a>, PoolFault>
     requires { IsShort (subject_of subject.now) }
-    ensures { IfOk result (IsReply request.json (subject_of subject.now) request.erased
+    ensures reply { IfOk result (IsReply request.json (subject_of subject.now) request.erased
         (map (λ w. w.now) words.now)) }
+    ensures spawn { IfErr result (λ e. e ≡ Spawn → 1 < request.workers) }
 {
     match given(alloc, subject.outline, words) {
         Ok(given) => {
             let ranges = ranges(alloc, subject.outline, &given)?;
-            let answer = of_program(alloc, subject, &ranges, request)?;
+            let answer = of_program(rt, alloc, subject, &ranges, request)?;
             Ok(Reply::Answer(answer))
         }
         Err(WordsError::Bad(word)) => Ok(Reply::BadValue(word)),
-        Err(WordsError::Memory) => Err(AllocError),
+        Err(WordsError::Memory) => Err(PoolFault::Memory),
     }
 }

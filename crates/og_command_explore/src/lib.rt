@@ -4,13 +4,17 @@
 #![tactic(auto)]
 
 mod answering;
+mod dot;
+mod drawing;
 mod exploring;
+mod graph;
 mod reported;
 mod request;
 mod starting;
 mod words;
 
 pub use answering::answer;
+pub use drawing::{Drawing, draw};
 pub use exploring::{Reply, explored};
 pub use request::Request;
 pub use starting::{only, ranges};

@@ -15,10 +15,10 @@ use Rattle.og_command_infer.specs.declared.inferrer.Reply.{Reply}
 use Rattle.og_command_infer.specs.declared.inferrer.Reply.TheVariants as replies
 
 -- what `prove` reports of an outline in its own text; status 0 says that every run is as promised,
--- and a report that says then that it is unblocked, that none gets stuck
+-- and a report with the verdict that none gets stuck, that none does
 pub record IsJudged (form : ReportForm) (o : Program) (text : List ℕ) (report : Answer) : Type 0 where
   pub reported : IsReported form false (in_own_text o text) report
-  pub warrants : WarrantsAnswer form false o report
+  pub warrants : WarrantsAnswer form o report
 
 -- a text of an outline that completes the given one, and what `prove` reports of it
 pub record IsCompletion (form : ReportForm) (o : Program) (text : List ℕ) (report : Answer) : Type 0 where
@@ -27,7 +27,7 @@ pub record IsCompletion (form : ReportForm) (o : Program) (text : List ℕ) (rep
   pub completes : Completes outline o
   pub judged : IsJudged form outline text report
   -- what the report says of that outline holds of the given one too
-  pub warrants : WarrantsAnswer form false o report
+  pub warrants : WarrantsAnswer form o report
 
 -- the outline of a subject, completed by edits of its text; in its notes alone where no auxiliary
 -- may be added

@@ -1,12 +1,12 @@
 -- What is printed of a completed outline, and what goes to standard error beside it.
-use Rattle.std.specs.Prelude.{◌≡◌, ℕ, ◌-◌, ◌==◌, ◌&&◌, ◌↔◌, Bool, true, false, List, [], ◌∷◌, ◌++◌, length, take, map, if◌then◌else◌, codes}
+use Rattle.std.specs.Prelude.{◌≡◌, ℕ, ◌-◌, ◌==◌, ◌↔◌, Bool, true, false, List, [], ◌++◌, length, take, map, if◌then◌else◌, codes}
 use Rattle.std.specs.Fmt.{decimal}
 use Rattle.serde_json.specs.Data.{Data, string, array, object, member, no_members}
 use Rattle.serde_json.specs.View.{items_of}
 use Rattle.serde_json.specs.Written.{compact_text}
 use Rattle.og_report_text.specs.Numbers.{natural}
 use Rattle.og_report_text.specs.Places.{position_of}
-use Rattle.og_report_text.specs.Yes.{SaysUnblocked}
+use Rattle.og_report_findings.specs.Says.{SaysNeverStuck}
 use Rattle.og_report_prove.specs.Members.{utf8_text}
 use Rattle.og_report_text.specs.declared.answer.Answer.{Answer}
 use Rattle.og_infer_marks.specs.declared.edit.Edit.{Edit}
@@ -73,6 +73,6 @@ verdict_text safe unblocked =
 pub record IsRemark (json : Bool) (i : Inferred) (text : List ℕ) : Type 0 where
   pub unblocked : Bool
   pub count : ℕ
-  pub says : i.report.status ≡ 0 → (unblocked ≡ true) ↔ SaysUnblocked json i.report.text.items
+  pub says : i.report.status ≡ 0 → (unblocked ≡ true) ↔ SaysNeverStuck json i.report.text.items
   pub remark : text ≡ (added_text i.added ++ verdict_text (i.report.status == 0) unblocked)
       ++ (codes "\n" ++ take count i.report.text.items)

@@ -1,11 +1,11 @@
 //! What an inference is made with, and its result.
 
-ghost use Rattle.std.specs.Prelude.{◌≡◌, None};
+ghost use Rattle.std.specs.Prelude.{◌≡◌};
 
 use og_command_prove::{Prover, Search};
 use og_infer::Addition;
 use og_infer_marks::Edit;
-use og_io::{Budget, Workers};
+use og_io::{Budget, MomentLimit, Workers};
 use og_report_text::Answer;
 use std::alloc::Global;
 
@@ -98,9 +98,9 @@ pub enum Reply<'a> {
 }
 
 impl<'r, G, H> Inferrer<'r, G, H> {
-    // What proves the conditions of what is printed.
-    pub(crate) fn prover(&self) -> Prover<'r, G, H>
-        ensures runs { result.search.runs ≡ None }
+    // What proves conditions, with these runs.
+    pub(crate) fn prover(&self, runs: Option<MomentLimit>) -> Prover<'r, G, H>
+        ensures runs { result.search.runs ≡ runs }
         ensures workers { result.search.workers ≡ self.now.effort.workers }
     {
         Prover {
@@ -110,7 +110,7 @@ impl<'r, G, H> Inferrer<'r, G, H> {
             search: Search {
                 budget: self.effort.proof,
                 workers: self.effort.workers,
-                runs: None,
+                runs,
             },
         }
     }

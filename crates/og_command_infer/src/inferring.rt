@@ -40,7 +40,7 @@ pub(crate) const TIERS: u8 = 3;
 // A law: what a report warrants of an outline, it warrants of each one that this completes.
 fn warranted(new: &Outline, old: &Outline)
     ensures { Completes new.now old.now → (form : ReportForm) (report : Answer)
-        → WarrantsAnswer form false new.now report → WarrantsAnswer form false old.now report }
+        → WarrantsAnswer form new.now report → WarrantsAnswer form old.now report }
 {
     new.follows_rule();
     old.follows_rule();
@@ -113,7 +113,7 @@ impl<'r, G: Gate, H: Threads + Wait + Sync> Inferrer<'r, G, H> {
         form: ReportForm,
     ) -> Result<Answer, Refusal>
         requires { length text.now ≤ 2 ^ 20 }
-        ensures report { IfOk result (IsJudged form outline.now text.now) }
+        ensures report { IfOk result (IsJudged form.entry outline.now text.now) }
         ensures refused { IfErr result (OnInput (IsFaultOfCount outline.now)) }
         ensures spawn { IfErr result (λ e. e ≡ refusals.Spawn → 1 < self.now.effort.workers) }
     {
@@ -123,7 +123,7 @@ impl<'r, G: Gate, H: Threads + Wait + Sync> Inferrer<'r, G, H> {
             given: text,
             rows: None,
         };
-        match self.prover().prove(&subject, &[], form)? {
+        match self.prover(None).prove(&subject, &[], form)? {
             og_command_explore::Reply::Answer(answer) => Ok(answer),
             og_command_explore::Reply::BadValue(_) => unreachable!(),
         }
@@ -137,7 +137,7 @@ impl<'r, G: Gate, H: Threads + Wait + Sync> Inferrer<'r, G, H> {
         form: ReportForm,
     ) -> Result<Option<Answer>, Refusal>
         ensures report { IfOk result
-            (λ some. IfSome some (IsCompletion form outline.now source.now.bytes)) }
+            (λ some. IfSome some (IsCompletion form.entry outline.now source.now.bytes)) }
         ensures refused { IfErr result (OnInput (λ _. ⊥)) }
         ensures spawn { IfErr result (λ e. e ≡ refusals.Spawn → 1 < self.now.effort.workers) }
     {
@@ -156,7 +156,7 @@ impl<'r, G: Gate, H: Threads + Wait + Sync> Inferrer<'r, G, H> {
         text: &[u8],
         form: ReportForm,
     ) -> Result<Option<Answer>, Refusal>
-        ensures report { IfOk result (λ some. IfSome some (IsCompletion form outline.now text.now)) }
+        ensures report { IfOk result (λ some. IfSome some (IsCompletion form.entry outline.now text.now)) }
         ensures refused { IfErr result (OnInput (λ _. ⊥)) }
         ensures spawn { IfErr result (λ e. e ≡ refusals.Spawn → 1 < self.now.effort.workers) }
     {
@@ -178,7 +178,7 @@ impl<'r, G: Gate, H: Threads + Wait + Sync> Inferrer<'r, G, H> {
         ensures completed { IfOk result (λ some. IfSome some
             (λ i. (i.text.items ≡ edited i.edits.items 0 subject.now.own.now)
             × (i.edits.items ≡ edits.items)
-            × IsCompletion form subject.now.outline.now i.text.items i.report)) }
+            × IsCompletion form.entry subject.now.outline.now i.text.items i.report)) }
         ensures refused { IfErr result (OnInput (λ _. ⊥)) }
         ensures spawn { IfErr result (λ e. e ≡ refusals.Spawn → 1 < self.now.effort.workers) }
     {
@@ -203,7 +203,7 @@ impl<'r, G: Gate, H: Threads + Wait + Sync> Inferrer<'r, G, H> {
         additions: &[Addition],
         form: ReportForm,
     ) -> Result<Option<Inferred>, Refusal>
-        ensures completed { IfOk result (λ some. IfSome some (IsCompleted form false (subject_of subject.now))) }
+        ensures completed { IfOk result (λ some. IfSome some (IsCompleted form.entry false (subject_of subject.now))) }
         ensures refused { IfErr result (OnInput (λ _. ⊥)) }
         ensures spawn { IfErr result (λ e. e ≡ refusals.Spawn → 1 < self.now.effort.workers) }
     {
@@ -216,7 +216,7 @@ impl<'r, G: Gate, H: Threads + Wait + Sync> Inferrer<'r, G, H> {
     fn unchanged(&self, subject: &Subject<'_>, form: ReportForm) -> Result<Inferred, Refusal>
         requires short { IsShort (subject_of subject.now) }
         requires source { IsSource subject.now.own.now subject.now.outline.now }
-        ensures completed { IfOk result (IsCompleted form false (subject_of subject.now)) }
+        ensures completed { IfOk result (IsCompleted form.entry false (subject_of subject.now)) }
         ensures refused { IfErr result (OnInput (IsFaultOfCount subject.now.outline.now)) }
         ensures spawn { IfErr result (λ e. e ≡ refusals.Spawn → 1 < self.now.effort.workers) }
     {
@@ -241,7 +241,7 @@ impl<'r, G: Gate, H: Threads + Wait + Sync> Inferrer<'r, G, H> {
     ) -> Result<Inferred, Refusal>
         requires short { IsShort (subject_of subject.now) }
         requires source { IsSource subject.now.own.now subject.now.outline.now }
-        ensures completed { IfOk result (IsCompleted form false (subject_of subject.now)) }
+        ensures completed { IfOk result (IsCompleted form.entry false (subject_of subject.now)) }
         ensures refused { IfErr result (OnInput (IsFaultOfCount subject.now.outline.now)) }
         ensures spawn { IfErr result (λ e. e ≡ refusals.Spawn → 1 < self.now.effort.workers) }
     {
@@ -261,7 +261,7 @@ impl<'r, G: Gate, H: Threads + Wait + Sync> Inferrer<'r, G, H> {
         requires short { IsShort (subject_of subject.now) }
         requires source { IsSource subject.now.own.now subject.now.outline.now }
         ensures completed { IfOk result
-            (IsCompleted form self.now.effort.aux (subject_of subject.now)) }
+            (IsCompleted form.entry self.now.effort.aux (subject_of subject.now)) }
         ensures refused { IfErr result (OnInput (IsFaultOfCount subject.now.outline.now)) }
         ensures spawn { IfErr result (λ e. e ≡ refusals.Spawn → 1 < self.now.effort.workers) }
     {
@@ -308,7 +308,7 @@ impl<'r, G: Gate, H: Threads + Wait + Sync> Inferrer<'r, G, H> {
         requires short { IsShort (subject_of subject.now) }
         requires source { IsSource subject.now.own.now subject.now.outline.now }
         ensures reply { IfOk result
-            (IsReply form self.now.effort.aux (subject_of subject.now) (map (λ w. w.now) words.now)) }
+            (IsReply form.entry self.now.effort.aux (subject_of subject.now) (map (λ w. w.now) words.now)) }
         ensures refused { IfErr result (OnInput (IsFaultOfCount subject.now.outline.now)) }
         ensures spawn { IfErr result (λ e. e ≡ refusals.Spawn → 1 < self.now.effort.workers) }
     {

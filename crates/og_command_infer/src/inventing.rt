@@ -316,7 +316,7 @@ impl<'r, G: Gate, H: Threads + Wait + Sync> Inferrer<'r, G, H> {
         planned: &Planned,
         form: ReportForm,
     ) -> Result<Option<Inferred>, Refusal>
-        ensures completed { IfOk result (λ some. IfSome some (IsCompleted form true (subject_of subject.now))) }
+        ensures completed { IfOk result (λ some. IfSome some (IsCompleted form.entry true (subject_of subject.now))) }
         ensures refused { IfErr result (OnInput (λ _. ⊥)) }
         ensures spawn { IfErr result (λ e. e ≡ refusals.Spawn → 1 < self.now.effort.workers) }
     {
@@ -340,7 +340,7 @@ impl<'r, G: Gate, H: Threads + Wait + Sync> Inferrer<'r, G, H> {
         form: ReportForm,
         questions: u64,
     ) -> Result<Option<Inferred>, Refusal>
-        ensures completed { IfOk result (λ some. IfSome some (IsCompleted form true (subject_of subject.now))) }
+        ensures completed { IfOk result (λ some. IfSome some (IsCompleted form.entry true (subject_of subject.now))) }
         ensures refused { IfErr result (OnInput (λ _. ⊥)) }
         ensures spawn { IfErr result (λ e. e ≡ refusals.Spawn → 1 < self.now.effort.workers) }
     {

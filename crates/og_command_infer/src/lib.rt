@@ -6,6 +6,7 @@
 //! what is promised of the result.
 #![tactic(auto)]
 
+mod advising;
 mod inferrer;
 mod inferring;
 mod inventing;

@@ -47,6 +47,7 @@ pub(crate) fn moved(
             moved.push(Addition {
                 at: place.note.at,
                 conjuncts: addition.conjuncts,
+                assertions: addition.assertions,
             })?;
         }
     }

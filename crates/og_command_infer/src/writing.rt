@@ -3,7 +3,7 @@
 ghost use Rattle.std.specs.Prelude.{◌≡◌, ◌≤◌, ◌^◌, ◌++◌, ◌↔◌, ℕ, true, length, map, take, IfOk, OnOk};
 ghost use Rattle.serde_json.specs.View.{view};
 ghost use Rattle.og_command_infer.specs.Printed.{edit_data, edits_text, json_text, printed_text, IsPrinted, yes_or_no, counted, auxiliaries_text, added_text, verdict_text, IsRemark};
-ghost use Rattle.og_report_text.specs.Yes.{SaysUnblocked};
+ghost use Rattle.og_report_findings.specs.Says.{SaysNeverStuck};
 
 use crate::inferrer::{Added, Inferred};
 use og_infer_marks::Edit;
@@ -135,21 +135,31 @@ fn shown_length(report: &[u8]) -> usize {
     at
 }
 
+// Whether a report has the line or the member that says that the outline is unblocked.
+fn says_unblocked(report: &[u8], json: bool) -> bool {
+    if json {
+        return utf8_text(report).contains("\"unblocked\":true");
+    }
+    report
+        .split_inclusive(|byte| *byte == b'\n')
+        .any(|line| line == b"unblocked: yes\n".as_slice())
+}
+
 impl Inferred {
-    // Whether the report says that the outline is unblocked: at its end, but for JSON of an outline
-    // that is not safe.
+    // Whether the report says that the outline is unblocked: of one that is safe by the verdict at
+    // its end.
     fn is_unblocked(&self, json: bool) -> bool
         ensures { self.now.report.status ≡ 0
-            → (result ≡ true) ↔ SaysUnblocked json self.now.report.text.items }
+            → (result ≡ true) ↔ SaysNeverStuck json self.now.report.text.items }
     {
         let text = self.report.text.as_slice();
-        if !json {
-            return text.ends_with(b"unblocked: yes\n");
+        if self.report.status != 0 {
+            return says_unblocked(text, json);
         }
-        if self.report.status == 0 {
-            return text.ends_with(b"\"unblocked\":true,\"unproved\":[]}\n");
+        if json {
+            return text.ends_with(b"\"verdict\":\"safe in every run, and never stuck\"}\n");
         }
-        utf8_text(text).contains("\"unblocked\":true")
+        text.ends_with(b"verdict: safe in every run, and never stuck\n")
     }
 
     // The report as far as it goes to standard error: nothing of JSON, or where it is yes twice.

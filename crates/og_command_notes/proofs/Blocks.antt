@@ -4,11 +4,11 @@ use Rattle.std.specs.Prelude.{slice_get, Option, Some, None, option_map}
 use Rattle.std.proofs.lemmas.Option.{slice_get-map}
 use Rattle.std.proofs.lemmas.Bool.{cases_lt}
 use Rattle.std.proofs.lemmas.List.Elements.{All-pop, All-push, All-same}
-use Rattle.og_command_notes.specs.Points.{Point}
-use Rattle.og_command_notes.specs.Seen.{point_of, points_of}
+use Rattle.og_review_text.specs.Points.{Point}
+use Rattle.og_review_text.specs.Seen.{point_of, points_of}
 use Rattle.og_command_notes.specs.Together.{AreApart, AreApartIn, AreBlocks, IsBlock, across, down, JoinsColumns, JoinsRows}
 use Rattle.og_command_notes.specs.declared.together.Block.{Block}
-use Rattle.og_command_notes.specs.declared.walk.Point as walk
+use Rattle.og_review_text.specs.declared.walk.Point as walk
 
 -- places of the second, under the numbers of the first
 renamed : (ps : List Point) (a b : Block) (i k : ℕ) → a.one ≡ b.one → a.other ≡ b.other → AreApartIn b.one b.other (slice_get ps i) (slice_get ps k) → AreApartIn a.one a.other (slice_get ps i) (slice_get ps k)

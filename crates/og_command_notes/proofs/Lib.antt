@@ -1,8 +1,5 @@
-pub mod WalkItems
-pub mod Ranges
 pub mod Claiming
-pub mod Moves
 pub mod Blocks
-pub mod Hiding
+pub mod Pairs
 pub mod Listing
 pub mod Joins

@@ -5,7 +5,7 @@ use Rattle.og_linear.specs.Linear.{IsProper}
 use Rattle.og_typed.specs.Syntax.{Formula, True, False, Le, Eq, Ne, Not, And, Or, Imp, Noted, Statement, Skip, Assign, If, While, Await, Otherwise, Nothing, Else, Program, last_of}
 use Rattle.og_cond.specs.Condition.{Part, Yes, No}
 use Rattle.og_cond.specs.Valid.{all_parts}
-use Rattle.og_command_notes.specs.Points.{Point, points}
+use Rattle.og_review_text.specs.Points.{Point, points}
 use Rattle.og_command_notes.specs.declared.claims.Asked.{Asked}
 use Rattle.og_command_notes.specs.declared.claims.Asked.TheVariants as asked
 

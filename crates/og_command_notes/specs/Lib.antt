@@ -1,11 +1,7 @@
-pub mod Points
-pub mod Steps
 pub mod Claims
-pub mod Together
-pub mod Idioms
-pub mod Unused
-pub mod Hidden
-pub mod Seen
-pub mod Notes
-pub mod Noted
 pub mod Law
+pub mod Noted
+pub mod Notes
+pub mod Remarks
+pub mod Seen
+pub mod Together

@@ -1,8 +1,8 @@
 -- The notes on an outline, as they are printed.
-use Rattle.std.specs.Prelude.{ℕ, ◌+◌, ◌-◌, ◌==◌, ◌&&◌, nat_lt, Bool, true, false, List, [], length, take, flat_map, if◌then◌else◌, codes, Option, Some, None, slice_get}
+use Rattle.std.specs.Prelude.{ℕ, ◌+◌, ◌-◌, ◌==◌, nat_lt, Bool, true, false, List, [], length, take, flat_map, if◌then◌else◌, codes, Option, Some, None, slice_get}
 use Rattle.std.specs.List.{range_with_len}
 use Rattle.std.specs.Fmt.{decimal}
-use Rattle.og_typed.specs.Syntax.{Noted, Statement, Program}
+use Rattle.og_typed.specs.Syntax.{Noted, Program}
 use Rattle.og_typed.specs.Erase.{erased}
 use Rattle.og_erase.specs.Collected.{raw_of}
 use Rattle.og_erase_readable.specs.Readable.{readable}
@@ -11,18 +11,15 @@ use Rattle.og_report_text.specs.Origins.{Rows, place_text_at}
 use Rattle.og_report_text.specs.Places.{◌&◌}
 use Rattle.og_report_text.specs.Assertions.{assertion_text}
 use Rattle.og_report_text.specs.Values.{names_text}
-use Rattle.og_command_notes.specs.Points.{Point, points}
-use Rattle.og_command_notes.specs.Steps.{Step, all_steps, accessed}
+use Rattle.og_review_text.specs.Points.{Point, points}
+use Rattle.og_review_text.specs.Steps.{all_steps}
+use Rattle.og_review_text.specs.Accesses.{step_lines}
 use Rattle.og_command_notes.specs.Claims.{Claim}
-use Rattle.og_command_notes.specs.Idioms.{idiom_of}
-use Rattle.og_command_notes.specs.Unused.{unused_lines}
-use Rattle.og_command_notes.specs.Hidden.{hidden_lines}
+use Rattle.og_command_notes.specs.Together.{are_many}
+use Rattle.og_review_text.specs.Unused.{unused_lines}
+use Rattle.og_review_text.specs.Hidden.{hidden_lines}
 use Rattle.og_command_notes.specs.declared.claims.Asked.{Asked}
 use Rattle.og_command_notes.specs.declared.claims.Asked.TheVariants as asked
-use Rattle.og_command_notes.specs.declared.idioms.Idiom.{Idiom}
-use Rattle.og_command_notes.specs.declared.idioms.Idiom.TheVariants as idioms
-use Rattle.og_command_notes.specs.declared.steps.Access.{Access}
-use Rattle.og_command_notes.specs.declared.steps.Access.TheVariants as access
 use Rattle.og_command_notes.specs.declared.together.Block.{Block}
 use Rattle.og_command_notes.specs.declared.together.Span.{Span}
 
@@ -43,17 +40,17 @@ subject_text asked.Postcondition = codes "postcondition"
 subject_text asked.PostconditionFalse = codes "postcondition"
 
 abbrev pub finding_text : Asked → List ℕ
-finding_text asked.Precondition = codes " is never true\n"
-finding_text asked.Assertion = codes " is never true: nothing is claimed behind it\n"
-finding_text asked.Falsity = codes " is false: the step before it is never made\n"
-finding_text asked.LoopEntered = codes " is never entered\n"
-finding_text asked.LoopLeft = codes " is never left\n"
-finding_text asked.BranchTaken = codes " is never taken\n"
-finding_text asked.ElseTaken = codes " is never taken\n"
-finding_text asked.AwaitPassed = codes " never passes\n"
-finding_text asked.AllEnded = codes " never all end: nothing is claimed of the postcondition\n"
-finding_text asked.Postcondition = codes " is never true: it is claimed that no run ends\n"
-finding_text asked.PostconditionFalse = codes " is always true\n"
+finding_text asked.Precondition = codes " is never true"
+finding_text asked.Assertion = codes " is never true: nothing is claimed behind it"
+finding_text asked.Falsity = codes " is false: the step before it is never made"
+finding_text asked.LoopEntered = codes " is never entered"
+finding_text asked.LoopLeft = codes " is never left"
+finding_text asked.BranchTaken = codes " is never taken"
+finding_text asked.ElseTaken = codes " is never taken"
+finding_text asked.AwaitPassed = codes " never passes"
+finding_text asked.AllEnded = codes " never all end: nothing is claimed of the postcondition"
+finding_text asked.Postcondition = codes " is never true: it is claimed that no run ends"
+finding_text asked.PostconditionFalse = codes " is always true"
 
 -- it is about the whole program, which has no place
 abbrev pub is_of_all : Asked → Bool
@@ -69,49 +66,12 @@ is_of_all asked.AllEnded = true
 is_of_all asked.Postcondition = false
 is_of_all asked.PostconditionFalse = false
 
-abbrev pub access_text : Access → List ℕ
-access_text access.ReadsAndWrites = codes "reads and writes "
-access_text access.Reads = codes "reads "
-access_text access.Writes = codes "writes "
-
-abbrev pub idiom_text : Idiom → List ℕ
-idiom_text idioms.FetchAndAdd = codes " (fetch and add)"
-idiom_text idioms.TestAndSet = codes " (test and set)"
-idiom_text idioms.Swap = codes " (swap)"
-idiom_text idioms.CompareAndSwap = codes " (compare and swap)"
-
 -- of what a yes speaks, and what carries it
 abbrev pub unblocked_line : List ℕ
 unblocked_line = codes "unblocked is said of the whole program: until all processes have ended, one of them can step; a single one may wait for ever\n"
 
 abbrev pub definitions_line : List ℕ
 definitions_line = codes "a yes is carried by 948 lines of definitions, from the bytes of the source to its runs: docs/THEOREM.md\n"
-
--- ---- steps
-
--- variables that a step both reads and writes, that it reads alone, and that it writes alone are at most one access
-abbrev pub are_one : List ℕ → List ℕ → List ℕ → Bool
-are_one both reads writes = length both == 0 && nat_lt (length reads + length writes) 2
-
--- a way to use variables, where there are some
-abbrev pub access_part : List (List ℕ) → Bool → Access → List ℕ → List ℕ
-access_part names first way vars =
-    if length vars == 0 then [] else (if first then codes " " else codes "; ") & access_text way & names_text names [] vars
-
-abbrev pub accesses_text : List (List ℕ) → List ℕ → List ℕ → List ℕ → List ℕ
-accesses_text names both reads writes =
-    access_part names true access.ReadsAndWrites both
-    & access_part names (length both == 0) access.Reads reads
-    & access_part names (length both == 0 && length reads == 0) access.Writes writes
-
-abbrev pub idiom_name : Option Idiom → List ℕ
-idiom_name None = []
-idiom_name (Some idiom) = idiom_text idiom
-
--- the idiom of a step that reads and writes these variables and has no other access
-abbrev pub idiom_part : ℕ → List ℕ → List ℕ → List ℕ → Statement → List ℕ
-idiom_part n both reads writes stmt =
-    if length reads == 0 && length writes == 0 then idiom_name (idiom_of n both stmt) else []
 
 module _ (source : List ℕ) (rows : Rows) where
   -- WORD at LINE:COLUMN, of a template with the values of an instance
@@ -128,25 +88,7 @@ module _ (source : List ℕ) (rows : Rows) where
   subject_at what at = if is_of_all what then subject_text what else placed_text (subject_text what) at
 
   abbrev pub claim_line : Claim → List ℕ
-  claim_line c = if c.refuted then subject_at c.question.asked c.question.at & finding_text c.question.asked else []
-
-  -- ---- steps
-
-  module _ (names : List (List ℕ)) (n : ℕ) where
-    -- a step with these accesses, where they are more than one
-    abbrev pub accesses_line : Step → List ℕ → List ℕ → List ℕ → List ℕ
-    accesses_line step both reads writes =
-        if are_one both reads writes
-        then []
-        else placed_text (codes "step") step.at & accesses_text names both reads writes & idiom_part n both reads writes step.stmt & codes "\n"
-
-    -- one of these steps, by its accesses to variables below n
-    abbrev pub step_line : List Step → Step → List ℕ
-    step_line all step =
-        accesses_line step (accessed all n step access.ReadsAndWrites) (accessed all n step access.Reads) (accessed all n step access.Writes)
-
-    abbrev pub step_lines : List Step → List ℕ
-    step_lines all = flat_map (step_line all) all
+  claim_line c = if c.refuted then subject_at c.question.asked c.question.at & finding_text c.question.asked & codes "\n" else []
 
   -- ---- places that no state has together
 
@@ -179,12 +121,12 @@ module _ (source : List ℕ) (rows : Rows) (points : List Point) where
       then codes "never together: none found\n"
       else codes "never together:\n" & flat_map (block_line source rows points) (take 40 blocks) & more_text (length blocks)
 
-  -- where there are two processes or more; it is told where not all pairs were compared
+  -- where there are two processes or more; it is told where they have more pairs of places than are compared
   abbrev pub together_text : ℕ → List Block → Bool → List ℕ
-  together_text processes blocks cut =
+  together_text processes blocks many =
       if nat_lt processes 2
       then []
-      else table_text blocks & (if cut then codes " only the first 20000 pairs of places were compared\n" else [])
+      else table_text blocks & (if many then codes " only the first 20000 pairs of places were compared\n" else [])
 
 -- ---- all
 
@@ -196,11 +138,11 @@ claims_text o source rows claims =
     & flat_map (claim_line source rows) claims
 
 -- the lines that are about the outline
-abbrev pub findings_text : Program → List ℕ → Rows → List Claim → List Block → Bool → List ℕ
-findings_text o source rows claims blocks cut =
+abbrev pub findings_text : Program → List ℕ → Rows → List Claim → List Block → List ℕ
+findings_text o source rows claims blocks =
     claims_text o source rows claims
     & unused_lines o
-    & together_text source rows (points o) (length o.processes) blocks cut
+    & together_text source rows (points o) (length o.processes) blocks (are_many (points o))
     & step_lines source rows o.names o.vars (all_steps o)
 
 -- the auxiliaries by number
@@ -219,9 +161,9 @@ abbrev pub program_of : Program → List ℕ
 program_of o = program_text (readable (raw_of (erased o)))
 
 -- the notes on an outline of which this is found
-abbrev pub notes_text : Program → List ℕ → Rows → List Claim → List Block → Bool → List ℕ
-notes_text o source rows claims blocks cut =
-    findings_text o source rows claims blocks cut
+abbrev pub notes_text : Program → List ℕ → Rows → List Claim → List Block → List ℕ
+notes_text o source rows claims blocks =
+    findings_text o source rows claims blocks
     & hidden_lines source
     & (unblocked_line & definitions_line)
     & (auxiliaries_text o (auxiliaries o) & program_of o)

@@ -1,9 +1,10 @@
 -- Places of different processes that no state has together: mutual exclusion, as the assertions say it.
-use Rattle.std.specs.Prelude.{◌≡◌, ◌≢◌, ◌≤◌, ◌+◌, ℕ, List, [], ◌∷◌, All, Option, Some, None, slice_get}
+use Rattle.std.specs.Prelude.{◌≡◌, ◌≢◌, ◌≤◌, ◌+◌, ℕ, List, [], ◌∷◌, All, Bool, if◌then◌else◌, nat_lt, Option, Some, None, slice_get}
 use Rattle.og_typed.specs.declared.sites.Part.TheVariants as parts
 use Rattle.og_cond.specs.Condition.{Yes}
 use Rattle.og_command_notes.specs.Claims.{AreNeverTrue}
-use Rattle.og_command_notes.specs.Points.{Point}
+use Rattle.og_review_text.specs.Points.{Point}
+use Rattle.og_review_text.specs.Steps.{is_beside}
 use Rattle.og_command_notes.specs.declared.together.Block.{Block}
 use Rattle.og_command_notes.specs.declared.together.Span.{Span}
 
@@ -54,3 +55,33 @@ pub record JoinsRows (a b c : Block) : Type 0 where
   pub same : IsSameSpan a.columns b.columns
   pub next : a.rows.to + 1 ≡ b.rows.from
   pub joined : c ≡ down a b
+
+-- ---- how many are compared
+
+-- two places of different processes are one pair, and others none
+abbrev pub pair : Point → Point → ℕ
+pair p q = if is_beside p.part q.part then 1 else 0
+
+-- the pairs of a place with these ones
+abbrev pub pairs_with : Point → List Point → ℕ
+pairs_with p [] = 0
+pairs_with p (q ∷ qs) = pair p q + pairs_with p qs
+
+-- the pairs among these places
+abbrev pub pair_count : List Point → ℕ
+pair_count [] = 0
+pair_count (p ∷ ps) = pairs_with p ps + pair_count ps
+
+-- they are more than are compared
+abbrev pub are_many : List Point → Bool
+are_many ps = nat_lt 20000 (pair_count ps)
+
+-- the same of places that may be absent
+abbrev pub pair_in : Option Point → Option Point → ℕ
+pair_in None q = 0
+pair_in (Some p) None = 0
+pair_in (Some p) (Some q) = pair p q
+
+abbrev pub pairs_in : Option Point → List Point → ℕ
+pairs_in None qs = 0
+pairs_in (Some p) qs = pairs_with p qs

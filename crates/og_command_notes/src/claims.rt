@@ -7,13 +7,14 @@ ghost use Rattle.og_cond.specs.Valid.{IsValid};
 ghost use Rattle.og_typed.specs.Plain.{formula, sequence, statement};
 ghost use Rattle.og_typed.specs.Syntax.{last_of};
 ghost use Rattle.og_command_notes.specs.Claims.{AreNeverTrue, AreClaims, asked_of, end_question, point_questions, postcondition_questions, statement_questions};
-ghost use Rattle.og_command_notes.specs.Points as plain;
-ghost use Rattle.og_command_notes.specs.Seen.{claims_of, point_of, points_of, question, Gains};
+ghost use Rattle.og_review_text.specs.Points as plain;
+ghost use Rattle.og_review_text.specs.Seen.{point_of, points_of};
+ghost use Rattle.og_command_notes.specs.Seen.{claims_of, question, Gains};
 
-use crate::walk::Point;
 use og_cond::{Condition, Goal, Hypothesis, Kind, Part};
 use og_find::find;
 use og_io::Budget;
+use og_review_text::Point;
 use og_typed::{Assert, Outline, Seq, Stmt};
 use std::alloc::{AllocError, Global};
 

@@ -3,22 +3,17 @@
 //! text, and the program without its auxiliary variables.
 //!
 //! specs/Claims.antt says what may be claimed of no run, specs/Together.antt which places exclude
-//! each other, specs/Steps.antt how a step uses variables of other processes, specs/Idioms.antt
-//! which steps machines have, specs/Unused.antt which variables nothing assigns or reads,
-//! specs/Hidden.antt which characters may hide text, specs/Notes.antt the text, and specs/Noted.antt
-//! the promise of an answer.
+//! each other, specs/Notes.antt the text, specs/Noted.antt the promise of an answer, and
+//! specs/Remarks.antt what is claimed of no run, one by one.
 #![tactic(auto)]
 
 mod claims;
-mod hidden;
-mod idioms;
 mod laws;
 mod lines;
 mod notes;
-mod steps;
+mod remarking;
 mod together;
-mod unused;
-mod walk;
 
 pub use laws::notes_laws;
 pub use notes::noted;
+pub use remarking::{Remark, remarks};

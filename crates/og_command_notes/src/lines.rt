@@ -1,23 +1,21 @@
 //! The lines of the notes.
 
-ghost use Rattle.std.specs.Prelude.{◌≡◌, ◌++◌, flat_map, take, IfOk, OnOk, slice_get};
-ghost use Rattle.og_typed.specs.Plain.{noted, statement};
+ghost use Rattle.std.specs.Prelude.{◌≡◌, ◌++◌, flat_map, take, OnOk, slice_get};
+ghost use Rattle.og_typed.specs.Plain.{noted};
+ghost use Rattle.og_review_text.specs.Seen.{points_of};
 ghost use Rattle.og_command_notes.specs.Notes as line;
-ghost use Rattle.og_command_notes.specs.Seen.{claim_of, claims_of, points_of, step_of, steps_of, AreAccesses};
+ghost use Rattle.og_command_notes.specs.Seen.{claim_of, claims_of};
 
 use crate::claims::{Asked, Claim};
-use crate::idioms::{Idiom, idiom_of};
-use crate::steps::{Access, accessed};
 use crate::together::{Block, Span, Together};
-use crate::walk::{Point, Step};
-use og_report_text::{Origins, put_assertion, put_names, put_number_between};
-use og_text::Name;
-use og_typed::{Note, Outline, Stmt};
-use std::alloc::{AllocError, Global};
+use og_report_text::{Origins, put_assertion, put_number_between};
+use og_review_text::Point;
+use og_typed::{Note, Outline};
+use std::alloc::AllocError;
 
 impl Asked {
-    // What it is asked of.
-    fn subject(self) -> &'static str
+    /// What it is asked of.
+    pub(crate) fn subject(self) -> &'static str
         ensures { result.now ≡ line.subject_text self }
     {
         match self {
@@ -32,21 +30,21 @@ impl Asked {
         }
     }
 
-    // What is so of it.
-    fn finding(self) -> &'static str
+    /// What is so of it.
+    pub(crate) fn finding(self) -> &'static str
         ensures { result.now ≡ line.finding_text self }
     {
         match self {
-            Asked::Precondition => " is never true\n",
-            Asked::Assertion => " is never true: nothing is claimed behind it\n",
-            Asked::Falsity => " is false: the step before it is never made\n",
-            Asked::LoopEntered => " is never entered\n",
-            Asked::LoopLeft => " is never left\n",
-            Asked::BranchTaken | Asked::ElseTaken => " is never taken\n",
-            Asked::AwaitPassed => " never passes\n",
-            Asked::AllEnded => " never all end: nothing is claimed of the postcondition\n",
-            Asked::Postcondition => " is never true: it is claimed that no run ends\n",
-            Asked::PostconditionFalse => " is always true\n",
+            Asked::Precondition => " is never true",
+            Asked::Assertion => " is never true: nothing is claimed behind it",
+            Asked::Falsity => " is false: the step before it is never made",
+            Asked::LoopEntered => " is never entered",
+            Asked::LoopLeft => " is never left",
+            Asked::BranchTaken | Asked::ElseTaken => " is never taken",
+            Asked::AwaitPassed => " never passes",
+            Asked::AllEnded => " never all end: nothing is claimed of the postcondition",
+            Asked::Postcondition => " is never true: it is claimed that no run ends",
+            Asked::PostconditionFalse => " is always true",
         }
     }
 
@@ -55,33 +53,6 @@ impl Asked {
         ensures { result ≡ line.is_of_all self }
     {
         matches!(self, Asked::AllEnded)
-    }
-}
-
-impl Idiom {
-    // Its name, in parentheses.
-    fn name(self) -> &'static str
-        ensures { result.now ≡ line.idiom_text self }
-    {
-        match self {
-            Idiom::FetchAndAdd => " (fetch and add)",
-            Idiom::TestAndSet => " (test and set)",
-            Idiom::Swap => " (swap)",
-            Idiom::CompareAndSwap => " (compare and swap)",
-        }
-    }
-}
-
-impl Access {
-    // The word for it.
-    fn word(self) -> &'static str
-        ensures { result.now ≡ line.access_text self }
-    {
-        match self {
-            Access::ReadsAndWrites => "reads and writes ",
-            Access::Reads => "reads ",
-            Access::Writes => "writes ",
-        }
     }
 }
 
@@ -141,7 +112,8 @@ fn put_claim(text: &mut Vec<u8>, origins: &Origins, claim: &Claim) -> Result<(),
         return Ok(());
     }
     put_subject(text, origins, claim.asked, claim.at)?;
-    text.extend_from_slice(claim.asked.finding().as_bytes())
+    text.extend_from_slice(claim.asked.finding().as_bytes())?;
+    text.extend_from_slice(b"\n")
 }
 
 /// Adds a line for each that was found to be so in no state to the text.
@@ -156,144 +128,6 @@ pub(crate) fn put_claims(
 {
     for claim in claims {
         put_claim(text, origins, claim)?;
-    }
-    Ok(())
-}
-
-// ---- steps
-
-/// The variables that other processes use and a step both reads and writes, reads alone, and writes
-/// alone.
-#[derive(Debug, Drop)]
-struct Accesses {
-    both: Vec<u32>,
-    reads: Vec<u32>,
-    writes: Vec<u32>,
-}
-
-impl Accesses {
-    // Whether they are at most one access: a read, or a write.
-    fn are_one(&self) -> bool
-        ensures { result ≡ line.are_one self.now.both.items self.now.reads.items self.now.writes.items }
-    {
-        self.both.is_empty() && self.reads.len() + self.writes.len() < 2
-    }
-}
-
-// What is done with variables, behind what was told before.
-fn put_access(
-    text: &mut Vec<u8>,
-    names: &[Name],
-    is_first: bool,
-    access: Access,
-    vars: &[u32],
-) -> Result<(), AllocError>
-    ensures { OnOk result (text.new.items ≡ text.old.items
-        ++ line.access_part names.now is_first access vars.now) }
-{
-    if vars.is_empty() {
-        return Ok(());
-    }
-    if is_first {
-        text.extend_from_slice(b" ")?;
-    } else {
-        text.extend_from_slice(b"; ")?;
-    }
-    text.extend_from_slice(access.word().as_bytes())?;
-    put_names(text, names, vars)
-}
-
-// What is done with all variables.
-fn put_accesses(text: &mut Vec<u8>, names: &[Name], accesses: &Accesses) -> Result<(), AllocError>
-    ensures { OnOk result (text.new.items ≡ text.old.items ++ line.accesses_text names.now
-        accesses.now.both.items accesses.now.reads.items accesses.now.writes.items) }
-{
-    let is_first = accesses.both.is_empty();
-    let are_first = is_first && accesses.reads.is_empty();
-    put_access(text, names, true, Access::ReadsAndWrites, &accesses.both)?;
-    put_access(text, names, is_first, Access::Reads, &accesses.reads)?;
-    put_access(text, names, are_first, Access::Writes, &accesses.writes)
-}
-
-// The name of the idiom that a step is, where it is one.
-fn put_idiom(
-    text: &mut Vec<u8>,
-    vars: u32,
-    accesses: &Accesses,
-    stmt: &Stmt,
-) -> Result<(), AllocError>
-    ensures { OnOk result (text.new.items ≡ text.old.items ++ line.idiom_part vars
-        accesses.now.both.items accesses.now.reads.items accesses.now.writes.items
-        (statement stmt.now)) }
-{
-    if !(accesses.reads.is_empty() && accesses.writes.is_empty()) {
-        return Ok(());
-    }
-    match idiom_of(*text.allocator(), vars, &accesses.both, stmt)? {
-        Some(idiom) => text.extend_from_slice(idiom.name().as_bytes()),
-        None => Ok(()),
-    }
-}
-
-// The line of a step with these accesses, where they are more than one.
-fn put_step(
-    text: &mut Vec<u8>,
-    origins: &Origins,
-    outline: &Outline,
-    step: &Step,
-    accesses: &Accesses,
-) -> Result<(), AllocError>
-    requires { origins.now.places.now ≡ origins.now.source.now }
-    ensures { OnOk result (text.new.items ≡ text.old.items ++ line.accesses_line
-        origins.now.source.now origins.now.rows outline.now.names outline.now.vars
-        (step_of step.now)
-        accesses.now.both.items accesses.now.reads.items accesses.now.writes.items) }
-{
-    if accesses.are_one() {
-        return Ok(());
-    }
-    put_placed(text, origins, "step", step.item.at)?;
-    put_accesses(text, outline.names(), accesses)?;
-    put_idiom(text, outline.vars(), accesses, &step.item.stmt)?;
-    text.extend_from_slice(b"\n")
-}
-
-// The accesses of a step.
-fn accesses_of(
-    alloc: Global,
-    steps: &[Step],
-    step: &Step,
-    vars: u32,
-) -> Result<Accesses, AllocError>
-    ensures { IfOk result (AreAccesses (steps_of steps.now) vars (step_of step.now)) }
-{
-    let both = accessed(alloc, steps, step, Access::ReadsAndWrites, vars)?;
-    let reads = accessed(alloc, steps, step, Access::Reads, vars)?;
-    let writes = accessed(alloc, steps, step, Access::Writes, vars)?;
-    Ok(Accesses {
-        both,
-        reads,
-        writes,
-    })
-}
-
-/// Adds a line to the text for each step that makes more than one access to variables which other
-/// processes use.
-pub(crate) fn put_steps(
-    text: &mut Vec<u8>,
-    origins: &Origins,
-    outline: &Outline,
-    steps: &[Step],
-) -> Result<(), AllocError>
-    requires { origins.now.places.now ≡ origins.now.source.now }
-    ensures { OnOk result (text.new.items ≡ text.old.items
-        ++ line.step_lines origins.now.source.now origins.now.rows outline.now.names
-        outline.now.vars (steps_of steps.now)) }
-{
-    let alloc = *text.allocator();
-    for step in steps {
-        let accesses = accesses_of(alloc, steps, step, outline.vars())?;
-        put_step(text, origins, outline, step, &accesses)?;
     }
     Ok(())
 }

@@ -7,20 +7,18 @@ ghost use Rattle.og_command_notes.specs.Notes as wanted;
 ghost use Rattle.og_command_notes.specs.Seen.{claims_of};
 
 use crate::claims::{Claim, Search, claims_of};
-use crate::hidden::put_all_hidden;
-use crate::lines::{put_assertion_line, put_claims, put_steps, put_together};
+use crate::lines::{put_assertion_line, put_claims, put_together};
 use crate::together::{Together, compared};
-use crate::unused::put_unused;
-use crate::walk::{Walk, walk_of};
 use og_erase::erase;
 use og_erase_readable::print_readable;
 use og_io::Budget;
 use og_report_text::{Answer, Origins, Places, Subject, put_names};
+use og_review_text::{Walk, put_hidden_lines, put_steps, put_unused, walk_of};
 use og_typed::Outline;
 use std::alloc::{AllocError, Global};
 
 // The auxiliary variables by number.
-#[tactic(auto, using(crate::proofs::Ranges::range_next, crate::proofs::Ranges::range_done))]
+#[tactic(auto, using(og_review_text::proofs::Ranges::range_next, og_review_text::proofs::Ranges::range_done))]
 fn auxiliaries(alloc: Global, outline: &Outline) -> Result<Vec<u32>, AllocError>
     ensures { IfOk result (λ v. v.items ≡ wanted.auxiliaries outline.now) }
 {
@@ -137,7 +135,7 @@ fn put_findings(
     requires places { origins.now.places.now ≡ origins.now.source.now }
     ensures { OnOk result (text.new.items ≡ text.old.items ++ wanted.findings_text outline.now
         origins.now.source.now origins.now.rows (claims_of found.now.claims.items)
-        found.now.together.blocks.items found.now.together.is_cut) }
+        found.now.together.blocks.items) }
 {
     let processes = outline.processes().len();
     put_claimed(text, outline, origins, &found.claims)?;
@@ -164,10 +162,10 @@ fn put_notes(
     requires short { length origins.now.source.now ≤ 2 ^ 20 }
     ensures { OnOk result (text.new.items ≡ text.old.items ++ wanted.notes_text outline.now
         origins.now.source.now origins.now.rows (claims_of found.now.claims.items)
-        found.now.together.blocks.items found.now.together.is_cut) }
+        found.now.together.blocks.items) }
 {
     put_findings(text, outline, origins, found)?;
-    put_all_hidden(text, origins.places, origins.source)?;
+    put_hidden_lines(text, origins.places, origins.source)?;
     put_meaning(text)?;
     put_program(text, outline)
 }

@@ -1,16 +1,17 @@
 //! Places of different processes that no state has together.
 
-ghost use Rattle.std.specs.Prelude.{◌≡◌, ◌≢◌, ◌↔◌, ◌+◌, ◌<◌, [], ◌∷◌, true, IfOk, IfSome, IsTrue, OnOk, length, slice_index_or};
+ghost use Rattle.std.specs.Prelude.{◌≡◌, ◌≢◌, ◌↔◌, ◌+◌, ◌-◌, ◌<◌, [], ◌∷◌, true, drop, is_some, IfOk, IfSome, IsTrue, OnOk, length, slice_get, slice_index_or};
 ghost use Rattle.og_cond.specs.Condition.{Yes};
 ghost use Rattle.og_typed.specs.Plain.{formula};
 ghost use Rattle.og_typed.specs.declared.sites.Part.TheVariants as parts;
 ghost use Rattle.og_command_notes.specs.Claims.{AreNeverTrue};
-ghost use Rattle.og_command_notes.specs.Seen.{point_of, points_of};
-ghost use Rattle.og_command_notes.specs.Together.{AreApart, AreBlocks, IsBlock, IsSameSpan, JoinsColumns, JoinsRows};
+ghost use Rattle.og_review_text.specs.Seen.{point_of, points_of};
+ghost use Rattle.og_review_text.specs.Steps.{is_beside};
+ghost use Rattle.og_command_notes.specs.Together.{AreApart, AreBlocks, IsBlock, IsSameSpan, JoinsColumns, JoinsRows, are_many, pair, pair_in, pairs_in};
 
 use crate::claims::{Search, is_refuted};
-use crate::walk::Point;
 use og_cond::Part as Fact;
+use og_review_text::Point;
 use og_typed::{Assert, Part};
 use std::alloc::AllocError;
 
@@ -38,17 +39,15 @@ const PAIRS: u32 = 20_000;
 #[derive(Drop)]
 struct Pairs {
     search: Search,
-    // How many more may be asked.
+    // How many more may come. All but the last one are compared, which shows that there are more.
     left: u32,
-    // Whether one was left out for it.
-    is_cut: bool,
 }
 
 /// What is found.
 #[derive(Debug, Drop)]
 pub(crate) struct Together {
     pub(crate) blocks: Vec<Block>,
-    /// Whether some pairs of places were not compared, for there are too many.
+    /// Whether there are more pairs of places than are compared.
     pub(crate) is_cut: bool,
 }
 
@@ -85,7 +84,8 @@ fn contradict(search: Search, one: &Assert, other: &Assert) -> Result<bool, Allo
 
 // The numbers of the processes of two places, where they are different ones.
 fn numbers(one: &Point, other: &Point) -> Option<(u32, u32)>
-    ensures { IfSome result (λ n. (one.now.part ≡ parts.Process n.0)
+    ensures counted { is_some result ≡ is_beside one.now.part other.now.part }
+    ensures numbers { IfSome result (λ n. (one.now.part ≡ parts.Process n.0)
         × (other.now.part ≡ parts.Process n.1) × (n.0 ≢ n.1)) }
 {
     match (one.part, other.part) {
@@ -98,19 +98,20 @@ impl Pairs {
     // The numbers of the processes of two places, where they are different ones and the assertions
     // are found to contradict each other.
     fn compare(&mut self, one: &Point, other: &Point) -> Result<Option<(u32, u32)>, AllocError>
-        ensures { IfOk result (λ found. IfSome found (λ n.
+        ensures apart { IfOk result (λ found. IfSome found (λ n.
             AreApart n.0 n.1 (point_of one.now) (point_of other.now))) }
+        ensures counted { OnOk result (self.new.left
+            ≡ self.old.left - pair (point_of one.now) (point_of other.now)) }
     {
-        let Some(pair) = numbers(one, other) else {
+        let Some(numbers) = numbers(one, other) else {
             return Ok(None);
         };
+        self.left = self.left.saturating_sub(1);
         if self.left == 0 {
-            self.is_cut = true;
             return Ok(None);
         }
-        self.left -= 1;
         if contradict(self.search, &one.note.assertion, &other.note.assertion)? {
-            Ok(Some(pair))
+            Ok(Some(numbers))
         } else {
             Ok(None)
         }
@@ -209,7 +210,9 @@ fn block_of(
 ) -> Result<Option<Block>, AllocError>
     requires row { row < length points.now }
     requires column { column < length points.now }
-    ensures { IfOk result (λ found. IfSome found (IsBlock (points_of points.now))) }
+    ensures block { IfOk result (λ found. IfSome found (IsBlock (points_of points.now))) }
+    ensures counted { OnOk result (pairs.new.left ≡ pairs.old.left
+        - pair_in (slice_get (points_of points.now) row) (slice_get (points_of points.now) column)) }
 {
     match pairs.compare(&points[row], &points[column])? {
         Some((one, other)) => Ok(Some(Block {
@@ -225,22 +228,19 @@ fn block_of(
     }
 }
 
-// The blocks of a place with those from another one on.
-fn row_of(
-    pairs: &mut Pairs,
-    points: &[Point],
-    index: usize,
-    start: usize,
-) -> Result<Vec<Block>, AllocError>
+// The blocks of a place with those behind it.
+fn row_of(pairs: &mut Pairs, points: &[Point], index: usize) -> Result<Vec<Block>, AllocError>
     requires { index < length points.now }
-    ensures { IfOk result (λ row. AreBlocks (points_of points.now) row.items) }
+    ensures blocks { IfOk result (λ row. AreBlocks (points_of points.now) row.items) }
+    ensures counted { OnOk result (pairs.new.left ≡ pairs.old.left
+        - pairs_in (slice_get (points_of points.now) index) (drop (index + 1) (points_of points.now))) }
 {
     let mut row = Vec::new(pairs.search.alloc());
-    for column in start..points.len() {
+    for column in index + 1..points.len() {
         if let Some(block) = block_of(pairs, points, index, column)? {
             add_column(&mut row, points, block)?;
         }
-        if pairs.is_cut {
+        if pairs.left == 0 {
             break;
         }
     }
@@ -276,47 +276,30 @@ fn add_row(blocks: &mut Vec<Block>, points: &[Point], row: &[Block]) -> Result<(
     Ok(())
 }
 
-// Where the next part begins behind a place.
-fn next_part(points: &[Point], index: usize) -> usize
-    requires { index < length points.now }
-{
-    let part = points[index].part;
-    for later in index..points.len() {
-        if points[later].part != part {
-            return later;
-        }
-    }
-    points.len()
-}
-
 /// Places of different processes whose assertions are found to contradict each other, among the
-/// first pairs in text order.
+/// first pairs in text order, and whether there are more pairs than these.
 ///
 /// # Errors
 ///
 /// An allocation was refused.
 pub(crate) fn compared(search: Search, points: &[Point]) -> Result<Together, AllocError>
-    ensures { IfOk result (λ t. AreBlocks (points_of points.now) t.blocks.items) }
+    ensures blocks { IfOk result (λ t. AreBlocks (points_of points.now) t.blocks.items) }
+    ensures counted { IfOk result (λ t. t.is_cut ≡ are_many (points_of points.now)) }
 {
     let mut pairs = Pairs {
         search,
-        left: PAIRS,
-        is_cut: false,
+        left: PAIRS + 1,
     };
     let mut blocks = Vec::new(search.alloc());
-    let mut start = 0;
     for index in 0..points.len() {
-        if start <= index {
-            start = next_part(points, index);
-        }
-        let row = row_of(&mut pairs, points, index, start)?;
+        let row = row_of(&mut pairs, points, index)?;
         add_row(&mut blocks, points, &row)?;
-        if pairs.is_cut {
+        if pairs.left == 0 {
             break;
         }
     }
     Ok(Together {
         blocks,
-        is_cut: pairs.is_cut,
+        is_cut: pairs.left == 0,
     })
 }

@@ -1,5 +1,7 @@
+pub mod Concluded
 pub mod Lists
 pub mod Refusals
+pub mod Reaches
 pub mod Rows
 pub mod Tables
 pub mod Texts

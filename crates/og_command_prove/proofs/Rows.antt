@@ -1,26 +1,22 @@
 -- Rows of findings.
-use Rattle.std.proofs.Common.{◌≡◌, ℕ, ◌<◌, ℤ, List, [], ◌∷◌, ◌++◌, length, map, refl, sym, ap, subst, Option, Some, None, Bor, option_map, IfSome, ◌∙◌}
+use Rattle.std.proofs.Common.{◌≡◌, ℕ, suc, ℤ, List, [], ◌∷◌, ◌++◌, length, map, Bool, true, false, true≢false, ◌||◌, refl, sym, ap, subst, Option, Some, None, Bor, option_map, IfSome, ◌∙◌}
 use Rattle.std.specs.Prelude.{All, IsSomeAnd, slice_get}
 use Rattle.std.proofs.lemmas.Option.{slice_get-map}
 use Rattle.og_typed.specs.Syntax.{Program}
 use Rattle.og_cond.specs.Condition.{Condition}
 use Rattle.og_cond.specs.Seen.{seen}
-use Rattle.og_find.specs.Found.{IsVerdict}
+use Rattle.og_find.specs.Found.{IsFalseAt, IsVerdict}
 use Rattle.og_find.specs.declared.verdict.Verdict.{Verdict}
-use Rattle.og_find.specs.declared.verdict.Verdict.TheVariants as verdicts
 use Rattle.og_find_all.specs.Findings.{AreVerdicts, verdict_of}
 use Rattle.og_find_all.specs.declared.findings.Findings.{Findings}
-use Rattle.og_explore.proofs.Seen.{there_is}
 use Rattle.std.proofs.lemmas.List.Elements.{All-head, All-tail}
 use Rattle.og_report_prove.specs.Diagnosis.{IsDiagnosis, AreDiagnoses}
-use Rattle.og_command_prove.specs.Found.{Starts, conditions_in, diagnoses_in, HasFalse, IsFound, IsExplored, IsNothing}
-use Rattle.og_report_runs.specs.declared.lines.Explored.{Explored}
+use Rattle.og_report_prove.specs.Report.{is_false}
+use Rattle.og_report_prove.specs.declared.diagnosis.Diagnosis.{Diagnosis}
+use Rattle.og_report_prove.specs.declared.diagnosis.Diagnosis.TheVariants as diagnosis
+use Rattle.og_report_findings.specs.Verdicts.{has_false}
+use Rattle.og_command_prove.specs.Found.{Starts, conditions_in, diagnoses_in, HasFalse, IsFound}
 use Rattle.og_command_prove.specs.declared.finding.Finding.{Finding}
-
--- a state that was found
-pub false_at : (cs : List Condition) (f : Findings) (i : ℕ) (s : List ℤ) → AreVerdicts cs f → i < length cs → verdict_of f i ≡ Some (verdicts.False s) → HasFalse cs
-false_at cs f i s all lt found =
-    let c = there_is cs i lt in (i, c.0, s, c.1, subst (λ v. IsSomeAnd v (IsVerdict c.0)) found (all.1 i c.0 c.1))
 
 -- ---- one after another
 
@@ -46,8 +42,26 @@ pub are_diagnosed : (o : Program) (lists : Option Starts) (fs : List Finding) �
 are_diagnosed o lists [] h = tt
 are_diagnosed o lists (f ∷ fs) h = (diagnosis_of o lists f (All-head (IsFound o lists) f fs h), are_diagnosed o lists fs (All-tail (IsFound o lists) f fs h))
 
--- ---- how far runs were followed
+-- ---- a false condition
 
-pub not_followed : (o : Program) (cs : List Condition) (e : Option Explored) → IfSome e IsNothing → IsExplored o cs None e
-not_followed o cs None h = tt
-not_followed o cs (Some e) h = h
+false_diagnosis : (o : Program) (f : Finding) → IsFound o None f → is_false f.diagnosis ≡ true → (s : List ℤ) × IsFalseAt (seen f.condition) s
+false_diagnosis o f h is = from f.diagnosis h.0 is
+  where
+    from : (t : Diagnosis) → IsDiagnosis o (seen f.condition) t → is_false t ≡ true → (s : List ℤ) × IsFalseAt (seen f.condition) s
+    from diagnosis.Proved d e = absurd (true≢false (sym e))
+    from (diagnosis.False block) d e = (block.values, d.is_false)
+    from diagnosis.Open d e = absurd (true≢false (sym e))
+
+false_later : (cs : List Condition) (c : Condition) → HasFalse cs → HasFalse (c ∷ cs)
+false_later cs c h = (suc h.0, h.1, h.2, h.3, h.4)
+
+-- where one of the rows is false, the condition is
+pub has_false_row : (o : Program) (fs : List Finding) → All (IsFound o None) fs → has_false (diagnoses_in fs) ≡ true → HasFalse (conditions_in fs)
+has_false_row o [] all is = absurd (true≢false (sym is))
+has_false_row o (f ∷ fs) all is = from (is_false f.diagnosis) refl is (has_false_row o fs (All-tail (IsFound o None) f fs all))
+  where
+    from : (b : Bool) → is_false f.diagnosis ≡ b → (b || has_false (diagnoses_in fs)) ≡ true
+        → (has_false (diagnoses_in fs) ≡ true → HasFalse (conditions_in fs)) → HasFalse (conditions_in (f ∷ fs))
+    from true e h later =
+        let s = false_diagnosis o f (All-head (IsFound o None) f fs all) e in (0, seen f.condition, s.0, refl, s.1)
+    from false e h later = false_later (conditions_in fs) (seen f.condition) (later h)

@@ -1,5 +1,6 @@
 -- What is answered for an outline, and what its status says.
-use Rattle.std.specs.Prelude.{◌≡◌, ◌≤◌, ℕ, Bool, true, if◌then◌else◌, List, length, Option, is_some}
+use Rattle.std.specs.Prelude.{◌≡◌, ◌≤◌, ℕ, Bool, true, if◌then◌else◌, List, length, Option, Vec}
+use Rattle.std.specs.Global.{Global}
 use Rattle.og_typed.specs.Erase.{erased}
 use Rattle.og_cond.specs.Conditions.{conditions}
 use Rattle.og_cond.specs.Limits.{condition_limit}
@@ -9,8 +10,12 @@ use Rattle.og_report_runs.specs.declared.lines.Explored.{Explored}
 use Rattle.og_report_text.specs.declared.answer.Answer.{Answer}
 use Rattle.og_theorem.specs.NeverStuck.{IsNeverStuck}
 use Rattle.og_theorem.specs.Sound.{IsSound, IsSoundErased}
-use Rattle.og_command_prove.specs.Found.{diagnoses_in, AreFound}
-use Rattle.og_command_prove.specs.Printed.{IsPrinted, SaysUnblockedIn}
+use Rattle.og_report_findings.specs.Verdicts.{concluded}
+use Rattle.og_report_findings.specs.declared.suggestion.Suggestion.{Suggestion}
+use Rattle.og_command_prove.specs.Advice.{AreAdvised, HasAdvice}
+use Rattle.og_command_prove.specs.Concluded.{IsConcluded}
+use Rattle.og_command_prove.specs.Found.{diagnoses_in, IsAsked, AreFound}
+use Rattle.og_command_prove.specs.Printed.{IsPrinted, SaysNeverStuckIn}
 use Rattle.og_report_text.specs.Subject.{Subject}
 use Rattle.og_command_prove.specs.Table.{columns_in}
 use Rattle.og_command_prove.specs.declared.finding.Finding.{Finding}
@@ -20,15 +25,18 @@ use Rattle.og_command_prove.specs.declared.form.ReportForm.{ReportForm}
 abbrev pub status_of : List Diagnosis → ℕ
 status_of ts = if is_safe ts then 0 else 1
 
--- the findings on all conditions, in a form, with runs or without
+-- the findings on all conditions, in a form, with the runs to false ones or without
 pub record IsReported (form : ReportForm) (runs : Bool) (s : Subject)
     (answer : Answer) : Type 0 where
   pub few : length (conditions s.outline) ≤ condition_limit
   pub findings : List Finding
   pub explored : Option Explored
-  pub asked : is_some explored ≡ runs
+  pub asked : IsAsked runs (diagnoses_in findings) explored
   pub found : AreFound s.outline (conditions s.outline) findings explored
-  pub printed : IsPrinted form s (columns_in findings explored) answer.text.items
+  pub advice : List (Vec Suggestion Global)
+  pub advised : AreAdvised findings advice
+  pub in_form : HasAdvice form advice
+  pub printed : IsPrinted form s (columns_in findings explored advice) answer.text.items
   pub status : answer.status ≡ status_of (diagnoses_in findings)
   -- with status 0 every run of the outline is as promised
   pub sound : answer.status ≡ 0 → IsSound s.outline × IsSoundErased s.outline
@@ -36,4 +44,6 @@ pub record IsReported (form : ReportForm) (runs : Bool) (s : Subject)
   pub unblocked : answer.status ≡ 0 → is_unblocked (diagnoses_in findings) ≡ true
       → IsNeverStuck s.outline × IsNeverStuck (erased s.outline)
   -- as it is where the text says so
-  pub says : SaysUnblockedIn runs form answer.text.items → is_unblocked (diagnoses_in findings) ≡ true
+  pub says : SaysNeverStuckIn form answer.text.items → is_unblocked (diagnoses_in findings) ≡ true
+  -- and what the verdict says is so
+  pub verdict : IsConcluded s.outline found.lists (concluded (diagnoses_in findings) explored)

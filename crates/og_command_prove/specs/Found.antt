@@ -1,11 +1,12 @@
 -- What is found of the conditions of an outline, one row for each, and how far runs were followed.
-use Rattle.std.specs.Prelude.{◌≡◌, ℕ, ◌+◌, ◌*◌, ◌^◌, ◌≤◌, ℤ, true, false, List, length, map, slice_get, All, Option, Some, None, ⊤}
+use Rattle.std.specs.Prelude.{◌≡◌, ℕ, ◌+◌, ◌*◌, ◌^◌, ◌≤◌, ℤ, Bool, true, List, length, map, slice_get, All, Option, Some, None, is_some, ⊤}
 use Rattle.og_typed.specs.Syntax.{Program}
 use Rattle.og_typed.specs.Machine.{Moment}
 use Rattle.og_cond.specs.Condition.{Condition}
 use Rattle.og_cond.specs.Seen.{seen}
 use Rattle.og_explore.specs.Seen.{IsKnown}
-use Rattle.og_explore.specs.From.{IsReachedFrom}
+use Rattle.og_explore.specs.From.{IsFrom, IsReachedFrom}
+use Rattle.og_explore.specs.Safety.{IsSafeFrom}
 use Rattle.og_find.specs.Found.{IsFalseAt}
 use Rattle.og_report_prove.specs.Diagnosis.{IsDiagnosis, IsAllowed}
 use Rattle.og_report_prove.specs.declared.diagnosis.Diagnosis.{Diagnosis}
@@ -14,6 +15,10 @@ use Rattle.og_report_runs.specs.RunDiagnosis.{IsDiagnosisBy}
 use Rattle.og_report_runs.specs.declared.lines.Explored.{Explored}
 use Rattle.og_report_runs.specs.declared.witness.Run.{Run}
 use Rattle.og_report_runs.specs.declared.witness.Run.TheVariants as run
+use Rattle.og_report_findings.specs.Verdicts.{has_false}
+use Rattle.og_violation.specs.Violations.{IsViolation}
+use Rattle.og_violation.specs.declared.violation.Violation.{Violation}
+use Rattle.og_violation.specs.declared.violation.Wrong.{Wrong}
 use Rattle.og_command_prove.specs.declared.finding.Finding.{Finding}
 
 -- ---- the columns of rows
@@ -62,26 +67,32 @@ HasFalse cs = (i : ℕ) × (c : Condition) × (s : List ℤ) × (slice_get cs i 
 abbrev pub most_steps : ℕ
 most_steps = 2 * 10 ^ 6
 
--- nothing was looked at
-abbrev pub IsNothing : Explored → Type 0
-IsNothing e = (e.starts ≡ 0) × (e.moments ≡ 0) × (e.complete ≡ false)
+-- this is wrong at the end of a run from one of the starts
+abbrev pub IsWrongIn : Program → Starts → Option Wrong → Type 0
+IsWrongIn o lists None = ⊤
+IsWrongIn o lists (Some wrong) = (v : Violation) × IsViolation o v × IsFrom lists v.values × (v.wrong ≡ wrong)
 
 -- runs from the starts within the lists were followed
-pub record IsFollowed (o : Program) (cs : List Condition) (lists : Starts)
-    (e : Explored) : Type 0 where
-  -- only where a condition is false
-  pub needed : HasFalse cs
+pub record IsReach (o : Program) (lists : Starts) (e : Explored) : Type 0 where
   pub all : e.complete ≡ true
       → (keys : List (List ℤ)) × (e.moments ≡ length keys) × AreAll o lists keys
   -- each moment but the starts is that of a step, and no more are tried
   pub few : e.moments ≤ e.starts + most_steps
+  pub wrong : IsWrongIn o lists e.wrong
+  -- where all were and nothing is wrong, nothing is at any moment of any run
+  pub safe : e.complete ≡ true → e.wrong ≡ None → IsSafeFrom o lists
 
--- no runs were asked for; or some were, and were followed, or none was needed
+-- they were, but only where a condition is false
 abbrev pub IsExplored : Program → List Condition → Option Starts → Option Explored → Type 0
 IsExplored o cs None None = ⊤
-IsExplored o cs None (Some e) = IsNothing e
+IsExplored o cs None (Some e) = ⊥
 IsExplored o cs (Some lists) None = ⊥
-IsExplored o cs (Some lists) (Some e) = IsFollowed o cs lists e
+IsExplored o cs (Some lists) (Some e) = HasFalse cs × IsReach o lists e
+
+-- runs were followed only where they are asked for, and then wherever a condition is false
+pub record IsAsked (runs : Bool) (ts : List Diagnosis) (e : Option Explored) : Type 0 where
+  pub asked : is_some e ≡ true → runs ≡ true
+  pub looked : runs ≡ true → has_false ts ≡ true → is_some e ≡ true
 
 -- ---- all of it
 

@@ -1,4 +1,6 @@
+pub mod Advice
 pub mod Answer
+pub mod Concluded
 pub mod Found
 pub mod Moments
 pub mod Printed

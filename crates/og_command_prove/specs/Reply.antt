@@ -9,7 +9,7 @@ use Rattle.og_report_text.specs.declared.answer.Answer.{Answer}
 use Rattle.og_command_explore.specs.declared.exploring.Reply.{Reply}
 use Rattle.og_command_explore.specs.declared.exploring.Reply.TheVariants as replies
 use Rattle.og_command_prove.specs.Answer.{IsReported}
-use Rattle.og_command_prove.specs.Printed.{SaysUnblockedIn}
+use Rattle.og_command_prove.specs.Printed.{SaysNeverStuckIn}
 use Rattle.og_command_prove.specs.declared.form.ReportForm.{ReportForm}
 
 -- the findings on the outline; or, with runs, one of the words, which gives no variable a range
@@ -17,14 +17,14 @@ abbrev pub IsReply : ReportForm → Bool → Subject → List (List ℕ) → Rep
 IsReply form runs s starts (replies.Answer a) = IsReported form runs s a
 IsReply form runs s starts (replies.BadValue word) = Contains starts word.now × (runs ≡ true)
 
--- status 0 says that every run is as promised, and a text that says then that the outline is
--- unblocked, that none gets stuck
-abbrev pub WarrantsAnswer : ReportForm → Bool → Program → Answer → Type 0
-WarrantsAnswer form runs o a =
+-- status 0 says that every run is as promised, and a text with the verdict that none gets stuck, that
+-- none does
+abbrev pub WarrantsAnswer : ReportForm → Program → Answer → Type 0
+WarrantsAnswer form o a =
     (a.status ≡ 0 → IsSound o × IsSoundErased o)
-    × (a.status ≡ 0 → SaysUnblockedIn runs form a.text.items
+    × (a.status ≡ 0 → SaysNeverStuckIn form a.text.items
     → IsNeverStuck o × IsNeverStuck (erased o))
 
-abbrev pub Warrants : ReportForm → Bool → Program → Reply → Type 0
-Warrants form runs o (replies.Answer a) = WarrantsAnswer form runs o a
-Warrants form runs o (replies.BadValue word) = ⊤
+abbrev pub Warrants : ReportForm → Program → Reply → Type 0
+Warrants form o (replies.Answer a) = WarrantsAnswer form o a
+Warrants form o (replies.BadValue word) = ⊤

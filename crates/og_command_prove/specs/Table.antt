@@ -1,10 +1,12 @@
 -- Findings by columns.
-use Rattle.std.specs.Prelude.{◌≡◌, ◌<◌, ◌^◌, List, map, length, Option}
+use Rattle.std.specs.Prelude.{◌≡◌, ◌<◌, ◌^◌, List, map, length, Option, Vec}
+use Rattle.std.specs.Global.{Global}
 use Rattle.og_cond.specs.Condition.{Condition}
 use Rattle.og_cond.specs.Seen.{seen}
 use Rattle.og_report_prove.specs.declared.diagnosis.Diagnosis.{Diagnosis}
 use Rattle.og_report_runs.specs.declared.lines.Explored.{Explored}
 use Rattle.og_report_runs.specs.declared.witness.Run.{Run}
+use Rattle.og_report_findings.specs.declared.suggestion.Suggestion.{Suggestion}
 use Rattle.og_command_prove.specs.Found.{conditions_in, diagnoses_in, runs_in}
 use Rattle.og_command_prove.specs.declared.finding.Finding.{Finding}
 use Rattle.og_command_prove.specs.declared.finding.Table.{Table}
@@ -15,13 +17,16 @@ pub record Columns : Type 0 where
   pub diagnoses : List Diagnosis
   pub runs : List Run
   pub explored : Option Explored
+  -- what a text suggests below each false one
+  pub advice : List (Vec Suggestion Global)
 
-abbrev pub columns_in : List Finding → Option Explored → Columns
-columns_in fs e = record {
+abbrev pub columns_in : List Finding → Option Explored → List (Vec Suggestion Global) → Columns
+columns_in fs e advice = record {
   conditions = conditions_in fs;
   diagnoses = diagnoses_in fs;
   runs = runs_in fs;
   explored = e;
+  advice = advice;
 }
 
 abbrev pub columns_of : Table → Columns
@@ -30,6 +35,7 @@ columns_of t = record {
   diagnoses = t.diagnoses.items;
   runs = t.runs.items;
   explored = t.explored;
+  advice = t.advice.items;
 }
 
 -- they are of one length

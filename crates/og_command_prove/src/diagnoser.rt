@@ -1,14 +1,14 @@
 //! The row of a condition: its diagnosis by the verdict on it, or by a run that gets to a
 //! state in which it is false.
 
-ghost use Rattle.std.specs.Prelude.{◌≡◌, ◌⊎◌, Some, IfOk, IfSome, MatchOption};
+ghost use Rattle.std.specs.Prelude.{◌≡◌, ◌⊎◌, None, Some, IfOk, IfSome, MatchOption};
 ghost use Rattle.og_cond.specs.Seen.{seen};
 ghost use Rattle.og_find.specs.Found.{IsVerdict};
 ghost use Rattle.og_report_prove.specs.Diagnosis.{IsDiagnosis, IsAllowed, Follows};
 ghost use Rattle.og_report_runs.specs.Runs.{IsRun};
 ghost use Rattle.og_report_runs.specs.RunDiagnosis.{LeadsTo, IsDiagnosisBy};
 ghost use Rattle.og_command_prove.specs.Found.{IsOfRun, IsFound};
-ghost use Rattle.og_command_prove.specs.Moments.{lists_of, starts_of, AreMoments, IsDiagnoser};
+ghost use Rattle.og_command_prove.specs.Moments.{lists_of, AreMoments, IsDiagnoser};
 
 use crate::finding::Finding;
 use og_cond::Condition;
@@ -33,8 +33,6 @@ pub(crate) struct Diagnoser<'s, 'a> {
     pub(crate) alloc: Global,
     pub(crate) outline: &'a Outline,
     pub(crate) index: &'s Index<'a>,
-    /// Where runs are looked for that get to false conditions.
-    pub(crate) moments: Option<&'s Moments<'a>>,
 }
 
 // The row with the run, where the condition is false by the diagnosis.
@@ -70,9 +68,13 @@ fn row_with<'a>(
 }
 
 impl<'s, 'a> Diagnoser<'s, 'a> {
-    // The diagnosis of a condition by the verdict on it, as by `og_report_prove::diagnose`; open
-    // where there is none.
-    fn diagnosed_by(
+    /// The diagnosis of a condition by the verdict on it, as by `og_report_prove::diagnose`; open
+    /// where there is none.
+    ///
+    /// # Errors
+    ///
+    /// An allocation was refused.
+    pub(crate) fn diagnosed_by(
         &self,
         condition: &Condition,
         verdict: Option<&Verdict>,
@@ -140,27 +142,26 @@ impl<'s, 'a> Diagnoser<'s, 'a> {
         }
     }
 
-    // The row of a condition with what is known of the runs; of one that is not false no
-    // run is sought.
-    fn row_with_run(
+    /// The row with what is known of the runs: a run that gets to a state in which the condition is
+    /// false gives the diagnosis, as `og_report_runs::diagnose_by_run`. Of one that is not false no
+    /// run is sought.
+    ///
+    /// # Errors
+    ///
+    /// An allocation was refused.
+    pub(crate) fn followed(
         &self,
         moments: &Moments<'a>,
-        condition: Condition<'a>,
-        diagnosis: Diagnosis<'a>,
+        row: Finding<'a>,
     ) -> Result<Finding<'a>, AllocError>
         requires diagnoser { IsDiagnoser self.now }
         requires moments { AreMoments self.now.outline.now moments.now }
-        requires diagnosis { IsDiagnosis self.now.outline.now (seen condition) diagnosis }
-        requires allowed { IsAllowed self.now.outline.now diagnosis }
-        ensures condition { IfOk result (λ f. f.condition ≡ condition.entry) }
+        requires found { IsFound self.now.outline.now None row }
+        ensures condition { IfOk result (λ f. f.condition ≡ row.entry.condition) }
         ensures found { IfOk result (IsFound self.now.outline.now (Some (lists_of moments.now))) }
     {
-        let Diagnosis::False(_) = &diagnosis else {
-            return Ok(Finding {
-                condition,
-                diagnosis,
-                run: Run::Open,
-            });
+        let Diagnosis::False(_) = &row.diagnosis else {
+            return Ok(row);
         };
         let (lists, reach) = (moments.lists.as_slice(), &moments.reach);
         let run = find_run(
@@ -169,14 +170,12 @@ impl<'s, 'a> Diagnoser<'s, 'a> {
             self.index,
             lists,
             reach,
-            &condition,
+            &row.condition,
         )?;
-        self.row_by_run(moments, condition, diagnosis, run)
+        self.row_by_run(moments, row.condition, row.diagnosis, run)
     }
 
-    /// The row of a condition by the verdict on it; it is open where there is none. Where runs are
-    /// looked for, a run that gets to a state in which the condition is false gives the diagnosis,
-    /// as `og_report_runs::diagnose_by_run`.
+    /// The row of a condition by the verdict on it; it is open where there is none.
     ///
     /// # Errors
     ///
@@ -189,19 +188,13 @@ impl<'s, 'a> Diagnoser<'s, 'a> {
         requires diagnoser { IsDiagnoser self.now }
         requires verdict { IfSome verdict (λ v. IsVerdict (seen condition) v.now) }
         ensures condition { IfOk result (λ f. f.condition ≡ condition.entry) }
-        ensures found { IfOk result (IsFound self.now.outline.now (starts_of self.now.moments)) }
+        ensures found { IfOk result (IsFound self.now.outline.now None) }
     {
         let diagnosis = self.diagnosed_by(&condition, verdict)?;
-        match self.moments {
-            None => {
-                let run = Run::Open;
-                Ok(Finding {
-                    condition,
-                    diagnosis,
-                    run,
-                })
-            }
-            Some(moments) => self.row_with_run(moments, condition, diagnosis),
-        }
+        Ok(Finding {
+            condition,
+            diagnosis,
+            run: Run::Open,
+        })
     }
 }

@@ -3,6 +3,7 @@
 ghost use Rattle.std.specs.Prelude.{◌≡◌, map, IfOk};
 
 use og_cond::Condition;
+use og_report_findings::Suggestion;
 use og_report_prove::Diagnosis;
 use og_report_runs::{Explored, Run};
 use std::alloc::{AllocError, Global};
@@ -14,7 +15,7 @@ pub struct Finding<'a> {
     pub condition: Condition<'a>,
     /// Whether it is proved, false in a state, or neither.
     pub diagnosis: Diagnosis<'a>,
-    /// What is known of the runs to a state in which it is false; nothing where none is asked for.
+    /// What is known of the runs to a state in which it is false; nothing where none was followed.
     pub run: Run,
 }
 
@@ -23,7 +24,7 @@ pub struct Finding<'a> {
 pub(crate) struct Findings<'a> {
     /// A row for each condition, in their order.
     pub(crate) rows: Vec<Finding<'a>>,
-    /// How far runs were followed, where some were asked for.
+    /// How far runs were followed, where some were.
     pub(crate) explored: Option<Explored>,
 }
 
@@ -34,20 +35,26 @@ pub(crate) struct Table<'a> {
     pub(crate) diagnoses: Vec<Diagnosis<'a>>,
     pub(crate) runs: Vec<Run>,
     pub(crate) explored: Option<Explored>,
+    pub(crate) advice: Vec<Vec<Suggestion<'a>>>,
 }
 
 impl<'a> Findings<'a> {
-    /// The findings by columns.
+    /// The findings by columns, with what is suggested below false ones.
     ///
     /// # Errors
     ///
     /// An allocation was refused.
-    pub(crate) fn into_table(self, alloc: Global) -> Result<Table<'a>, AllocError>
+    pub(crate) fn into_table(
+        self,
+        alloc: Global,
+        advice: Vec<Vec<Suggestion<'a>>>,
+    ) -> Result<Table<'a>, AllocError>
         ensures conditions { IfOk result (λ t.
             t.conditions.items ≡ map (λ r. r.condition) self.entry.rows.items) }
         ensures diagnoses { IfOk result (λ t. t.diagnoses.items ≡ map (λ r. r.diagnosis) self.entry.rows.items) }
         ensures runs { IfOk result (λ t. t.runs.items ≡ map (λ r. r.run) self.entry.rows.items) }
         ensures explored { IfOk result (λ t. t.explored ≡ self.entry.explored) }
+        ensures advice { IfOk result (λ t. t.advice ≡ advice.entry) }
     {
         let Findings { rows, explored } = self;
         let mut conditions = Vec::with_capacity(alloc, rows.len())?;
@@ -63,6 +70,7 @@ impl<'a> Findings<'a> {
             diagnoses,
             runs,
             explored,
+            advice,
         })
     }
 }

@@ -5,6 +5,7 @@
 //! printed (printing.rt, answering.rt). specs/Reply.antt says what is promised of a reply.
 #![tactic(auto)]
 
+mod advising;
 mod answering;
 mod asking;
 mod diagnoser;

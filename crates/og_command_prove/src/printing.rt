@@ -1,51 +1,59 @@
 //! Findings in their forms.
 
-ghost use Rattle.std.specs.Prelude.{◌≡◌, ◌∷◌, ◌++◌, [], true, is_some, map, IfOk};
+ghost use Rattle.std.specs.Prelude.{◌≡◌, ◌∷◌, ◌++◌, [], true, false, map, IfOk};
 ghost use Rattle.og_report_prove.specs.Report.{is_unblocked};
-ghost use Rattle.og_command_prove.specs.Printed.{json_in, text_in, IsAdded, IsPage, IsPrinted, SaysUnblockedIn};
+ghost use Rattle.og_command_prove.specs.Printed.{json_in, text_in, IsAdded, IsPage, IsPrinted, SaysNeverStuckIn};
+ghost use Rattle.og_report_findings.specs.Says.{SaysNeverStuck};
 ghost use Rattle.og_report_text.specs.Subject.{subject_of, IsShort};
 ghost use Rattle.og_command_prove.specs.Table.{columns_of, IsTable};
 
 use crate::finding::Table;
 use crate::form::ReportForm;
+use og_report_findings::{Findings, json, report};
 use og_report_html::{Additions, about, page, run_parts, targets};
 use og_report_text::Subject;
 use std::alloc::{AllocError, Global};
 
-// The findings as a text, with runs where some were asked for.
+// The findings by columns.
+fn columns<'t, 'a>(table: &'t Table<'a>) -> Findings<'t, 'a, 'a>
+    ensures conditions { result.conditions.now ≡ table.now.conditions.items }
+    ensures diagnoses { result.diagnoses.now ≡ table.now.diagnoses.items }
+    ensures runs { result.runs.now ≡ table.now.runs.items }
+    ensures explored { result.explored ≡ table.now.explored }
+    ensures advice { result.advice.now ≡ table.now.advice.items }
+{
+    Findings {
+        conditions: table.conditions.as_slice(),
+        diagnoses: table.diagnoses.as_slice(),
+        runs: table.runs.as_slice(),
+        explored: table.explored,
+        advice: table.advice.as_slice(),
+    }
+}
+
+// The findings as a text.
 fn as_text(alloc: Global, subject: &Subject, table: &Table) -> Result<Vec<u8>, AllocError>
     requires short { IsShort (subject_of subject.now) }
     requires table { IsTable table.now }
-    ensures { IfOk result (λ t. t.items ≡ text_in (subject_of subject.now) (columns_of table.now)) }
+    ensures text { IfOk result (λ t.
+        t.items ≡ text_in (subject_of subject.now) (columns_of table.now)) }
+    ensures says { IfOk result (λ t. SaysNeverStuck false t.items
+        → is_unblocked table.now.diagnoses.items ≡ true) }
 {
     let (outline, source, rows) = (subject.outline, subject.given, subject.rows);
-    let (conditions, diagnoses) = (table.conditions.as_slice(), table.diagnoses.as_slice());
-    let Some(explored) = table.explored else {
-        return og_report_prove::report(alloc, outline, source, rows, conditions, diagnoses);
-    };
-    let runs = table.runs.as_slice();
-    og_report_runs::report(
-        alloc, outline, source, rows, explored, conditions, diagnoses, runs,
-    )
+    report(alloc, outline, source, rows, columns(table))
 }
 
-// The findings as JSON without an LF, with runs where some were asked for.
+// The findings as JSON without an LF.
 fn as_json(alloc: Global, subject: &Subject, table: &Table) -> Result<Vec<u8>, AllocError>
     requires short { IsShort (subject_of subject.now) }
     requires table { IsTable table.now }
     ensures json { IfOk result (λ t.
         t.items ≡ json_in (subject_of subject.now) (columns_of table.now)) }
-    ensures says { IfOk result (λ t.
-        SaysUnblockedIn (is_some table.now.explored) ReportForm.Json (t.items ++ 10 ∷ [])
+    ensures says { IfOk result (λ t. SaysNeverStuck true (t.items ++ 10 ∷ [])
         → is_unblocked table.now.diagnoses.items ≡ true) }
 {
-    let (outline, own) = (subject.outline, subject.own);
-    let (conditions, diagnoses) = (table.conditions.as_slice(), table.diagnoses.as_slice());
-    let Some(explored) = table.explored else {
-        return og_report_prove::json(alloc, outline, own, conditions, diagnoses);
-    };
-    let runs = table.runs.as_slice();
-    og_report_runs::json(alloc, outline, own, explored, conditions, diagnoses, runs)
+    json(alloc, subject.outline, subject.own, columns(table))
 }
 
 // The same with an LF.
@@ -55,8 +63,7 @@ fn as_line(alloc: Global, subject: &Subject, table: &Table) -> Result<Vec<u8>, A
     ensures line { IfOk result (λ t.
         t.items ≡ json_in (subject_of subject.now) (columns_of table.now) ++ 10 ∷ []) }
     ensures says { IfOk result (λ t.
-        SaysUnblockedIn (is_some table.now.explored) ReportForm.Json t.items
-        → is_unblocked table.now.diagnoses.items ≡ true) }
+        SaysNeverStuck true t.items → is_unblocked table.now.diagnoses.items ≡ true) }
 {
     let mut line = as_json(alloc, subject, table)?;
     line.push(b'\n')?;
@@ -71,7 +78,7 @@ struct RunAdditions {
 }
 
 // How far runs were followed, and beneath each false condition whether one gets there, and a chart
-// of it; nothing where none were asked for.
+// of it; nothing where none were.
 fn run_additions(
     alloc: Global,
     subject: &Subject,
@@ -101,23 +108,27 @@ fn run_additions(
     Ok(RunAdditions { before, beneath })
 }
 
-// The page of the findings, with runs where some were asked for.
-fn as_page(alloc: Global, subject: &Subject, table: &Table) -> Result<Vec<u8>, AllocError>
+// The page of the findings, with runs where some were followed.
+fn as_page(
+    alloc: Global,
+    name: &str,
+    subject: &Subject,
+    table: &Table,
+) -> Result<Vec<u8>, AllocError>
     requires short { IsShort (subject_of subject.now) }
     requires table { IsTable table.now }
-    ensures { IfOk result (λ t. IsPage (subject_of subject.now) (columns_of table.now) t.items) }
+    ensures { IfOk result (λ t.
+        IsPage name.now (subject_of subject.now) (columns_of table.now) t.items) }
 {
     let added = run_additions(alloc, subject, table)?;
     let additions = Additions {
         before: &added.before,
         beneath: &added.beneath,
     };
-    let (outline, own) = (subject.outline, subject.own);
-    let (conditions, diagnoses) = (table.conditions.as_slice(), table.diagnoses.as_slice());
-    let targets = targets(alloc, outline, conditions)?;
-    let text = page(
-        alloc, outline, own, conditions, diagnoses, &targets, additions,
-    )?;
+    let findings = columns(table);
+    let targets = targets(alloc, subject.outline, findings.conditions)?;
+    let name = name.as_bytes();
+    let text = page(alloc, name, subject, findings, &targets, additions)?;
     Ok(text)
 }
 
@@ -135,14 +146,13 @@ pub(crate) fn printed(
     requires short { IsShort (subject_of subject.now) }
     requires table { IsTable table.now }
     ensures printed { IfOk result (λ t.
-        IsPrinted form (subject_of subject.now) (columns_of table.now) t.items) }
+        IsPrinted form.entry (subject_of subject.now) (columns_of table.now) t.items) }
     ensures says { IfOk result (λ t.
-        SaysUnblockedIn (is_some table.now.explored) form t.items
-        → is_unblocked table.now.diagnoses.items ≡ true) }
+        SaysNeverStuckIn form.entry t.items → is_unblocked table.now.diagnoses.items ≡ true) }
 {
     match form {
-        ReportForm::Text => as_text(alloc, subject, table),
+        ReportForm::Text | ReportForm::Advised => as_text(alloc, subject, table),
         ReportForm::Json => as_line(alloc, subject, table),
-        ReportForm::Page => as_page(alloc, subject, table),
+        ReportForm::Page(name) => as_page(alloc, name, subject, table),
     }
 }

@@ -1,21 +1,21 @@
 //! From the conditions of an outline to the findings on them: by searches, and by runs where these
-//! are asked for.
+//! are asked for and a condition is false.
 
-ghost use Rattle.std.specs.Prelude.{◌≡◌, ◌<◌, ◌≤◌, true, is_some, length, map, All, IfOk, IfErr, IfSome};
+ghost use Rattle.std.specs.Prelude.{◌≡◌, ◌<◌, ◌≤◌, true, None, Some, is_some, length, map, All, IfOk, IfErr};
 ghost use Rattle.og_cond.specs.Limits.{condition_limit};
 ghost use Rattle.og_cond.specs.Seen.{seen};
 ghost use Rattle.og_find_all.specs.Findings.{AreVerdicts};
 ghost use Rattle.og_pool.specs.declared.fault.PoolFault.TheVariants.{Spawn};
-ghost use Rattle.og_command_prove.specs.Found.{HasFalse, IsFound, IsNothing, AreFound};
-ghost use Rattle.og_command_prove.specs.Moments.{starts_of, AreMoments};
+ghost use Rattle.og_report_findings.specs.Verdicts.{has_false};
+ghost use Rattle.og_command_prove.specs.Found.{IsFound, IsReach, IsAsked, AreFound};
+ghost use Rattle.og_command_prove.specs.Moments.{lists_of, AreMoments, IsDiagnoser};
 
 use crate::diagnoser::{Diagnoser, Moments};
 use crate::finding::{Finding, Findings};
 use crate::prover::Prover;
 use crate::starting::starts;
 use og_cond::Condition;
-use og_explore::{Range, gather};
-use og_find::Verdict;
+use og_explore::{Range, Safety, gather};
 use og_find_all::{Findings as Verdicts, examine_all};
 use og_io::MomentLimit;
 use og_pool::{Gate, PoolFault};
@@ -39,41 +39,31 @@ pub(crate) struct AskedRuns<'s> {
     pub(crate) limit: MomentLimit,
 }
 
-// Whether a condition is false in a state that was found.
-fn has_false(conditions: &[Condition], verdicts: &Verdicts) -> bool
-    requires { AreVerdicts (map seen conditions.now) verdicts.now }
-    ensures { result ≡ true → HasFalse (map seen conditions.now) }
+// Whether a condition is false.
+fn has_false(rows: &[Finding]) -> bool
+    ensures { result ≡ has_false (map (λ r. r.diagnosis) rows.now) }
 {
-    for i in 0..conditions.len() {
-        if let Some(Verdict::False(_)) = verdicts.verdict(i) {
+    for row in rows {
+        if row.diagnosis.is_false() {
             return true;
         }
     }
     false
 }
 
-// The row of each condition, by the verdict on it and by the runs that were followed.
+// The row of each condition, by the verdict on it.
 fn rows_of<'a>(
-    alloc: Global,
-    outline: &'a Outline,
+    diagnoser: Diagnoser<'_, 'a>,
     conditions: Vec<Condition<'a>>,
     verdicts: &Verdicts,
-    moments: Option<&Moments<'a>>,
 ) -> Result<Vec<Finding<'a>>, AllocError>
+    requires diagnoser { IsDiagnoser diagnoser }
     requires verdicts { AreVerdicts (map seen conditions.items) verdicts.now }
-    requires moments { IfSome moments (λ m. AreMoments outline.now m.now) }
     ensures conditions { IfOk result (λ r.
         map (λ f. f.condition) r.items ≡ conditions.entry.items) }
-    ensures each { IfOk result (λ r. All (IsFound outline.now (starts_of moments.entry)) r.items) }
+    ensures each { IfOk result (λ r. All (IsFound diagnoser.entry.outline.now None) r.items) }
 {
-    let index = Index::new(alloc, outline)?;
-    let diagnoser = Diagnoser {
-        alloc,
-        outline,
-        index: &index,
-        moments,
-    };
-    let mut rows = Vec::with_capacity(alloc, conditions.len())?;
+    let mut rows = Vec::with_capacity(diagnoser.alloc, conditions.len())?;
     for condition in conditions {
         let verdict = verdicts.verdict(rows.len());
         let row = diagnoser.row(condition, verdict)?;
@@ -82,22 +72,25 @@ fn rows_of<'a>(
     Ok(rows)
 }
 
-// What is found by the verdicts alone, and that no runs were followed, where some are asked for.
-fn by_verdicts<'a>(
-    alloc: Global,
-    outline: &'a Outline,
-    conditions: Vec<Condition<'a>>,
-    verdicts: &Verdicts,
-    explored: Option<Explored>,
-) -> Result<Findings<'a>, AllocError>
-    requires verdicts { AreVerdicts (map seen conditions.items) verdicts.now }
-    requires explored { IfSome explored IsNothing }
-    ensures found { IfOk result (λ f.
-        AreFound outline.now (map seen conditions.entry.items) f.rows.items f.explored) }
-    ensures explored { IfOk result (λ f. f.explored ≡ explored) }
+// The same rows with what is known of the runs.
+fn followed_rows<'a>(
+    diagnoser: Diagnoser<'_, 'a>,
+    moments: &Moments<'a>,
+    rows: Vec<Finding<'a>>,
+) -> Result<Vec<Finding<'a>>, AllocError>
+    requires diagnoser { IsDiagnoser diagnoser }
+    requires moments { AreMoments diagnoser.outline.now moments.now }
+    requires each { All (IsFound diagnoser.outline.now None) rows.items }
+    ensures conditions { IfOk result (λ r.
+        map (λ f. f.condition) r.items ≡ map (λ f. f.condition) rows.entry.items) }
+    ensures each { IfOk result (λ r.
+        All (IsFound diagnoser.entry.outline.now (Some (lists_of moments.now))) r.items) }
 {
-    let rows = rows_of(alloc, outline, conditions, verdicts, None)?;
-    Ok(Findings { rows, explored })
+    let mut followed = Vec::with_capacity(diagnoser.alloc, rows.len())?;
+    for row in rows {
+        followed.push(diagnoser.followed(moments, row)?)?;
+    }
+    Ok(followed)
 }
 
 // The moments of the runs that are asked for, of this many conditions.
@@ -115,44 +108,89 @@ fn moments_of<'a>(
     Ok(Moments { lists, reach })
 }
 
-// What is found by the verdicts, and by the runs that are asked for where a condition is false.
+// How far runs were followed, and what is wrong at the end of one.
+fn explored_of(outline: &Outline, moments: &Moments) -> Explored
+    requires { AreMoments outline.now moments.now }
+    ensures { IsReach outline.now (lists_of moments.now) result }
+{
+    let reach = &moments.reach;
+    let (wrong, complete) = match &reach.safety {
+        Safety::Violated(violation) => (Some(violation.wrong), reach.complete),
+        Safety::Safe => (None, reach.complete),
+        Safety::Unknown => (None, false),
+    };
+    Explored {
+        starts: reach.starts,
+        moments: reach.moments.len(),
+        complete,
+        wrong,
+    }
+}
+
+// The findings by the runs that are asked for, where a condition is false.
 fn followed<'a>(
-    alloc: Global,
-    outline: &'a Outline,
-    conditions: Vec<Condition<'a>>,
+    diagnoser: Diagnoser<'_, 'a>,
+    rows: Vec<Finding<'a>>,
     verdicts: &Verdicts,
     asked: &AskedRuns<'_>,
 ) -> Result<Findings<'a>, AllocError>
-    requires { AreVerdicts (map seen conditions.items) verdicts.now }
-    ensures found { IfOk result (λ f.
-        AreFound outline.now (map seen conditions.entry.items) f.rows.items f.explored) }
-    ensures explored { IfOk result (λ f. is_some f.explored ≡ true) }
+    requires diagnoser { IsDiagnoser diagnoser }
+    requires each { All (IsFound diagnoser.outline.now None) rows.items }
+    ensures found { IfOk result (λ f. AreFound diagnoser.entry.outline.now
+        (map (λ r. seen r.condition) rows.entry.items) f.rows.items f.explored) }
+    ensures looked { IfOk result (λ f. has_false (map (λ r. r.diagnosis) f.rows.items) ≡ true
+        → is_some f.explored ≡ true) }
 {
-    if !has_false(&conditions, verdicts) {
-        let nothing = Explored {
-            starts: 0,
-            moments: 0,
-            complete: false,
-        };
-        return by_verdicts(alloc, outline, conditions, verdicts, Some(nothing));
+    if !has_false(&rows) {
+        return Ok(Findings {
+            rows,
+            explored: None,
+        });
     }
-    let moments = moments_of(alloc, outline, conditions.len(), verdicts, asked)?;
-    let explored = Explored {
-        starts: moments.reach.starts,
-        moments: moments.reach.moments.len(),
-        complete: moments.reach.complete,
-    };
-    let rows = rows_of(alloc, outline, conditions, verdicts, Some(&moments))?;
+    let (alloc, outline) = (diagnoser.alloc, diagnoser.outline);
+    let moments = moments_of(alloc, outline, rows.len(), verdicts, asked)?;
+    let explored = explored_of(outline, &moments);
+    let rows = followed_rows(diagnoser, &moments, rows)?;
     Ok(Findings {
         rows,
         explored: Some(explored),
     })
 }
 
+// What is found by the verdicts, and by the runs that are asked for.
+fn findings_of<'a>(
+    alloc: Global,
+    outline: &'a Outline,
+    conditions: Vec<Condition<'a>>,
+    verdicts: &Verdicts,
+    asked: Option<&AskedRuns<'_>>,
+) -> Result<Findings<'a>, AllocError>
+    requires { AreVerdicts (map seen conditions.items) verdicts.now }
+    ensures found { IfOk result (λ f.
+        AreFound outline.now (map seen conditions.entry.items) f.rows.items f.explored) }
+    ensures asked { IfOk result (λ f. IsAsked (is_some asked.entry)
+        (map (λ r. r.diagnosis) f.rows.items) f.explored) }
+{
+    let index = Index::new(alloc, outline)?;
+    let diagnoser = Diagnoser {
+        alloc,
+        outline,
+        index: &index,
+    };
+    let rows = rows_of(diagnoser, conditions, verdicts)?;
+    match asked {
+        None => Ok(Findings {
+            rows,
+            explored: None,
+        }),
+        Some(asked) => followed(diagnoser, rows, verdicts, asked),
+    }
+}
+
 impl<'r, G: Gate, H: Threads + Wait + Sync> Prover<'r, G, H> {
-    /// What searches find of each condition of an outline; and where runs are asked for, of each
-    /// that is false in a state, whether a run gets to such a state: among the moments of the runs
-    /// from some starts, by at most 2,000,000 steps that are tried (`og_explore::gather`). Where no
+    /// What searches find of each condition of an outline; and where one is false and runs are asked
+    /// for, of each false one whether a run gets to such a state: among the moments of the runs from
+    /// some starts, by at most 2,000,000 steps that are tried (`og_explore::gather`). Where no
     /// condition is found false, no run is followed. What is found is the same for every number of
     /// workers.
     ///
@@ -169,15 +207,13 @@ impl<'r, G: Gate, H: Threads + Wait + Sync> Prover<'r, G, H> {
         requires { length conditions.items ≤ condition_limit }
         ensures found { IfOk result (λ f.
             AreFound outline.now (map seen conditions.entry.items) f.rows.items f.explored) }
-        ensures asked { IfOk result (λ f. is_some f.explored ≡ is_some asked.entry) }
+        ensures asked { IfOk result (λ f. IsAsked (is_some asked.entry)
+            (map (λ r. r.diagnosis) f.rows.items) f.explored) }
         ensures spawn { IfErr result (λ e. e ≡ Spawn → 1 < self.now.search.workers) }
     {
         let (budget, workers) = (self.search.budget.facts(), self.search.workers.count());
         let verdicts = examine_all(self.rt, self.alloc, &conditions, budget, workers, self.gate)?;
-        let alloc = self.alloc;
-        match asked {
-            None => Ok(by_verdicts(alloc, outline, conditions, &verdicts, None)?),
-            Some(asked) => Ok(followed(alloc, outline, conditions, &verdicts, asked)?),
-        }
+        let findings = findings_of(self.alloc, outline, conditions, &verdicts, asked)?;
+        Ok(findings)
     }
 }

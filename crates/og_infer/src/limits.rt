@@ -1,5 +1,7 @@
 //! How far a search goes, and what it hands out.
 
+use og_typed::Assert;
+
 /// How far a search goes. It counts questions and steps, never seconds.
 #[derive(Clone, Copy, Debug)]
 pub struct Limits {
@@ -30,6 +32,8 @@ pub struct Addition {
     /// The conjuncts in the order in which they are printed, each as in a source. One that has an
     /// `or` is in parentheses, unless it is the whole assertion, which was `true` before.
     pub conjuncts: Vec<Vec<u8>>,
+    /// The same as assertions.
+    pub assertions: Vec<Assert>,
 }
 
 /// What a search found.

@@ -58,6 +58,19 @@ fn texts(
     Ok(texts)
 }
 
+// The same as assertions.
+fn assertions(
+    alloc: Global,
+    universe: &Universe,
+    candidates: &[&Candidate],
+) -> Result<Vec<Assert>, AllocError> {
+    let mut assertions = Vec::with_capacity(alloc, candidates.len())?;
+    for candidate in candidates {
+        assertions.push(candidate.assertion(alloc, universe)?)?;
+    }
+    Ok(assertions)
+}
+
 /// What is added to each place that has candidates which the author does not say.
 pub(crate) fn additions(
     alloc: Global,
@@ -77,6 +90,7 @@ pub(crate) fn additions(
             additions.push(Addition {
                 at: place.note.at,
                 conjuncts: texts(alloc, names, universe, &candidates, author)?,
+                assertions: assertions(alloc, universe, &candidates)?,
             })?;
         }
     }

@@ -66,8 +66,28 @@ fn any_of(literals: &[u32], mask: &Bits) -> bool {
 }
 
 impl Extent {
+    // Whether the sum may have this value already.
+    fn has(self, sum: &Sum, value: i128) -> bool {
+        let is_below = match sum.bounds.get(self.above) {
+            Some(bound) => value <= i128::from(*bound),
+            None => true,
+        };
+        let last = self
+            .below
+            .checked_sub(1)
+            .and_then(|last| sum.bounds.get(last));
+        let is_above = match last {
+            Some(bound) => i128::from(*bound) <= value,
+            None => true,
+        };
+        is_below && is_above
+    }
+
     // The extent where the sum has this value too.
     fn with(self, sum: &Sum, value: i128) -> Extent {
+        if self.has(sum, value) {
+            return self;
+        }
         let least = sum
             .bounds
             .partition_point(|bound| i128::from(*bound) < value);

@@ -24,3 +24,4 @@ mod writing;
 pub use fault::LayoutError;
 pub use layout::laid_out;
 pub use parts::{Part, PartKind};
+pub use words::words_of;

@@ -24,7 +24,11 @@ fn lexemes(alloc: Global, tokens: Vec<Token>) -> Result<Vec<Word>, AllocError>
 }
 
 /// The words of a template, or of an outline.
-pub(crate) fn words_of(alloc: Global, text: &[u8]) -> Result<Vec<Word>, LexError>
+///
+/// # Errors
+///
+/// The first fault of the text's words; `Memory` where an allocation was refused.
+pub fn words_of(alloc: Global, text: &[u8]) -> Result<Vec<Word>, LexError>
     ensures words { IfOk result (λ words. AreWords text.now words.items) }
     ensures error { IfErr result (IsErrorOfWords text.now) }
 {

@@ -8,7 +8,7 @@ use Rattle.og_template_outline.specs.Meaning.{Means, MeansBy, GivesStartsBy}
 use Rattle.og_template_outline.specs.declared.meaning.Takes.TheVariants.{Constants}
 use Rattle.og_template_outline.specs.declared.meaning.Takes.{Takes}
 use Rattle.og_program.specs.World.{World, Text, named}
-use Rattle.og_program.specs.Given.{IsGiven, MeansNone, OfMeaning}
+use Rattle.og_program.specs.Given.{IsGiven, MeansNone, OfMeaning, MeansNoneAsJson, OfMeaningAsJson}
 use Rattle.og_program.specs.declared.given.Given.{Given}
 use Rattle.og_program.specs.declared.fault.Fault.{Fault}
 use Rattle.og_program.specs.declared.outcome.Outcome.{Outcome}
@@ -32,7 +32,23 @@ pub no_meaning : (takes : Takes) (world : World) (name : List ℕ) (words : List
     → MeansNone takes world name words outcome → OfMeaning takes world name words P outcome
 no_meaning takes world name words P outcome none = (none.0, none.1, inr none.2)
 
--- an outline is that of its own text
+-- ---- with refusals as JSON
+
+pub on_result_as_json : (takes : Takes) (world : World) (name : List ℕ) (words : List (List ℕ)) (P : Text → Subject → List (List ℕ) → Outcome → Type 0) (given : Given) (r : Result Outcome Fault)
+    → IsGiven takes world name words given
+    → IfOk r (λ outcome. (s : Subject) × Means given.text.items s × P (named name given.text.items) s (map (λ w. w.now) given.reading.starts.items) outcome)
+    → IfOk r (OfMeaningAsJson takes world name words P)
+on_result_as_json takes world name words P given r is =
+    IfOk-weaker r (λ outcome. (s : Subject) × Means given.text.items s × P (named name given.text.items) s (map (λ w. w.now) given.reading.starts.items) outcome) (OfMeaningAsJson takes world name words P)
+    (λ outcome h. (given.text.items, is.0, inl (h.0, map (λ w. w.now) given.reading.starts.items, h.1, is.1.1, h.2)))
+
+pub no_meaning_as_json : (takes : Takes) (world : World) (name : List ℕ) (words : List (List ℕ)) (P : Text → Subject → List (List ℕ) → Outcome → Type 0) (outcome : Outcome)
+    → MeansNoneAsJson takes world name words outcome → OfMeaningAsJson takes world name words P outcome
+no_meaning_as_json takes world name words P outcome none = (none.0, none.1, inr none.2)
+
+-- ---- an outline
+
+-- it is that of its own text
 own_source_by : (b : Bool) (text : List ℕ) (s : Subject) → MeansBy b text s → IsSource s.own s.outline
 own_source_by true text s means = means.1
 own_source_by false text s means = subst (λ (own : List ℕ). IsSource own s.outline) (ap (λ (t : Subject). t.own) (sym means.1)) means.0

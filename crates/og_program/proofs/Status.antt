@@ -1,6 +1,6 @@
 -- What status 0 of the program says.
 use Rattle.std.proofs.Common.{◌≡◌, inl, inr, ℕ, List, [], Bool, true, false, None, Some, Option, Ok, sym, ap, subst, arith, ◌∙◌}
-use Rattle.std.specs.Prelude.{⊤, IfSome, IfNone, is_some, codes}
+use Rattle.std.specs.Prelude.{⊤, IfSome, is_some, codes}
 use Rattle.std.specs.Borrow.{Bor}
 use Rattle.og_typed.specs.Syntax.{Program}
 use Rattle.og_typed.specs.Erase.{erased}
@@ -22,7 +22,6 @@ use Rattle.og_command_infer.specs.declared.inferrer.Reply.TheVariants as inferri
 use Rattle.og_command_explore.specs.declared.exploring.Reply.{Reply}
 use Rattle.og_command_explore.specs.declared.exploring.Reply.TheVariants as replies
 use Rattle.og_command_prove.specs.Reply.{WarrantsAnswer, Warrants}
-use Rattle.og_report_text.specs.Yes.{SaysUnblocked}
 use Rattle.og_report_text.specs.declared.answer.Answer.{Answer}
 use Rattle.og_report_text.specs.declared.fault.InputFault.{InputFault}
 use Rattle.og_judge.specs.Proven.{IsProvenSource}
@@ -37,7 +36,7 @@ use Rattle.og_command_run.specs.Running.{IsRanProved, IsProven as IsProvenOutlin
 use Rattle.og_command_run.specs.declared.reply.Ran.{Ran}
 use Rattle.og_command_run.specs.declared.reply.Reply.{Reply as Running}
 use Rattle.og_command_run.specs.declared.reply.Reply.TheVariants as runnings
-use Rattle.og_command_prove.specs.Printed.{SaysUnblockedIn}
+use Rattle.og_command_prove.specs.Printed.{SaysNeverStuckIn}
 use Rattle.og_command_prove.specs.declared.form.ReportForm.{ReportForm}
 use Rattle.og_command_prove.specs.declared.form.ReportForm.TheVariants as reports
 use Rattle.og_words.specs.Jobs.{word_bytes}
@@ -49,11 +48,11 @@ use Rattle.og_words.specs.declared.job.Run.{Run}
 use Rattle.og_words.specs.declared.job.Show.{Show}
 use Rattle.og_program.specs.World.{World, Text, Stream, Trace, named, bytes_in}
 use Rattle.og_program.specs.Sound.{IsProven, IsProvenFile, IsProvenText}
-use Rattle.og_program.specs.Unblocked.{PrintsUnblocked, IsNeverStuck}
+use Rattle.og_program.specs.Unblocked.{PrintsUnblocked, PrintsNeverStuck, IsNeverStuck}
 use Rattle.og_program.specs.Written.{Gets, SaysWhy, Writes}
-use Rattle.og_program.specs.Beside.{Noted, OnReport, OnBadValue, IsRefusal, Refuses}
-use Rattle.og_program.specs.Given.{IsTemplateRefusal, HasNoMeaning, OfMeaning}
-use Rattle.og_program.specs.Commands.{report_form, takes_for, IsCheckReport, IsCheckOutcome, IsRunReport, IsWordRemark, FollowsReply, FollowsRunning, IsInferNote, FollowsInferring, Infers, ProvesOutline, Proves, Shows, RunsBy, IsOutcome}
+use Rattle.og_program.specs.Beside.{Noted, OnReport, OnBadValue, IsRefusal, IsJsonRefusal, Refuses, RefusesAsJson}
+use Rattle.og_program.specs.Given.{IsTemplateRefusal, IsJsonTemplateRefusal, HasNoMeaning, HasNoMeaningAsJson, OfMeaning, OfMeaningAsJson}
+use Rattle.og_program.specs.Commands.{report_form, text_form, takes_for, IsCheckReport, IsCheckOutcome, IsRunReport, IsWordRemark, FollowsReply, FollowsRunning, IsInferNote, FollowsInferring, Infers, ProvesOutline, ProvesOutlineAsJson, ProvesBy, Proves, Shows, RunsBy, IsOutcome}
 use Rattle.og_program.specs.Served.{EndsJob}
 use Rattle.og_program.specs.declared.ended.Ended.{Ended}
 use Rattle.og_program.specs.declared.outcome.Outcome.{Outcome}
@@ -121,13 +120,20 @@ refused F source certs out o h done =
     let zero = r.2 in
     omega (arith, two, zero)
 
+refused_as_json : (F : InputFault → Type 0) (source : Text) (out : Stream) (o : Outcome) → RefusesAsJson F source o → IsDone out o → ⊥
+refused_as_json F source out o h done =
+    let r = on_report (IsJsonRefusal source h.0) out o h.2 done in
+    let two = r.1.object.1 in
+    let zero = r.2 in
+    omega (arith, two, zero)
+
 -- ---- of a command that proves
 
 -- what an answer to `prove` or `show` warrants
-warranted : (form : ReportForm) (runs : Bool) (p : Program) (answer : Answer) (out : Stream) → WarrantsAnswer form runs p answer → IsAnswer out answer
-    → (IsSound p × IsSoundErased p) × (Wrote (SaysUnblockedIn runs form) out.before out.after → IsNeverStuckOf p × IsNeverStuckOf (erased p))
-warranted form runs p answer out w is =
-    (w.0 is.0, λ wrote. w.1 is.0 (written_text (SaysUnblockedIn runs form) out.before out.after answer.text.items is.1 wrote))
+warranted : (form : ReportForm) (p : Program) (answer : Answer) (out : Stream) → WarrantsAnswer form p answer → IsAnswer out answer
+    → (IsSound p × IsSoundErased p) × (Wrote (SaysNeverStuckIn form) out.before out.after → IsNeverStuckOf p × IsNeverStuckOf (erased p))
+warranted form p answer out w is =
+    (w.0 is.0, λ wrote. w.1 is.0 (written_text (SaysNeverStuckIn form) out.before out.after answer.text.items is.1 wrote))
 
 -- of the outline that a text means
 proven_text : (b : Bool) (text : List ℕ) (s : Subject) → MeansBy b text s → IsSound s.outline × IsSoundErased s.outline → HoldsBy b IsProvenSource text
@@ -138,13 +144,13 @@ never_stuck_text : (b : Bool) (text : List ℕ) (s : Subject) → MeansBy b text
 never_stuck_text true text s means h = (s.own, means.0, (s.outline, means.1, h.0, h.1))
 never_stuck_text false text s means h = (s.outline, means.0, h.0, h.1)
 
-proved : (form : ReportForm) (runs : Bool) (text : List ℕ) (s : Subject) (reply : Reply) (out : Stream) (o : Outcome) → Means text s → Warrants form runs s.outline reply
+proved : (form : ReportForm) (text : List ℕ) (s : Subject) (reply : Reply) (out : Stream) (o : Outcome) → Means text s → Warrants form s.outline reply
     → FollowsReply s.outline reply o → IsDone out o
-    → HoldsOf IsProvenSource text × (Wrote (SaysUnblockedIn runs form) out.before out.after → HoldsOf IsNeverStuckSource text)
-proved form runs text s (replies.Answer a) out o means w follows done =
-    let v = warranted form runs s.outline a out w (answered (λ r. r.note ≡ Ok None) a out o follows done) in
+    → HoldsOf IsProvenSource text × (Wrote (SaysNeverStuckIn form) out.before out.after → HoldsOf IsNeverStuckSource text)
+proved form text s (replies.Answer a) out o means w follows done =
+    let v = warranted form s.outline a out w (answered (λ r. r.note ≡ Ok None) a out o follows done) in
     (proven_text (is_template text) text s means v.0, λ wrote. never_stuck_text (is_template text) text s means (v.1 wrote))
-proved form runs text s (replies.BadValue word) out o means w follows done = absurd (no_word (IsValueRemark gives.Ranges s.outline) word out o follows done)
+proved form text s (replies.BadValue word) out o means w follows done = absurd (no_word (IsValueRemark gives.Ranges s.outline) word out o follows done)
 
 -- a text that means no outline is refused
 meaningless : (takes : Takes) (text : Text) (words : List (List ℕ)) (out : Stream) (o : Outcome) → HasNoMeaning takes text words o → IsDone out o → ⊥
@@ -161,15 +167,19 @@ meaningless takes text words out o (errors.Template fault, why, follows) done =
     omega (arith, two, zero)
 meaningless takes text words out o (errors.BadValue word, why, follows) done = no_word (λ _ _. ⊥) word out o follows done
 
--- a text or JSON without runs says it as a check does
-says_in : (json : Bool) (before after : Option (List ℕ)) → Wrote (SaysUnblocked json) before after → Wrote (SaysUnblockedIn false (report_form json)) before after
-says_in true before after wrote = wrote
-says_in false before after wrote = wrote
-
-unblocked_by : (runs : Option ℕ) (json : Bool) (out : Stream) (P : Type 0) → (Wrote (SaysUnblockedIn (is_some runs) (report_form json)) out.before out.after → P)
-    → IfNone runs (PrintsUnblocked json out → P)
-unblocked_by None json out P f = λ wrote. f (says_in json out.before out.after wrote)
-unblocked_by (Some limit) json out P f = tt
+meaningless_as_json : (takes : Takes) (text : Text) (words : List (List ℕ)) (out : Stream) (o : Outcome) → HasNoMeaningAsJson takes text words o → IsDone out o → ⊥
+meaningless_as_json takes text words out o (errors.Memory, why, follows) done = follows
+meaningless_as_json takes text words out o (errors.Source fault, why, follows) done =
+    let r = on_report (IsJsonRefusal text (faults.Source fault)) out o follows done in
+    let two = r.1.object.1 in
+    let zero = r.2 in
+    omega (arith, two, zero)
+meaningless_as_json takes text words out o (errors.Template fault, why, follows) done =
+    let r = on_report (IsJsonTemplateRefusal text fault) out o follows done in
+    let two = r.1.object.1 in
+    let zero = r.2 in
+    omega (arith, two, zero)
+meaningless_as_json takes text words out o (errors.BadValue word, why, follows) done = no_word (λ _ _. ⊥) word out o follows done
 
 -- a run with status 0 is one that certificates prove safe
 proven_of : (limit : ℕ) (o : Program) (source certs : List ℕ) (words : List (List ℕ)) (ran : Ran) → IsRanProved limit o source certs words (runnings.Ran ran)
@@ -191,25 +201,46 @@ ran_proved limit source certs p words (runnings.NotMade line) out o is follows d
 
 of_proves : (takes : Takes) (world : World) (name : List ℕ) (words : List (List ℕ)) (form : ReportForm) (runs : Bool) (out : Stream) (o : Outcome)
     → OfMeaning takes world name words (ProvesOutline form runs) o → IsDone out o
-    → IsProvenText world name × (Wrote (SaysUnblockedIn runs form) out.before out.after → Reads source_of (bytes_in world name) (HoldsOf IsNeverStuckSource))
+    → IsProvenText world name × (Wrote (SaysNeverStuckIn form) out.before out.after → Reads source_of (bytes_in world name) (HoldsOf IsNeverStuckSource))
 of_proves takes world name words form runs out o (text, is, inl (s, starts, means, given, inl (reply, found, warrants, follows))) done =
-    let w = proved form runs text s reply out o means warrants follows done in ((text, is, w.0), λ wrote. (text, is, w.1 wrote))
+    let w = proved form text s reply out o means warrants follows done in ((text, is, w.0), λ wrote. (text, is, w.1 wrote))
 of_proves takes world name words form runs out o (text, is, inl (s, starts, means, given, inr refusal)) done =
     absurd (refused (IsFaultOfCount s.outline) (named name text) [] out o refusal done)
 of_proves takes world name words form runs out o (text, is, inr none) done = absurd (meaningless takes (named name text) words out o none done)
 
+of_proves_as_json : (takes : Takes) (world : World) (name : List ℕ) (words : List (List ℕ)) (runs : Bool) (out : Stream) (o : Outcome)
+    → OfMeaningAsJson takes world name words (ProvesOutlineAsJson runs) o → IsDone out o
+    → IsProvenText world name × (Wrote (SaysNeverStuckIn reports.Json) out.before out.after → Reads source_of (bytes_in world name) (HoldsOf IsNeverStuckSource))
+of_proves_as_json takes world name words runs out o (text, is, inl (s, starts, means, given, inl (reply, found, warrants, follows))) done =
+    let w = proved reports.Json text s reply out o means warrants follows done in ((text, is, w.0), λ wrote. (text, is, w.1 wrote))
+of_proves_as_json takes world name words runs out o (text, is, inl (s, starts, means, given, inr refusal)) done =
+    absurd (refused_as_json (IsFaultOfCount s.outline) (named name text) out o refusal done)
+of_proves_as_json takes world name words runs out o (text, is, inr none) done = absurd (meaningless_as_json takes (named name text) words out o none done)
+
+-- with advice a text ends as without it
+text_prints : (suggest : Bool) (out : Stream) → PrintsNeverStuck false out → Wrote (SaysNeverStuckIn (text_form suggest)) out.before out.after
+text_prints false out h = h
+text_prints true out h = h
+
+of_prove_by : (json : Bool) (world : World) (out : Stream) (prove : Prove) (o : Outcome) → ProvesBy json world prove o → IsDone out o
+    → IsProvenText world prove.source.now
+    × (PrintsNeverStuck json out → Reads source_of (bytes_in world prove.source.now) (HoldsOf IsNeverStuckSource))
+of_prove_by true world out prove o h done =
+    let runs = is_some prove.runs in of_proves_as_json (takes_for runs) world prove.source.now (word_bytes prove.words.items) runs out o h done
+of_prove_by false world out prove o h done =
+    let runs = is_some prove.runs in
+    let w = of_proves (takes_for runs) world prove.source.now (word_bytes prove.words.items) (text_form prove.suggest) runs out o h done in
+    (w.0, λ prints. w.1 (text_prints prove.suggest out prints))
+
 of_prove : (world : World) (out : Stream) (prove : Prove) (o : Outcome) → Proves world prove o → IsDone out o
     → IsProvenText world prove.source.now
-    × IfNone prove.runs (PrintsUnblocked prove.json out → Reads source_of (bytes_in world prove.source.now) (HoldsOf IsNeverStuckSource))
-of_prove world out prove o h done =
-    let runs = is_some prove.runs in
-    let w = of_proves (takes_for runs) world prove.source.now (word_bytes prove.words.items) (report_form prove.json) runs out o h done in
-    (w.0, unblocked_by prove.runs prove.json out (Reads source_of (bytes_in world prove.source.now) (HoldsOf IsNeverStuckSource)) w.1)
+    × (PrintsNeverStuck prove.json out → Reads source_of (bytes_in world prove.source.now) (HoldsOf IsNeverStuckSource))
+of_prove world out prove o h done = of_prove_by prove.json world out prove o h done
 
 of_show : (world : World) (out : Stream) (show : Show) (o : Outcome) → Shows world show o → IsDone out o → IsProvenText world show.source.now
 of_show world out show o h done =
     let runs = is_some show.runs in
-    (of_proves (takes_for runs) world show.source.now (word_bytes show.words.items) reports.Page runs out o h done).0
+    (of_proves (takes_for runs) world show.source.now (word_bytes show.words.items) (reports.Page show.source) runs out o h done).0
 
 -- a completed outline warrants what it says of the given one
 inferred : (json aux : Bool) (text : List ℕ) (s : Subject) (reply : Inferring) (words : List (List ℕ)) (out : Stream) (o : Outcome) → Means text s

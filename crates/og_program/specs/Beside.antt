@@ -1,12 +1,16 @@
 -- What goes to standard error beside an answer or certificates, and which outcome a reply has.
-use Rattle.std.specs.Prelude.{◌≡◌, ℕ, List, Option, option_map, None, Some, IfSome, Result, Ok, IfOk, Vec}
+use Rattle.std.specs.Prelude.{◌≡◌, ℕ, List, [], Option, option_map, None, Some, IfSome, Result, Ok, IfOk, Vec}
 use Rattle.std.specs.Borrow.{Bor}
 use Rattle.std.specs.Global.{Global}
 use Rattle.std.specs.declared.alloc.AllocError.{AllocError}
 use Rattle.og_judge.specs.declared.refusal.Refusal.{Refusal}
 use Rattle.og_judge.specs.declared.refusal.Refusal.TheVariants as refusals
+use Rattle.og_report_findings.specs.Refused.{refusal_line}
 use Rattle.og_report_refusal.specs.Advice.{IsAdvice}
-use Rattle.og_report_text.specs.Answers.{IsFaultAnswer}
+use Rattle.og_report_refusal.specs.Reasons.{IsReason}
+use Rattle.og_report_text.specs.Answers.{IsFaultAnswer, Says}
+use Rattle.og_report_text.specs.Faults.{number_of_input, name_of_input, place_of_input}
+use Rattle.og_report_text.specs.Places.{position_of}
 use Rattle.og_report_text.specs.declared.answer.Answer.{Answer}
 use Rattle.og_report_text.specs.declared.fault.InputFault.{InputFault}
 use Rattle.og_program.specs.World.{Text}
@@ -33,6 +37,14 @@ IsAdviceNote source certs fault (Some text) = IsAdvice source.name certs source.
 pub record IsRefusal (source : Text) (certs : List ℕ) (fault : InputFault) (report : Report) : Type 0 where
   pub line : IsFaultAnswer source.bytes fault report.answer
   pub why : Noted (IsAdviceNote source certs fault) report
+
+-- the same as JSON: its object with status 2, and that beside it
+pub record IsJsonRefusal (source : Text) (fault : InputFault) (report : Report) : Type 0 where
+  pub reason : List ℕ
+  pub is_reason : IsReason source.bytes fault reason
+  pub help : Option (List ℕ)
+  pub object : Says (refusal_line (number_of_input fault) (name_of_input fault) (option_map (position_of source.bytes) (place_of_input fault)) reason help) 2 report.answer
+  pub why : Noted (IsAdviceNote source [] fault) report
 
 -- ---- an outcome of one kind, such as P says
 
@@ -73,3 +85,7 @@ IsRefused source certs refusals.Memory outcome = ⊥
 abbrev pub Refuses : (InputFault → Type 0) → Text → List ℕ → Outcome → Type 0
 Refuses F source certs outcome =
     (fault : InputFault) × F fault × OnReport (IsRefusal source certs fault) outcome
+
+abbrev pub RefusesAsJson : (InputFault → Type 0) → Text → Outcome → Type 0
+RefusesAsJson F source outcome =
+    (fault : InputFault) × F fault × OnReport (IsJsonRefusal source fault) outcome

@@ -34,9 +34,15 @@ use Rattle.og_template_outline.specs.Expanded.{IsExpanded}
 use Rattle.og_template_outline.specs.declared.meaning.Takes.{Takes}
 use Rattle.og_template_outline.specs.declared.meaning.Takes.TheVariants as takes
 use Rattle.og_report_text.specs.Subject.{Subject}
+use Rattle.og_command_explore.specs.Drawings.{HasOneOf as IsReplyTo}
 use Rattle.og_command_explore.specs.Explored as exploring
+use Rattle.og_command_explore.specs.declared.drawing.Drawing.{Drawing}
+use Rattle.og_command_explore.specs.declared.drawing.Drawing.TheVariants as drawings
 use Rattle.og_command_explore.specs.declared.exploring.Reply.{Reply}
 use Rattle.og_command_explore.specs.declared.exploring.Reply.TheVariants as replies
+use Rattle.og_command_promela.specs.Replies.{HasOneOf}
+use Rattle.og_command_promela.specs.declared.translating.Reply.{Reply as Translation}
+use Rattle.og_command_promela.specs.declared.translating.Reply.TheVariants as translations
 use Rattle.og_command_notes.specs.Noted.{IsNotes}
 use Rattle.og_command_infer.specs.Inferred as inferring
 use Rattle.og_command_infer.specs.Printed.{IsPrinted, IsRemark}
@@ -62,15 +68,16 @@ use Rattle.og_words.specs.declared.job.Format.{Format}
 use Rattle.og_words.specs.declared.job.Infer.{Infer}
 use Rattle.og_words.specs.declared.job.Migrate.{Migrate}
 use Rattle.og_words.specs.declared.job.Notes.{Notes}
+use Rattle.og_words.specs.declared.job.Promela.{Promela}
 use Rattle.og_words.specs.declared.job.Prove.{Prove}
 use Rattle.og_words.specs.declared.job.Run.{Run}
 use Rattle.og_words.specs.declared.job.Show.{Show}
 use Rattle.og_words.specs.declared.job.Job.{Job}
 use Rattle.og_words.specs.declared.job.Job.TheVariants as jobs
 use Rattle.og_program.specs.World.{World, Text, named, OfSource, OfCerts, OfBoth}
-use Rattle.og_program.specs.Given.{HasNoMeaning, OfMeaning}
+use Rattle.og_program.specs.Given.{HasNoMeaning, OfMeaning, OfMeaningAsJson}
 use Rattle.og_program.specs.Layout.{IsFormatted}
-use Rattle.og_program.specs.Beside.{IsNote, Noted, OnReport, OnCertificates, OnBadValue, Answers, Refuses}
+use Rattle.og_program.specs.Beside.{IsNote, Noted, OnReport, OnCertificates, OnBadValue, Answers, Refuses, RefusesAsJson}
 use Rattle.og_program.specs.declared.outcome.Outcome.{Outcome}
 use Rattle.og_program.specs.declared.outcome.Outcome.TheVariants as outcomes
 use Rattle.og_program.specs.declared.outcome.Report.{Report}
@@ -154,6 +161,11 @@ report_form true = reports.Json
 report_form false = reports.Text
 
 -- what the words may give: starts too where runs are asked for
+-- a text, with advice or without
+abbrev pub text_form : Bool → ReportForm
+text_form true = reports.Advised
+text_form false = reports.Text
+
 abbrev pub takes_for : Bool → Takes
 takes_for true = takes.Starts
 takes_for false = takes.Constants
@@ -168,21 +180,35 @@ FollowsReply o (replies.BadValue word) = OnBadValue (IsValueRemark gives.Ranges 
 abbrev pub ProvesOutline : ReportForm → Bool → Text → Subject → List (List ℕ) → Outcome → Type 0
 ProvesOutline form runs text s starts outcome =
     ((reply : Reply) × proving.IsReply form runs s starts reply
-    × proving.Warrants form runs s.outline reply × FollowsReply s.outline reply outcome)
+    × proving.Warrants form s.outline reply × FollowsReply s.outline reply outcome)
     ⊎ Refuses (IsFaultOfCount s.outline) text [] outcome
 
-abbrev pub Proves : World → Prove → Outcome → Type 0
-Proves world prove outcome =
+-- the same as JSON, refusals too
+abbrev pub ProvesOutlineAsJson : Bool → Text → Subject → List (List ℕ) → Outcome → Type 0
+ProvesOutlineAsJson runs text s starts outcome =
+    ((reply : Reply) × proving.IsReply reports.Json runs s starts reply
+    × proving.Warrants reports.Json s.outline reply × FollowsReply s.outline reply outcome)
+    ⊎ RefusesAsJson (IsFaultOfCount s.outline) text outcome
+
+abbrev pub ProvesBy : Bool → World → Prove → Outcome → Type 0
+ProvesBy true world prove outcome =
+    let runs = is_some prove.runs in
+    OfMeaningAsJson (takes_for runs) world prove.source.now (word_bytes prove.words.items)
+    (ProvesOutlineAsJson runs) outcome
+ProvesBy false world prove outcome =
     let runs = is_some prove.runs in
     OfMeaning (takes_for runs) world prove.source.now (word_bytes prove.words.items)
-    (ProvesOutline (report_form prove.json) runs) outcome
+    (ProvesOutline (text_form prove.suggest) runs) outcome
 
--- the same as a page
+abbrev pub Proves : World → Prove → Outcome → Type 0
+Proves world prove outcome = ProvesBy prove.json world prove outcome
+
+-- the same as a page by the name of the source
 abbrev pub Shows : World → Show → Outcome → Type 0
 Shows world show outcome =
     let runs = is_some show.runs in
     OfMeaning (takes_for runs) world show.source.now (word_bytes show.words.items)
-    (ProvesOutline reports.Page runs) outcome
+    (ProvesOutline (reports.Page show.source) runs) outcome
 
 -- ---- infer
 
@@ -210,12 +236,50 @@ Infers world infer outcome =
 
 -- ---- explore and notes
 
-abbrev pub Explores : World → Explore → Outcome → Type 0
-Explores world explore outcome =
+-- the text of a graph, with status 0; why there is none, on standard error alone; or a bad value
+abbrev pub FollowsDrawing : Program → Drawing → Outcome → Type 0
+FollowsDrawing o (drawings.Graph text) =
+    OnReport (λ report. (report.answer.text ≡ text) × (report.answer.status ≡ 0) × (report.note ≡ Ok None))
+FollowsDrawing o (drawings.Refused line) =
+    OnReport (λ report. (report.answer.text.items ≡ []) × (report.answer.status ≡ 1) × (report.note ≡ Ok (Some line)))
+FollowsDrawing o (drawings.BadValue word) = OnBadValue (IsValueRemark gives.Ranges o) word
+
+abbrev pub Draws : World → Explore → Outcome → Type 0
+Draws world explore outcome =
+    OfMeaning takes.Starts world explore.source.now (word_bytes explore.words.items)
+    (λ text s starts outcome. (reply : Drawing) × IsReplyTo starts reply
+    × FollowsDrawing s.outline reply outcome) outcome
+
+abbrev pub Looks : World → Explore → Outcome → Type 0
+Looks world explore outcome =
     OfMeaning takes.Starts world explore.source.now (word_bytes explore.words.items)
     (λ text s starts outcome. (reply : Reply)
     × exploring.IsReply explore.json s explore.erased starts reply
     × FollowsReply s.outline reply outcome) outcome
+
+-- ---- promela
+
+-- the text of a twin, with status 0; why there is none, on standard error alone; or a bad value
+abbrev pub FollowsTwin : Program → Translation → Outcome → Type 0
+FollowsTwin o (translations.Twin text) =
+    OnReport (λ report. (report.answer.text ≡ text) × (report.answer.status ≡ 0) × (report.note ≡ Ok None))
+FollowsTwin o (translations.NoTwin line) =
+    OnReport (λ report. (report.answer.text.items ≡ []) × (report.answer.status ≡ 1) × (report.note ≡ Ok (Some line)))
+FollowsTwin o (translations.BadValue word) = OnBadValue (IsValueRemark gives.Ranges o) word
+
+abbrev pub Translates : World → Promela → Outcome → Type 0
+Translates world promela outcome =
+    OfMeaning takes.Starts world promela.source.now (word_bytes promela.words.items)
+    (λ text s starts outcome. (reply : Translation) × HasOneOf starts reply
+    × FollowsTwin s.outline reply outcome) outcome
+
+-- the moments are drawn, or what goes wrong there is looked for
+abbrev pub ExploresAs : Bool → World → Explore → Outcome → Type 0
+ExploresAs true = Draws
+ExploresAs false = Looks
+
+abbrev pub Explores : World → Explore → Outcome → Type 0
+Explores world explore outcome = ExploresAs explore.dot world explore outcome
 
 abbrev pub NotesOn : World → Notes → Outcome → Type 0
 NotesOn world notes outcome =
@@ -362,6 +426,7 @@ IsOutcome world (jobs.Find find) = Finds world find
 IsOutcome world (jobs.Erase erase) = Erases world erase
 IsOutcome world (jobs.Run run) = Runs world run
 IsOutcome world (jobs.Explore explore) = Explores world explore
+IsOutcome world (jobs.Promela promela) = Translates world promela
 IsOutcome world (jobs.Expand expand) = Expands world expand
 IsOutcome world (jobs.Format format) = Formats world format
 IsOutcome world (jobs.Migrate migrate) = Migrates world migrate

@@ -1,10 +1,14 @@
 -- The outline that a text means, source or template, with the words behind it; or the outcome where it
 -- means none.
-use Rattle.std.specs.Prelude.{◌≡◌, ◌⊎◌, ℕ, List, [], IfSome, Option, None, Some}
-use Rattle.og_report_refusal.specs.Expansion.{IsExpansionRemark}
+use Rattle.std.specs.Prelude.{◌≡◌, ◌⊎◌, ℕ, List, [], IfSome, Option, option_map, None, Some}
+use Rattle.og_report_findings.specs.Refused.{refusal_line}
+use Rattle.og_report_refusal.specs.Expansion.{IsShownReason, IsExpansionRemark}
+use Rattle.og_report_text.specs.Answers.{Says}
+use Rattle.og_report_text.specs.Places.{position_of}
 use Rattle.og_report_text.specs.Subject.{Subject}
 use Rattle.og_report_text.specs.declared.fault.InputFault.TheVariants as faults
 use Rattle.og_template_outline.specs.Expanded.{IsFaultAnswer}
+use Rattle.og_template_outline.specs.Faults.{number_of_fault, name_of_fault, place_of_fault}
 use Rattle.og_template_outline.specs.Meaning.{Means, GivesStarts, IsReading, IsNotMeant}
 use Rattle.og_template_outline.specs.declared.fault.ExpandFault.{ExpandFault}
 use Rattle.og_template_outline.specs.declared.fault.MeaningError.{MeaningError}
@@ -12,7 +16,7 @@ use Rattle.og_template_outline.specs.declared.fault.MeaningError.TheVariants as 
 use Rattle.og_template_outline.specs.declared.meaning.Takes.{Takes}
 use Rattle.og_command_check.specs.Inputs.{source_of}
 use Rattle.og_program.specs.World.{World, Text, bytes_in, OfSource}
-use Rattle.og_program.specs.Beside.{Noted, OnReport, OnBadValue, IsRefusal}
+use Rattle.og_program.specs.Beside.{Noted, OnReport, OnBadValue, IsRefusal, IsJsonRefusal}
 use Rattle.og_program.specs.declared.given.Given.{Given}
 use Rattle.og_program.specs.declared.outcome.Outcome.{Outcome}
 use Rattle.og_program.specs.declared.outcome.Report.{Report}
@@ -66,3 +70,37 @@ OfMeaning takes world name words P outcome =
     OfSource world name
     (λ text. OnMeaning takes words (λ t s starts. P t s starts outcome) text
     ⊎ HasNoMeaning takes text words outcome)
+
+-- ---- with refusals as JSON
+
+-- the object of the fault of a template with status 2, and that beside it
+pub record IsJsonTemplateRefusal (template : Text) (fault : ExpandFault) (report : Report) : Type 0 where
+  pub reason : List ℕ
+  pub is_reason : IsShownReason template.bytes fault reason
+  pub help : Option (List ℕ)
+  pub object : Says (refusal_line (number_of_fault fault) (name_of_fault fault) (option_map (position_of template.bytes) (place_of_fault fault)) reason help) 2 report.answer
+  pub why : Noted (IsExpansionNote template fault) report
+
+abbrev pub FollowsErrorAsJson : Text → MeaningError → Outcome → Type 0
+FollowsErrorAsJson text errors.Memory outcome = ⊥
+FollowsErrorAsJson text (errors.Source fault) outcome =
+    OnReport (IsJsonRefusal text (faults.Source fault)) outcome
+FollowsErrorAsJson text (errors.Template fault) outcome =
+    OnReport (IsJsonTemplateRefusal text fault) outcome
+FollowsErrorAsJson text (errors.BadValue word) outcome = OnBadValue (λ _ _. ⊥) word outcome
+
+abbrev pub HasNoMeaningAsJson : Takes → Text → List (List ℕ) → Outcome → Type 0
+HasNoMeaningAsJson takes text words outcome =
+    (error : MeaningError) × IsNotMeant takes text.bytes words error
+    × FollowsErrorAsJson text error outcome
+
+abbrev pub MeansNoneAsJson : Takes → World → List ℕ → List (List ℕ) → Outcome → Type 0
+MeansNoneAsJson takes world name words outcome =
+    OfSource world name (λ text. HasNoMeaningAsJson takes text words outcome)
+
+abbrev pub OfMeaningAsJson : Takes → World → List ℕ → List (List ℕ)
+    → (Text → Subject → List (List ℕ) → Outcome → Type 0) → Outcome → Type 0
+OfMeaningAsJson takes world name words P outcome =
+    OfSource world name
+    (λ text. OnMeaning takes words (λ t s starts. P t s starts outcome) text
+    ⊎ HasNoMeaningAsJson takes text words outcome)

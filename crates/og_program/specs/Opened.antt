@@ -27,6 +27,7 @@ opened (jobs.Find find) = One find.source.now
 opened (jobs.Erase erase) = One erase.source.now
 opened (jobs.Run run) = opened_by_run run.source.now run.certs
 opened (jobs.Explore explore) = One explore.source.now
+opened (jobs.Promela promela) = One promela.source.now
 opened (jobs.Expand expand) = One expand.template.now
 opened (jobs.Format format) = One format.source.now
 opened (jobs.Migrate migrate) = One migrate.certs.now

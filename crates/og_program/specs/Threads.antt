@@ -29,12 +29,13 @@ StartsBy None None world run = StartsFree world run
 StartsBy None (Some schedule) world run = ⊥
 StartsBy (Some certs) schedule world run = StartsProved world run certs.now
 
--- a job does: a search or a check by two workers or more, or such a run
+-- a job does: a search, a check or an exploration by two workers or more, or such a run
 abbrev pub StartsThreads : World → Job → Type 0
 StartsThreads world (jobs.Prove prove) = 1 < prove.workers
 StartsThreads world (jobs.Infer infer) = 1 < infer.workers
 StartsThreads world (jobs.Check check) = 1 < check.workers
 StartsThreads world (jobs.Show show) = 1 < show.workers
 StartsThreads world (jobs.Find find) = 1 < find.workers
+StartsThreads world (jobs.Explore explore) = 1 < explore.workers
 StartsThreads world (jobs.Run run) = StartsBy run.certs run.schedule world run
 StartsThreads world _ = ⊥

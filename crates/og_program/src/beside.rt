@@ -1,22 +1,23 @@
 //! From what the libraries answer to outcomes: what goes to standard error beside an answer.
 
-ghost use Rattle.std.specs.Prelude.{◌≡◌, ◌≢◌, ◌≤◌, ◌^◌, [], length, map, Ok, None, IfSome, IfOk, IfErr};
+ghost use Rattle.std.specs.Prelude.{◌≡◌, ◌≢◌, ◌≤◌, ◌^◌, [], length, map, Ok, Some, None, IfSome, IfOk, IfErr};
 ghost use Rattle.og_report_refusal.specs.Values.{schedule_text, reason_line, IsValueRemark};
 ghost use Rattle.og_report_refusal.specs.declared.values.Gives.TheVariants as gives;
 ghost use Rattle.og_report_text.specs.Answers.{Says};
 ghost use Rattle.og_words.specs.Jobs.{word_bytes};
 ghost use Rattle.og_program.specs.World.{named};
-ghost use Rattle.og_program.specs.Beside.{IsNote, Noted};
+ghost use Rattle.og_program.specs.Beside.{IsNote, Noted, OnBadValue};
 ghost use Rattle.og_program.specs.Failing.{IsWant};
 ghost use Rattle.og_command_infer.specs.Printed.{IsPrinted};
 ghost use Rattle.og_report_text.specs.Subject.{subject_of, IsShort};
-ghost use Rattle.og_program.specs.Commands.{NotesCheck, NotesCount, IsLongNote, IsInferNote, FollowsInferring, IsRunReport, IsWordRemark, FollowsFinding, FollowsRunning, FollowsReply, FollowsListing};
+ghost use Rattle.og_program.specs.Commands.{NotesCheck, NotesCount, IsLongNote, IsInferNote, FollowsInferring, IsRunReport, IsWordRemark, FollowsFinding, FollowsRunning, FollowsReply, FollowsListing, FollowsTwin, FollowsDrawing};
 
 use crate::fault::Fault;
 use crate::outcome::{BadValue, Certificates, Outcome, Report};
 use og_command_check::{CheckReply, FindReply, FoundCertificates, LongText};
-use og_command_explore::Reply as Started;
+use og_command_explore::{Drawing, Reply as Started};
 use og_command_infer::{Inferred, Reply as Inferring};
+use og_command_promela::Reply as Translated;
 use og_command_run::{Ran, Reply};
 use og_find::Missing;
 use og_report_conditions::Reply as Listed;
@@ -32,6 +33,9 @@ const REFUSED: u8 = 2;
 
 // The status where some condition is not certified.
 const LACKING: u8 = 1;
+
+// The status where what was asked for cannot be had.
+const UNDONE: u8 = 1;
 
 /// An answer, with nothing beside it.
 pub(crate) fn alone(answer: Answer) -> Report
@@ -254,14 +258,64 @@ pub(crate) fn beside_inferred<'a>(
     }
 }
 
+// Nothing printed, and the line that says why.
+fn undone(alloc: Global, line: Vec<u8>) -> Report
+    ensures text { result.answer.text.items ≡ [] }
+    ensures status { result.answer.status ≡ 1 }
+    ensures note { result.note ≡ Ok (Some line) }
+{
+    Report {
+        answer: Answer {
+            text: Vec::new(alloc),
+            status: UNDONE,
+        },
+        note: Ok(Some(line)),
+    }
+}
+
+// The outcome of a word that gives no range.
+fn bad_start<'a>(alloc: Global, outline: &Outline, word: &'a str) -> Outcome<'a>
+    ensures { OnBadValue (IsValueRemark gives.Ranges outline.now) word.entry result }
+{
+    Outcome::BadValue(bad_value(alloc, Gives::Ranges, outline, word))
+}
+
 /// The outcome of a reply for an outline and words that give starts.
 pub(crate) fn beside_reply<'a>(alloc: Global, outline: &Outline, reply: Started<'a>) -> Outcome<'a>
     ensures { FollowsReply outline.now reply.entry result }
 {
     match reply {
         Started::Answer(answer) => Outcome::Report(alone(answer)),
-        Started::BadValue(word) => {
-            Outcome::BadValue(bad_value(alloc, Gives::Ranges, outline, word))
-        }
+        Started::BadValue(word) => bad_start(alloc, outline, word),
+    }
+}
+
+/// The outcome of a drawing for an outline and words that give starts.
+pub(crate) fn beside_drawing<'a>(
+    alloc: Global,
+    outline: &Outline,
+    reply: Drawing<'a>,
+) -> Outcome<'a>
+    ensures { FollowsDrawing outline.now reply.entry result }
+{
+    match reply {
+        Drawing::Graph(text) => Outcome::Report(alone(Answer { text, status: 0 })),
+        Drawing::Refused(line) => Outcome::Report(undone(alloc, line)),
+        Drawing::BadValue(word) => bad_start(alloc, outline, word),
+    }
+}
+
+/// The outcome of a translation for an outline and words that give starts.
+pub(crate) fn beside_twin<'a>(
+    alloc: Global,
+    outline: &Outline,
+    reply: Translated<'a>,
+) -> Outcome<'a>
+    ensures { FollowsTwin outline.now reply.entry result }
+{
+    match reply {
+        Translated::Twin(text) => Outcome::Report(alone(Answer { text, status: 0 })),
+        Translated::NoTwin(line) => Outcome::Report(undone(alloc, line)),
+        Translated::BadValue(word) => bad_start(alloc, outline, word),
     }
 }

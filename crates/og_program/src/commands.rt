@@ -7,9 +7,9 @@ ghost use Rattle.og_report_text.specs.InputErrors.{OnFault, IsFaultOfConditions}
 ghost use Rattle.og_program.specs.World.{world_of};
 ghost use Rattle.og_program.specs.Opened.{One, LeavesInput, lacks};
 ghost use Rattle.og_program.specs.Failing.{IsFault, IsUnread};
-ghost use Rattle.og_program.specs.Commands.{form_of, IsListing, NotesOn, Lists, Erases, Explores, Expands, Formats, Migrates};
+ghost use Rattle.og_program.specs.Commands.{form_of, IsListing, NotesOn, Lists, Erases, Expands, Formats, Migrates, Translates};
 
-use crate::beside::{alone, beside_listing, beside_reply};
+use crate::beside::{alone, beside_listing, beside_twin};
 use crate::fault::Fault;
 use crate::files::Files;
 use crate::formatting::formatted;
@@ -18,14 +18,14 @@ use crate::outcome::Outcome;
 use crate::program::Program;
 use crate::refusing::{refuse, refuse_source, refuse_unread};
 use og_command_check::{erased, migrated};
-use og_command_explore::{Request, explored};
 use og_command_notes::noted;
+use og_command_promela::translated;
 use og_report_conditions::{Form, Reply as Listed, listed};
 use og_report_refusal::Names;
 use og_report_text::InputError;
 use og_template_outline::{Takes, expanded};
 use og_typed::Source;
-use og_words::{Conditions, Erase, Expand, Explore, Format, Migrate, Notes};
+use og_words::{Conditions, Erase, Expand, Format, Migrate, Notes, Promela};
 use std::alloc::Global;
 use std::io::Read;
 
@@ -126,31 +126,27 @@ impl<'r, F: Files, G, H> Program<'r, F, G, H> {
         }
     }
 
-    /// What exploring the program of an outline, or of a template's, finds, from the starts that the
+    /// The program of an outline, or of a template's, as SPIN reads it, from the starts that the
     /// words give.
-    pub(crate) fn explore<'a, I: Read>(
+    pub(crate) fn promela<'a, I: Read>(
         &self,
-        explore: &Explore<'a>,
+        promela: &Promela<'a>,
         input: &mut I,
     ) -> Result<Outcome<'a>, Fault<'a>>
         ensures outcome { IfOk result
-            (Explores (world_of F.contents F.is_missing I.remaining self.now input.old) explore.now) }
-        ensures fault { IfErr result (IsFault (One explore.now.source.now) ⊥) }
+            (Translates (world_of F.contents F.is_missing I.remaining self.now input.old) promela.now) }
+        ensures fault { IfErr result (IsFault (One promela.now.source.now) ⊥) }
         ensures missing { lacks (F.is_missing self.now.files.now)
-            (One explore.now.source.now) ≡ true → IsUnread result }
-        ensures kept { LeavesInput (One explore.now.source.now)
+            (One promela.now.source.now) ≡ true → IsUnread result }
+        ensures kept { LeavesInput (One promela.now.source.now)
             → I.remaining input.new ≡ I.remaining input.old }
     {
-        let request = Request {
-            limit: explore.limit.moments(),
-            erased: explore.erased,
-            json: explore.json,
-        };
-        match self.given(explore.source, &explore.words, Takes::Starts, input)? {
+        match self.given(promela.source, &promela.words, Takes::Starts, input)? {
             Ok(given) => {
                 let subject = given.subject();
-                let reply = explored(self.alloc, &subject, &given.reading.starts, request)?;
-                Ok(beside_reply(self.alloc, subject.outline, reply))
+                let (starts, erased) = (&given.reading.starts, promela.erased);
+                let reply = translated(self.alloc, &subject, starts, erased)?;
+                Ok(beside_twin(self.alloc, subject.outline, reply))
             }
             Err(outcome) => Ok(outcome),
         }

@@ -48,6 +48,7 @@ impl<'r, F: Files, G: Gate, H: Threads + Wait + Sync> Program<'r, F, G, H> {
             Job::Erase(erase) => self.erase(erase, input),
             Job::Run(run) => self.run(run, input),
             Job::Explore(explore) => self.explore(explore, input),
+            Job::Promela(promela) => self.promela(promela, input),
             Job::Expand(expand) => self.expand(expand, input),
             Job::Format(format) => self.format(format, input),
             Job::Migrate(migrate) => self.migrate(migrate, input),

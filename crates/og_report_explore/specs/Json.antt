@@ -7,6 +7,7 @@ use Rattle.og_report_text.specs.Numbers.{natural}
 use Rattle.og_text.specs.Place.{line_at, column_at}
 use Rattle.og_typed.specs.Plain.{formula}
 use Rattle.og_typed.specs.declared.assertion.Assert.{Assert}
+use Rattle.og_report_prove.specs.Ends.{end_of}
 use Rattle.og_report_prove.specs.Members.{if_some, with_values}
 use Rattle.og_report_prove.specs.Json.{conjunct_data}
 use Rattle.og_report_explore.specs.declared.finding.Fault.{Fault}
@@ -61,18 +62,21 @@ module _ (names : List (List ℕ)) where
     abbrev pub finding_data : Finding → Data
     finding_data f = object
         (member (codes "column") (natural (column_at source (place_of cobegin_at f.fault)))
+        (member (codes "end_column") (natural (column_at source (end_of source (place_of cobegin_at f.fault))))
+        (member (codes "end_line") (natural (line_at source (end_of source (place_of cobegin_at f.fault))))
         (if_some (codes "false") (false_member f.fault)
         (member (codes "history") (array (items_of (history_items main f.rows.items)))
-        (member (codes "kind") (string (kind_word f.fault)) (last_members f)))))
+        (member (codes "kind") (string (kind_word f.fault)) (last_members f)))))))
 
     abbrev pub report_data : Totals → List Finding → Data
     report_data t fs = object
         (member (codes "complete") (boolean t.complete)
+        (member (codes "ended") (natural t.ended)
         (member (codes "moments") (natural t.moments)
         (member (codes "safe") (string (found_word (safe_of t.complete fs)))
         (member (codes "starts") (natural t.starts)
         (member (codes "unblocked") (string (found_word (unblocked_of t.complete fs)))
-        (member (codes "violations") (array (items_of (map finding_data fs))) no_members))))))
+        (member (codes "violations") (array (items_of (map finding_data fs))) no_members)))))))
 
     abbrev pub json_text : Totals → List Finding → List ℕ
     json_text t fs = compact_text (report_data t fs)

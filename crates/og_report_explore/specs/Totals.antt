@@ -52,6 +52,10 @@ complete_word false = codes "complete: no\n"
 abbrev pub moments_line : ℕ → List ℕ
 moments_line n = codes "moments: " & decimal n & codes "\n"
 
+-- at how many of them all have ended
+abbrev pub ended_line : ℕ → List ℕ
+ended_line n = codes "ended: " & decimal n & codes "\n"
+
 module _ (names : List (List ℕ)) where
   abbrev pub between_text : ℕ → ℤ → ℤ → List ℕ
   between_text x low high =
@@ -74,5 +78,5 @@ module _ (names : List (List ℕ)) where
 
   abbrev pub totals_text : Totals → List Finding → List ℕ
   totals_text t fs =
-      starts_line t.starts t.given.items & moments_line t.moments & complete_word t.complete
+      starts_line t.starts t.given.items & moments_line t.moments & ended_line t.ended & complete_word t.complete
       & found_line (codes "safe") (safe_of t.complete fs) & found_line (codes "unblocked") (unblocked_of t.complete fs)

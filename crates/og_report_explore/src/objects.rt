@@ -1,14 +1,14 @@
 //! A finding, as JSON.
 
-ghost use Rattle.std.specs.Prelude.{◌≡◌, ◌≤◌, [], length, map, option_map, IfOk, OnOk};
+ghost use Rattle.std.specs.Prelude.{◌≡◌, ◌≤◌, ◌^◌, [], length, map, option_map, IfOk, OnOk};
 ghost use Rattle.serde_json.specs.Data.{object};
 ghost use Rattle.serde_json.specs.View.{view, members_view};
 ghost use Rattle.og_report_explore.specs.Json.{kind_word, process_member, history_items, state_data, conjuncts_data, false_member, last_members, finding_data};
 
 use crate::finding::{Fault, Finding, Row};
 use crate::texts::place_of;
-use og_report_prove::{conjunct_values, put_optional, put_values};
-use og_report_text::{Places, list_value, numbers, printed_number, set_number, set_text};
+use og_report_prove::{conjunct_values, end_of, put_optional, put_values};
+use og_report_text::{Origins, list_value, numbers, printed_number, set_number, set_text};
 use og_subst::Values;
 use og_text::Name;
 use og_typed::Assert;
@@ -19,7 +19,8 @@ use std::alloc::{AllocError, Global};
 #[derive(Clone, Copy)]
 pub(crate) struct Page<'a> {
     pub(crate) names: &'a [Name],
-    pub(crate) places: &'a Places<'a>,
+    /// The source and its places.
+    pub(crate) origins: &'a Origins<'a>,
     pub(crate) main: u32,
     pub(crate) cobegin_at: u32,
 }
@@ -98,9 +99,10 @@ fn put_last(
     finding: &Finding,
 ) -> Result<(), AllocError>
     requires few { length page.names.now ≤ 256 }
+    requires places { page.origins.now.places.now ≡ page.origins.now.source.now }
     requires none { members.old.entries ≡ [] }
     ensures { OnOk result (members_view members.new.entries ≡ last_members page.entry.names.now
-        page.entry.places.now page.entry.main page.entry.cobegin_at finding.now) }
+        page.entry.origins.now.source.now page.entry.main page.entry.cobegin_at finding.now) }
 {
     let state = state_value(alloc, page.names, &finding.state)?;
     put(members, alloc, "state", state)?;
@@ -112,9 +114,8 @@ fn put_last(
         "process",
         process_member(page.main, &finding.fault),
     )?;
-    let place = page
-        .places
-        .position(place_of(page.cobegin_at, &finding.fault));
+    let at = place_of(page.cobegin_at, &finding.fault);
+    let place = page.origins.places.position(at);
     set_number(members, alloc, "line", place.line as u64)
 }
 
@@ -125,10 +126,12 @@ fn put_first(
     page: Page,
     finding: &Finding,
 ) -> Result<(), AllocError>
-    requires { members_view members.old.entries
-        ≡ last_members page.names.now page.places.now page.main page.cobegin_at finding.now }
+    requires places { page.origins.now.places.now ≡ page.origins.now.source.now }
+    requires short { length page.origins.now.source.now ≤ 2 ^ 20 }
+    requires last { members_view members.old.entries
+        ≡ last_members page.names.now page.origins.now.source.now page.main page.cobegin_at finding.now }
     ensures { OnOk result (object (members_view members.new.entries) ≡ finding_data
-        page.entry.names.now page.entry.places.now page.entry.main page.entry.cobegin_at
+        page.entry.names.now page.entry.origins.now.source.now page.entry.main page.entry.cobegin_at
         finding.now) }
 {
     set_text(members, alloc, "kind", kind_word(&finding.fault))?;
@@ -136,16 +139,21 @@ fn put_first(
     put(members, alloc, "history", history)?;
     let found = false_member(alloc, page.names, &finding.fault)?;
     put_optional(members, alloc, "false", found)?;
-    let place = page
-        .places
-        .position(place_of(page.cobegin_at, &finding.fault));
+    let at = place_of(page.cobegin_at, &finding.fault);
+    let origins = page.origins;
+    let end = origins.places.position(end_of(origins.source, at));
+    set_number(members, alloc, "end_line", end.line as u64)?;
+    set_number(members, alloc, "end_column", end.column as u64)?;
+    let place = origins.places.position(at);
     set_number(members, alloc, "column", place.column as u64)
 }
 
 // The value of a finding.
 fn finding_value(alloc: Global, page: Page, finding: &Finding) -> Result<Value, AllocError>
-    requires { length page.names.now ≤ 256 }
-    ensures { IfOk result (λ v. view v ≡ finding_data page.entry.names.now page.entry.places.now
+    requires few { length page.names.now ≤ 256 }
+    requires places { page.origins.now.places.now ≡ page.origins.now.source.now }
+    requires short { length page.origins.now.source.now ≤ 2 ^ 20 }
+    ensures { IfOk result (λ v. view v ≡ finding_data page.entry.names.now page.entry.origins.now.source.now
         page.entry.main page.entry.cobegin_at finding.now) }
 {
     let mut members = Map::new(alloc);
@@ -160,9 +168,11 @@ pub(crate) fn finding_values(
     page: Page,
     findings: &[Finding],
 ) -> Result<Vec<Value>, AllocError>
-    requires { length page.names.now ≤ 256 }
+    requires few { length page.names.now ≤ 256 }
+    requires places { page.origins.now.places.now ≡ page.origins.now.source.now }
+    requires short { length page.origins.now.source.now ≤ 2 ^ 20 }
     ensures { IfOk result (λ values. map view values.items ≡ map (finding_data page.entry.names.now
-        page.entry.places.now page.entry.main page.entry.cobegin_at) findings.now) }
+        page.entry.origins.now.source.now page.entry.main page.entry.cobegin_at) findings.now) }
 {
     let mut values = Vec::new(alloc);
     for finding in findings {

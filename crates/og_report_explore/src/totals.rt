@@ -2,7 +2,7 @@
 
 ghost use Rattle.std.specs.Prelude.{◌≡◌, ◌++◌, ◌≤◌, [], length, OnOk};
 ghost use Rattle.std.specs.List.{list_any};
-ghost use Rattle.og_report_explore.specs.Totals.{is_stuck, is_unsafe, found_of, safe_of, unblocked_of, found_word, found_line, complete_word, between_text, range_text, ranges_text, given_text, starts_line, moments_line, totals_text};
+ghost use Rattle.og_report_explore.specs.Totals.{is_stuck, is_unsafe, found_of, safe_of, unblocked_of, found_word, found_line, complete_word, between_text, range_text, ranges_text, given_text, starts_line, moments_line, ended_line, totals_text};
 
 use crate::finding::{Fault, Finding};
 use og_report_text::{put_constant, put_name, put_number, put_value};
@@ -29,6 +29,8 @@ pub struct Totals {
     pub given: Vec<(i64, i64)>,
     /// How many moments were met.
     pub moments: u64,
+    /// At how many of them all have ended.
+    pub ended: u64,
     /// Whether all moments were met.
     pub complete: bool,
 }
@@ -214,6 +216,15 @@ fn put_moments(text: &mut Vec<u8>, moments: u64) -> Result<(), AllocError>
     text.extend_from_slice(b"\n")
 }
 
+// At how many of them all have ended.
+fn put_ended(text: &mut Vec<u8>, ended: u64) -> Result<(), AllocError>
+    ensures { OnOk result (text.new.items ≡ text.old.items ++ ended_line ended) }
+{
+    text.extend_from_slice(b"ended: ")?;
+    put_number(text, u128::from(ended))?;
+    text.extend_from_slice(b"\n")
+}
+
 /// Adds the totals to the text.
 ///
 /// # Errors
@@ -231,6 +242,7 @@ pub(crate) fn put_totals(
 {
     put_starts(text, names, totals.starts, &totals.given)?;
     put_moments(text, totals.moments)?;
+    put_ended(text, totals.ended)?;
     put_complete(text, totals.complete)?;
     put_found(text, b"safe", totals.safe(findings))?;
     put_found(text, b"unblocked", totals.unblocked(findings))

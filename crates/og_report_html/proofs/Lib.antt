@@ -1,4 +1,5 @@
 pub mod Charts
+pub mod Cuts
 pub mod Marking
 pub mod Steps
 pub mod Targeting

@@ -1,16 +1,21 @@
 -- A block for each condition that is not proved.
-use Rattle.std.specs.Prelude.{ℕ, ◌+◌, ◌-◌, ◌==◌, slice_get, List, [], ◌∷◌, ◌++◌, length, Bool, if◌then◌else◌, Option, Some, None, map, unwrap_or, codes}
+use Rattle.std.specs.Prelude.{ℕ, ◌-◌, ◌==◌, slice_get, List, [], ◌∷◌, Bool, if◌then◌else◌, Option, Some, None, map, unwrap_or, codes}
 use Rattle.std.specs.Fmt.{decimal}
 use Rattle.og_text.specs.Place.{line_at}
 use Rattle.og_cond.specs.Condition.{Condition}
+use Rattle.og_typed.specs.Syntax.{Program}
 use Rattle.og_report_text.specs.Places.{◌&◌}
 use Rattle.og_report_text.specs.Origins.{Rows}
-use Rattle.og_report_prove.specs.Effects.{first_with}
+use Rattle.og_report_prove.specs.Effects.{after_diagnosis}
 use Rattle.og_report_prove.specs.Report.{diagnosis_text}
 use Rattle.og_report_prove.specs.declared.diagnosis.Diagnosis.{Diagnosis}
+use Rattle.og_report_prove.specs.declared.diagnosis.Diagnosis.TheVariants as diagnosis
+use Rattle.og_report_runs.specs.declared.witness.Run.{Run}
+use Rattle.og_report_findings.specs.Entries.{Entry}
+use Rattle.og_report_findings.specs.Hints.{hints_text}
 use Rattle.og_report_html.specs.Escapes.{escaped_text}
 use Rattle.og_report_html.specs.Findings.{finding_of, word}
-use Rattle.og_report_html.specs.Marks.{marked_place}
+use Rattle.og_report_html.specs.Marks.{marked_place, shown_at}
 use Rattle.og_report_html.specs.declared.articles.Frame.{Frame}
 use Rattle.og_report_html.specs.declared.finding.Finding.{Finding}
 use Rattle.og_report_html.specs.declared.target.Target.{Target}
@@ -27,9 +32,15 @@ step_place c = unwrap_or c.action_at c.at
 abbrev pub step_link : ℕ → ℕ → List ℕ
 step_link line step = if line == step then [] else codes ", step at " & line_link step
 
+-- the line of a part of the outline
+abbrev pub shown_line : List ℕ → Rows → ℕ → ℕ
+shown_line source rows at = line_at source (shown_at rows at)
+
 -- the place of a condition, and that of its step
-abbrev pub links_text : List ℕ → Condition → Diagnosis → Target → List ℕ
-links_text source c t g = line_link (line_at source (marked_place c t g)) & step_link (line_at source (marked_place c t g)) (line_at source (step_place c))
+abbrev pub links_text : List ℕ → Rows → Condition → Diagnosis → Target → List ℕ
+links_text source rows c t g =
+    line_link (shown_line source rows (marked_place c t g))
+    & step_link (shown_line source rows (marked_place c t g)) (shown_line source rows (step_place c))
 
 -- ---- a block
 
@@ -49,28 +60,39 @@ article utf8 n f printed beneath links = article_start n f & escaped_text utf8 p
 abbrev pub beneath_at : List (List ℕ) → ℕ → List ℕ
 beneath_at beneath i = unwrap_or (slice_get beneath i) []
 
-module _ (names : List (List ℕ)) (source : List ℕ) (rows : Rows) where
+-- the bounds that would help where a condition is false, as `prove` prints them
+abbrev pub bounds_text : Program → Diagnosis → Run → List ℕ
+bounds_text o diagnosis.Proved r = []
+bounds_text o (diagnosis.False block) r = hints_text o block r
+bounds_text o diagnosis.Open r = []
+
+-- where a condition belongs; one of which nothing is said at its own place
+abbrev pub target_at : List Target → Entry → Target
+target_at gs e = unwrap_or (slice_get gs (e.number - 1)) (record { goal = e.condition.at; interference = None })
+
+module _ (o : Program) (names : List (List ℕ)) (source : List ℕ) (rows : Rows) where
   -- the text that `prove` prints of a condition, where it is known which conditions had an effect before
-  abbrev pub printed : (List ℕ → Option ℕ) → ℕ → Condition → Diagnosis → List ℕ
-  printed known n c t = diagnosis_text names source rows known n c (Some 0) t
+  abbrev pub printed : (List ℕ → Option ℕ) → Entry → List ℕ
+  printed known e =
+      diagnosis_text names source rows known e.number e.condition (Some 0) e.diagnosis & bounds_text o e.diagnosis e.run
 
-module _ (utf8 : Bool) (beneath : List (List ℕ)) (names : List (List ℕ)) (source : List ℕ) (rows : Rows) where
-  -- nothing of one that is proved
-  abbrev pub article_of : (List ℕ → Option ℕ) → ℕ → Condition → Diagnosis → Target → Option Finding → List ℕ
-  article_of known n c t g None = []
-  article_of known n c t g (Some f) = article utf8 n f (printed names source rows known n c t) (beneath_at beneath (n - 1)) (links_text source c t g)
+  module _ (utf8 : Bool) (beneath : List (List ℕ)) where
+    -- nothing of one that is proved
+    abbrev pub article_of : (List ℕ → Option ℕ) → Entry → Target → Option Finding → List ℕ
+    article_of known e g None = []
+    article_of known e g (Some f) =
+        article utf8 e.number f (printed known e) (beneath_at beneath (e.number - 1)) (links_text source rows e.condition e.diagnosis g)
 
-  abbrev pub article_text : (List ℕ → Option ℕ) → ℕ → Condition → Diagnosis → Target → List ℕ
-  article_text known n c t g = article_of known n c t g (finding_of t)
+    abbrev pub article_text : (List ℕ → Option ℕ) → Entry → Target → List ℕ
+    article_text known e g = article_of known e g (finding_of e.diagnosis)
 
-  -- of these, after those
-  abbrev pub articles_text : List Diagnosis → List Condition → List Diagnosis → List Target → List ℕ
-  articles_text done [] ts gs = []
-  articles_text done (c ∷ cs) [] gs = []
-  articles_text done (c ∷ cs) (t ∷ ts) [] = []
-  articles_text done (c ∷ cs) (t ∷ ts) (g ∷ gs) =
-      article_text (λ text. first_with names source rows text 1 done) (length done + 1) c t g & articles_text (done ++ t ∷ []) cs ts gs
+    -- one after another: what an action makes false is told at the first that says so
+    abbrev pub articles_text : (List ℕ → Option ℕ) → List Entry → List Target → List ℕ
+    articles_text known [] gs = []
+    articles_text known (e ∷ es) gs =
+        article_text known e (target_at gs e)
+        & articles_text (λ text. after_diagnosis names source rows e.diagnosis text e.number (known text)) es gs
 
 -- by what it is written with
-abbrev pub article_by : Frame → (List ℕ → Option ℕ) → ℕ → Condition → Diagnosis → Target → Option Finding → List ℕ
-article_by f = article_of f.utf8 (map (λ t. t.items) f.beneath.now) f.page.names.now f.page.origins.now.source.now f.page.origins.now.rows
+abbrev pub article_by : Frame → (List ℕ → Option ℕ) → Entry → Target → Option Finding → List ℕ
+article_by f = article_of f.hints.now f.page.names.now f.page.origins.now.source.now f.page.origins.now.rows f.utf8 (map (λ t. t.items) f.beneath.now)

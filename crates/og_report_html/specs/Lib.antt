@@ -1,10 +1,13 @@
 pub mod Articles
+pub mod Conjuncts
+pub mod Edges
 pub mod Escapes
 pub mod Findings
 pub mod Lanes
 pub mod Marks
 pub mod Numbers
 pub mod Page
+pub mod Shared
 pub mod Source
 pub mod Table
 pub mod Targets

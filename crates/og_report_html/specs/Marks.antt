@@ -4,6 +4,7 @@ use Rattle.std.specs.Ordering.{nat_cmp}
 use Rattle.std.specs.BTreeMap.{BTreeMap, get_by}
 use Rattle.og_typed.specs.Plain.{noted}
 use Rattle.og_cond.specs.Condition.{Condition}
+use Rattle.og_report_text.specs.Origins.{Rows, row_at, from_of}
 use Rattle.og_report_explain.specs.declared.explanation.Fault.{Fault}
 use Rattle.og_report_explain.specs.declared.explanation.Fault.TheVariants as fault
 use Rattle.og_report_prove.specs.declared.diagnosis.Diagnosis.{Diagnosis}
@@ -26,10 +27,14 @@ marked_place c diagnosis.Proved g = g.goal
 marked_place c (diagnosis.False block) g = fault_place c block.details.value.explanation.fault
 marked_place c diagnosis.Open g = g.goal
 
+-- where a part of the outline stands in the text that is shown
+abbrev pub shown_at : Rows → ℕ → ℕ
+shown_at rows at = from_of (row_at rows at) at
+
 -- and at the action of which it speaks
-abbrev pub is_action : ℕ → Option ℕ → Bool
-is_action at None = false
-is_action at (Some action) = at == action
+abbrev pub is_action : Rows → ℕ → Option ℕ → Bool
+is_action rows at None = false
+is_action rows at (Some action) = at == shown_at rows action
 
 -- ---- the mark of a place
 
@@ -58,20 +63,22 @@ abbrev pub marked : Bool → Option Mark → Option Mark → Option Mark
 marked false m old = old
 marked true m old = with_mark m old
 
--- with a condition more
-abbrev pub with_diagnosis : ℕ → ℕ → Condition → Diagnosis → Target → Option Mark → Option Mark
-with_diagnosis at n c t g old = marked (is_action at c.action_at) (mark_of n t) (marked (at == marked_place c t g) (mark_of n t) old)
+module _ (rows : Rows) where
+  -- with a condition more
+  abbrev pub with_diagnosis : ℕ → ℕ → Condition → Diagnosis → Target → Option Mark → Option Mark
+  with_diagnosis at n c t g old =
+      marked (is_action rows at c.action_at) (mark_of n t) (marked (at == shown_at rows (marked_place c t g)) (mark_of n t) old)
 
--- with these, numbered on
-abbrev pub with_all : ℕ → Option Mark → ℕ → List Condition → List Diagnosis → List Target → Option Mark
-with_all at old n [] ts gs = old
-with_all at old n (c ∷ cs) [] gs = old
-with_all at old n (c ∷ cs) (t ∷ ts) [] = old
-with_all at old n (c ∷ cs) (t ∷ ts) (g ∷ gs) = with_all at (with_diagnosis at n c t g old) (n + 1) cs ts gs
+  -- with these, numbered on
+  abbrev pub with_all : ℕ → Option Mark → ℕ → List Condition → List Diagnosis → List Target → Option Mark
+  with_all at old n [] ts gs = old
+  with_all at old n (c ∷ cs) [] gs = old
+  with_all at old n (c ∷ cs) (t ∷ ts) [] = old
+  with_all at old n (c ∷ cs) (t ∷ ts) (g ∷ gs) = with_all at (with_diagnosis at n c t g old) (n + 1) cs ts gs
 
--- of the conditions that have their place at a byte offset, the first one that is false, else the first one that is open
-abbrev pub mark_at : List Condition → List Diagnosis → List Target → ℕ → Option Mark
-mark_at cs ts gs at = with_all at None 1 cs ts gs
+  -- of the conditions that have their place at a byte offset, the first one that is false, else the first one that is open
+  abbrev pub mark_at : List Condition → List Diagnosis → List Target → ℕ → Option Mark
+  mark_at cs ts gs at = with_all at None 1 cs ts gs
 
 -- ---- the words of the contracts of private functions
 

@@ -3,6 +3,10 @@ use Rattle.std.specs.Prelude.{ℕ, ◌+◌, ◌==◌, List, [], ◌∷◌, Bool,
 use Rattle.std.specs.Fmt.{decimal}
 use Rattle.og_report_text.specs.Places.{◌&◌}
 use Rattle.og_report_html.specs.Escapes.{escaped}
+use Rattle.og_report_html.specs.declared.constants.TheConstants.{SHARED_WORD}
+use Rattle.og_report_html.specs.declared.edge.Boundary.{Boundary}
+use Rattle.og_report_html.specs.declared.edge.Edge.{Edge}
+use Rattle.og_report_html.specs.declared.edge.Edge.TheVariants as edge
 use Rattle.og_report_html.specs.declared.marks.Mark.{Mark}
 use Rattle.og_report_html.specs.declared.marks.Mark.TheVariants as mark
 use Rattle.og_report_html.specs.declared.mode.Mode.{Mode}
@@ -90,9 +94,30 @@ line_number n = codes "<span class=n id=L" & decimal n & codes ">" & decimal n &
 abbrev pub line_start : Bool → ℕ → List ℕ
 line_start first line = if first then line_number line else []
 
--- a byte in this line, perhaps the first one there, with what ends and begins at it
-abbrev pub byte_text : Bool → Option Mark → Spot → Mode → ℕ → List ℕ
-byte_text utf8 m spot new b = line_start spot.first spot.line & ending spot.mode new & starting spot.mode new m & escaped utf8 b & closing spot.mode new
+-- what all assertions share is folded behind a word; what is false stands out
+abbrev pub edge_text : Edge → List ℕ
+edge_text edge.Shared = codes "<label for=shared>" & SHARED_WORD.now & codes "</label><u>"
+edge_text edge.SharedEnd = codes "</u>"
+edge_text edge.False = codes "<em>"
+edge_text edge.FalseEnd = codes "</em>"
+
+-- of the first one, where it stands at this byte offset
+abbrev pub edge_here : ℕ → List Boundary → List ℕ
+edge_here at [] = []
+edge_here at (e ∷ es) = if e.at == at then edge_text e.edge else []
+
+-- those behind it
+abbrev pub later : ℕ → List Boundary → List Boundary
+later at [] = []
+later at (e ∷ es) = if e.at == at then es else e ∷ es
+
+-- a byte, with what ends and begins at it
+abbrev pub byte_text : Bool → Option Mark → Mode → Mode → ℕ → List ℕ
+byte_text utf8 m old new b = ending old new & starting old new m & escaped utf8 b & closing old new
+
+-- in this line, perhaps the first one there
+abbrev pub place_text : Bool → Option Mark → List ℕ → Spot → Mode → ℕ → List ℕ
+place_text utf8 m edge spot new b = line_start spot.first spot.line & edge & byte_text utf8 m spot.mode new b
 
 abbrev pub line_after : ℕ → ℕ → ℕ
 line_after line b = if b == 10 then line + 1 else line
@@ -107,11 +132,11 @@ first_spot = record { line = 1; first = true; mode = mode.Text }
 
 module _ (utf8 : Bool) (marks : ℕ → Option Mark) where
   -- from a byte offset on
-  abbrev pub source_from : ℕ → Spot → List ℕ → List ℕ
-  source_from at spot [] = ending spot.mode mode.Text & closing spot.mode mode.Text
-  source_from at spot (b ∷ bs) =
-      byte_text utf8 (marks at) spot (next spot.mode (is_some (marks at)) b) b
-      & source_from (at + 1) (next_spot spot (is_some (marks at)) b) bs
+  abbrev pub source_from : ℕ → Spot → List Boundary → List ℕ → List ℕ
+  source_from at spot es [] = ending spot.mode mode.Text & closing spot.mode mode.Text
+  source_from at spot es (b ∷ bs) =
+      place_text utf8 (marks at) (edge_here at es) spot (next spot.mode (is_some (marks at)) b) b
+      & source_from (at + 1) (next_spot spot (is_some (marks at)) b) (later at es) bs
 
-  abbrev pub source_text : List ℕ → List ℕ
-  source_text source = source_from 0 first_spot source
+  abbrev pub source_text : List Boundary → List ℕ → List ℕ
+  source_text es source = source_from 0 first_spot es source

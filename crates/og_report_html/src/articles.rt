@@ -1,21 +1,22 @@
 //! A block for each condition that is not proved.
 
-ghost use Rattle.std.specs.Prelude.{◌≡◌, ◌+◌, ◌++◌, ℕ, List, [], length, map, Some, None, IfOk, OnOk};
+ghost use Rattle.std.specs.Prelude.{◌≡◌, ◌-◌, ◌++◌, ℕ, List, map, slice_get, Some, None, IfOk, OnOk, option_map};
 ghost use Rattle.og_text.specs.Place.{line_at};
 ghost use Rattle.og_cond.specs.Seen.{seen};
 ghost use Rattle.og_cert_read.specs.Firsts.{found as number_of};
 ghost use Rattle.og_report_prove.specs.Effects.{after_diagnosis};
-ghost use Rattle.og_report_html.specs.Articles.{beneath_at, line_link, step_place, step_link, links_text, article_start, article_end, printed, article_by, articles_text};
+ghost use Rattle.og_report_findings.specs.Entries.{entry_of};
+ghost use Rattle.og_report_html.specs.Articles.{beneath_at, line_link, step_place, step_link, shown_line, links_text, article_start, article_end, bounds_text, printed, target_at, article_by, articles_text};
 ghost use Rattle.og_report_html.specs.Findings.{finding_of};
 
 use crate::escapes::put_escaped;
 use crate::finding::Finding;
 use crate::links::put_twice;
-use crate::marks::marked_place;
+use crate::marks::{marked_place, shown_at};
 use crate::target::Target;
-use og_cond::Condition;
+use og_report_findings::{Entry, Hints};
 use og_report_prove::{Diagnosis, Firsts, Page, put_diagnosis};
-use og_report_text::{Places, put_number_between};
+use og_report_text::{Origins, put_number_between};
 use std::alloc::{AllocError, Global};
 
 /// What the blocks are written with.
@@ -25,6 +26,8 @@ pub(crate) struct Frame<'a, 'b> {
     pub(crate) utf8: bool,
     /// The names and the places.
     pub(crate) page: Page<'a>,
+    /// The outline, and the bounds that would help.
+    pub(crate) hints: &'a Hints<'a>,
     /// What stands beneath the blocks of the first conditions, as HTML.
     pub(crate) beneath: &'b [Vec<u8>],
 }
@@ -59,23 +62,29 @@ fn put_step_link(text: &mut Vec<u8>, line: u32, step: u32) -> Result<(), AllocEr
     put_line_link(text, step)
 }
 
+// The line of a part of the outline.
+fn shown_line(origins: &Origins, at: u32) -> u32
+    requires { origins.now.places.now ≡ origins.now.source.now }
+    ensures { result ≡ shown_line origins.now.source.now origins.now.rows at }
+{
+    origins.places.position(shown_at(origins.rows, at)).line
+}
+
 // Links to the lines of the condition's place and of its step.
 fn put_links(
     text: &mut Vec<u8>,
-    places: &Places,
-    condition: &Condition,
-    diagnosis: &Diagnosis,
+    origins: &Origins,
+    entry: Entry,
     target: &Target,
 ) -> Result<(), AllocError>
+    requires { origins.now.places.now ≡ origins.now.source.now }
     ensures { OnOk result (text.new.items ≡ text.old.items
-        ++ links_text places.now (seen condition.now) diagnosis.now target.now) }
+        ++ links_text origins.now.source.now origins.now.rows (seen entry.entry.condition.now)
+        entry.entry.diagnosis.now target.now) }
 {
-    let line = places
-        .position(marked_place(condition, diagnosis, target))
-        .line;
-    let step = places
-        .position(condition.action_at.unwrap_or(condition.at))
-        .line;
+    let condition = entry.condition;
+    let line = shown_line(origins, marked_place(condition, entry.diagnosis, target));
+    let step = shown_line(origins, condition.action_at.unwrap_or(condition.at));
     put_line_link(text, line)?;
     put_step_link(text, line, step)
 }
@@ -93,57 +102,68 @@ fn put_article_start(text: &mut Vec<u8>, number: u128, finding: Finding) -> Resu
 fn put_article_end(
     text: &mut Vec<u8>,
     beneath: &[u8],
-    places: &Places,
-    condition: &Condition,
-    diagnosis: &Diagnosis,
+    origins: &Origins,
+    entry: Entry,
     target: &Target,
 ) -> Result<(), AllocError>
+    requires { origins.now.places.now ≡ origins.now.source.now }
     ensures { OnOk result (text.new.items ≡ text.old.items ++ article_end beneath.now
-        (links_text places.now (seen condition.now) diagnosis.now target.now)) }
+        (links_text origins.now.source.now origins.now.rows (seen entry.entry.condition.now)
+        entry.entry.diagnosis.now target.now)) }
 {
     text.extend_from_slice(b"</pre>\n")?;
     text.extend_from_slice(beneath)?;
     text.extend_from_slice(b"<p>")?;
-    put_links(text, places, condition, diagnosis, target)?;
+    put_links(text, origins, entry, target)?;
     text.extend_from_slice(b"</p></article>\n")
+}
+
+// The bounds that would help where a condition is false.
+fn put_bounds(text: &mut Vec<u8>, hints: &Hints, entry: Entry) -> Result<(), AllocError>
+    ensures { OnOk result (text.new.items ≡ text.old.items
+        ++ bounds_text hints.now entry.entry.diagnosis.now entry.entry.run.now) }
+{
+    match entry.diagnosis {
+        Diagnosis::Proved | Diagnosis::Open => Ok(()),
+        Diagnosis::False(block) => hints.put(text, block, entry.run),
+    }
 }
 
 // What `prove` prints of a condition.
 fn printed(
     alloc: Global,
-    page: Page,
+    frame: Frame,
     firsts: &mut Firsts,
-    number: u128,
-    condition: &Condition,
-    diagnosis: &Diagnosis,
+    entry: Entry,
 ) -> Result<Vec<u8>, AllocError>
-    requires { page.origins.now.places.now ≡ page.origins.now.source.now }
-    ensures text { IfOk result (λ t. t.items ≡ printed page.entry.names.now
-        page.entry.origins.now.source.now page.entry.origins.now.rows (λ t. number_of t firsts.old)
-        number (seen condition.now) diagnosis.now) }
+    requires { frame.page.origins.now.places.now ≡ frame.page.origins.now.source.now }
+    ensures text { IfOk result (λ t. t.items ≡ printed frame.entry.hints.now
+        frame.entry.page.names.now frame.entry.page.origins.now.source.now
+        frame.entry.page.origins.now.rows (λ t. number_of t firsts.old) (entry_of entry.entry)) }
     ensures firsts { IfOk result (λ r. (t : List ℕ) → number_of t firsts.new
-        ≡ after_diagnosis page.entry.names.now page.entry.origins.now.source.now page.entry.origins.now.rows diagnosis.now t number (number_of t firsts.old)) }
+        ≡ after_diagnosis frame.entry.page.names.now frame.entry.page.origins.now.source.now
+        frame.entry.page.origins.now.rows entry.entry.diagnosis.now t entry.entry.number
+        (number_of t firsts.old)) }
 {
     let mut text = Vec::new(alloc);
     put_diagnosis(
         &mut text,
         firsts,
-        page,
-        number,
-        condition,
+        frame.page,
+        u128::from(entry.number),
+        entry.condition,
         Some(0),
-        diagnosis,
+        entry.diagnosis,
     )?;
+    put_bounds(&mut text, frame.hints, entry)?;
     Ok(text)
 }
 
-// A condition by its index, the finding on it, and where it belongs.
+// A condition, and where it belongs.
 #[derive(Clone, Copy)]
 struct Item<'i, 'c, 'd> {
-    index: usize,
-    condition: &'i Condition<'c>,
-    diagnosis: &'i Diagnosis<'d>,
-    target: &'i Target,
+    entry: Entry<'i, 'c, 'd>,
+    target: Target,
 }
 
 impl Item<'_, '_, '_> {
@@ -157,20 +177,19 @@ impl Item<'_, '_, '_> {
     ) -> Result<(), AllocError>
         requires { frame.page.origins.now.places.now ≡ frame.page.origins.now.source.now }
         ensures text { OnOk result (text.new.items ≡ text.old.items ++ article_by frame.entry
-            (λ t. number_of t firsts.old) (self.now.index + 1) (seen self.now.condition.now)
-            self.now.diagnosis.now self.now.target.now (Some finding)) }
+            (λ t. number_of t firsts.old) (entry_of self.now.entry) self.now.target
+            (Some finding)) }
         ensures firsts { OnOk result ((t : List ℕ) → number_of t firsts.new
-            ≡ after_diagnosis frame.entry.page.names.now frame.entry.page.origins.now.source.now frame.entry.page.origins.now.rows self.now.diagnosis.now t (self.now.index + 1) (number_of t firsts.old)) }
+            ≡ after_diagnosis frame.entry.page.names.now frame.entry.page.origins.now.source.now
+            frame.entry.page.origins.now.rows self.now.entry.diagnosis.now t self.now.entry.number
+            (number_of t firsts.old)) }
     {
-        let (condition, diagnosis) = (self.condition, self.diagnosis);
-        let alloc = *text.allocator();
-        let number = self.index as u128 + 1;
-        let printed = printed(alloc, frame.page, firsts, number, condition, diagnosis)?;
-        put_article_start(text, number, finding)?;
+        let entry = self.entry;
+        let printed = printed(*text.allocator(), frame, firsts, entry)?;
+        put_article_start(text, u128::from(entry.number), finding)?;
         put_escaped(text, frame.utf8, &printed)?;
-        let beneath = frame.beneath(self.index);
-        let places = frame.page.origins.places;
-        put_article_end(text, beneath, places, condition, diagnosis, self.target)
+        let beneath = frame.beneath(entry.number.saturating_sub(1) as usize);
+        put_article_end(text, beneath, frame.page.origins, entry, &self.target)
     }
 
     // But nothing of one that is proved.
@@ -182,42 +201,52 @@ impl Item<'_, '_, '_> {
     ) -> Result<(), AllocError>
         requires { frame.page.origins.now.places.now ≡ frame.page.origins.now.source.now }
         ensures text { OnOk result (text.new.items ≡ text.old.items ++ article_by frame.entry
-            (λ t. number_of t firsts.old) (self.now.index + 1) (seen self.now.condition.now)
-            self.now.diagnosis.now self.now.target.now (finding_of self.now.diagnosis.now)) }
+            (λ t. number_of t firsts.old) (entry_of self.now.entry) self.now.target
+            (finding_of self.now.entry.diagnosis.now)) }
         ensures firsts { OnOk result ((t : List ℕ) → number_of t firsts.new
-            ≡ after_diagnosis frame.entry.page.names.now frame.entry.page.origins.now.source.now frame.entry.page.origins.now.rows self.now.diagnosis.now t (self.now.index + 1) (number_of t firsts.old)) }
+            ≡ after_diagnosis frame.entry.page.names.now frame.entry.page.origins.now.source.now
+            frame.entry.page.origins.now.rows self.now.entry.diagnosis.now t self.now.entry.number
+            (number_of t firsts.old)) }
     {
-        match Finding::of(self.diagnosis) {
+        match Finding::of(self.entry.diagnosis) {
             None => Ok(()),
             Some(finding) => self.put_block(text, firsts, frame, finding),
         }
     }
 }
 
-/// Adds a block for each condition that is not proved, numbered from 1.
+// Where a condition belongs; one of which nothing is said at its own place.
+fn target_at(targets: &[Target], entry: Entry) -> Target
+    ensures { result ≡ target_at targets.now (entry_of entry.entry) }
+{
+    match targets.get(entry.number.saturating_sub(1) as usize) {
+        Some(target) => *target,
+        None => Target {
+            goal: entry.condition.at,
+            interference: None,
+        },
+    }
+}
+
+/// Adds the blocks of these conditions, one after another.
 pub(crate) fn put_articles(
     text: &mut Vec<u8>,
     frame: Frame,
-    conditions: &[Condition],
-    diagnoses: &[Diagnosis],
+    entries: &[Entry],
     targets: &[Target],
 ) -> Result<(), AllocError>
     requires places { frame.page.origins.now.places.now ≡ frame.page.origins.now.source.now }
-    requires each { length diagnoses.now ≡ length conditions.now }
-    requires targets { length targets.now ≡ length conditions.now }
-    ensures { OnOk result (text.new.items ≡ text.old.items ++ articles_text frame.entry.utf8
-        (map (λ t. t.items) frame.entry.beneath.now) frame.entry.page.names.now
-        frame.entry.page.origins.now.source.now frame.entry.page.origins.now.rows []
-        (map seen conditions.now) diagnoses.now targets.now) }
+    ensures { OnOk result (text.new.items ≡ text.old.items ++ articles_text frame.entry.hints.now
+        frame.entry.page.names.now frame.entry.page.origins.now.source.now
+        frame.entry.page.origins.now.rows frame.entry.utf8
+        (map (λ t. t.items) frame.entry.beneath.now) (λ (t : List ℕ). None)
+        (map entry_of entries.now) targets.now) }
 {
     let mut firsts = Firsts::new(*text.allocator());
-    for index in 0..conditions.len() {
-        let item = Item {
-            index,
-            condition: &conditions[index],
-            diagnosis: &diagnoses[index],
-            target: &targets[index],
-        };
+    for index in 0..entries.len() {
+        let entry = entries[index];
+        let target = target_at(targets, entry);
+        let item = Item { entry, target };
         item.put_article(text, &mut firsts, frame)?;
     }
     Ok(())

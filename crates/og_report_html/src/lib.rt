@@ -1,11 +1,15 @@
 //! The page of `show`: the finding on each condition, and the runs to it as charts.
 //!
-//! specs/Page.antt defines the page, Lanes.antt the charts.
+//! specs/Page.antt defines the page, Conjuncts.antt, Shared.antt and Edges.antt what stands out in its
+//! assertions and what is folded, Lanes.antt the charts.
 #![tactic(auto)]
 
 mod articles;
 mod charting;
+mod conjuncts;
 mod constants;
+mod cut;
+mod edge;
 mod escapes;
 mod finding;
 mod lanes;
@@ -14,6 +18,7 @@ mod marks;
 mod mode;
 mod numbers;
 mod run_texts;
+mod shared;
 mod source;
 mod table;
 mod target;

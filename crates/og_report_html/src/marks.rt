@@ -1,13 +1,15 @@
 //! The findings at the places in the source.
 
-ghost use Rattle.std.specs.Prelude.{◌≡◌, ◌++◌, ◌==◌, ◌<◌, ◌^◌, ℕ, length, map, Some, IfOk, OnOk};
+ghost use Rattle.std.specs.Prelude.{◌≡◌, ◌++◌, ◌==◌, ◌<◌, ◌^◌, ℕ, length, map, option_map, Some, IfOk, OnOk};
 ghost use Rattle.og_cond.specs.Seen.{seen};
-ghost use Rattle.og_report_html.specs.Marks.{fault_place, marked_place, is_action, mark_of, after_open, joined, with_mark, marked, with_diagnosis, mark_at, found};
+ghost use Rattle.og_report_text.specs.Origins.{row_at};
+ghost use Rattle.og_report_html.specs.Marks.{fault_place, marked_place, shown_at, is_action, mark_of, after_open, joined, with_mark, marked, with_diagnosis, mark_at, found};
 
 use crate::target::Target;
 use og_cond::Condition;
 use og_report_explain::Fault;
 use og_report_prove::Diagnosis;
+use og_report_text::{Row, Rows};
 use std::alloc::{AllocError, Global};
 use std::collections::BTreeMap;
 
@@ -70,6 +72,23 @@ pub(crate) fn marked_place(condition: &Condition, diagnosis: &Diagnosis, target:
     }
 }
 
+/// The row of a part of the outline.
+pub(crate) fn row(rows: Option<&Rows>, at: u32) -> Option<&Row>
+    ensures { option_map (λ r. r.now) result ≡ row_at rows.entry at }
+{
+    rows?.get(&at)
+}
+
+/// Where the part of the outline at the byte offset `at` stands in the text that is shown.
+pub(crate) fn shown_at(rows: Option<&Rows>, at: u32) -> u32
+    ensures { result ≡ shown_at rows.entry at }
+{
+    match row(rows, at) {
+        None => at,
+        Some(row) => row.from,
+    }
+}
+
 // One mark more.
 fn add_mark(marks: &mut Marks, at: u32, mark: Mark) -> Result<(), AllocError>
     ensures { OnOk result ((p : ℕ) → found p marks.new
@@ -81,37 +100,46 @@ fn add_mark(marks: &mut Marks, at: u32, mark: Mark) -> Result<(), AllocError>
 }
 
 // One mark more, where there is such a place.
-fn add_action_mark(marks: &mut Marks, at: Option<u32>, mark: Mark) -> Result<(), AllocError>
+fn add_action_mark(
+    marks: &mut Marks,
+    rows: Option<&Rows>,
+    at: Option<u32>,
+    mark: Mark,
+) -> Result<(), AllocError>
     ensures { OnOk result ((p : ℕ) → found p marks.new
-        ≡ marked (is_action p at) (Some mark) (found p marks.old)) }
+        ≡ marked (is_action rows.entry p at) (Some mark) (found p marks.old)) }
 {
     match at {
         None => Ok(()),
-        Some(at) => add_mark(marks, at, mark),
+        Some(at) => add_mark(marks, shown_at(rows, at), mark),
     }
 }
 
 // The marks of a condition.
 fn add_diagnosis(
     marks: &mut Marks,
+    rows: Option<&Rows>,
     number: u128,
     condition: &Condition,
     diagnosis: &Diagnosis,
     target: &Target,
 ) -> Result<(), AllocError>
     ensures { OnOk result ((p : ℕ) → found p marks.new
-        ≡ with_diagnosis p number (seen condition.now) diagnosis.now target.now (found p marks.old)) }
+        ≡ with_diagnosis rows.entry p number (seen condition.now) diagnosis.now target.now
+        (found p marks.old)) }
 {
     let Some(mark) = Mark::of(number, diagnosis) else {
         return Ok(());
     };
-    add_mark(marks, marked_place(condition, diagnosis, target), mark)?;
-    add_action_mark(marks, condition.action_at, mark)
+    let place = shown_at(rows, marked_place(condition, diagnosis, target));
+    add_mark(marks, place, mark)?;
+    add_action_mark(marks, rows, condition.action_at, mark)
 }
 
-/// The marks of all conditions.
+/// The marks of all conditions, in the text that is shown.
 pub(crate) fn marks_of(
     alloc: Global,
+    rows: Option<&Rows>,
     conditions: &[Condition],
     diagnoses: &[Diagnosis],
     targets: &[Target],
@@ -119,13 +147,21 @@ pub(crate) fn marks_of(
     requires diagnoses { length diagnoses.now ≡ length conditions.now }
     requires targets { length targets.now ≡ length conditions.now }
     ensures { IfOk result (λ marks.
-        (p : ℕ) → found p marks ≡ mark_at (map seen conditions.now) diagnoses.now targets.now p) }
+        (p : ℕ) → found p marks
+        ≡ mark_at rows.entry (map seen conditions.now) diagnoses.now targets.now p) }
 {
     let mut marks = Marks::new(alloc);
     for index in 0..conditions.len() {
         let number = index as u128 + 1;
         let (condition, target) = (&conditions[index], &targets[index]);
-        add_diagnosis(&mut marks, number, condition, &diagnoses[index], target)?;
+        add_diagnosis(
+            &mut marks,
+            rows,
+            number,
+            condition,
+            &diagnoses[index],
+            target,
+        )?;
     }
     Ok(marks)
 }

@@ -1,13 +1,14 @@
-//! The numbers of the conditions that are not proved.
+//! The heading above the blocks, and the numbers of the conditions that are not proved.
 
 ghost use Rattle.std.specs.Prelude.{◌≡◌, ◌++◌, OnOk};
 ghost use Rattle.std.specs.List.{list_any};
 ghost use Rattle.og_report_html.specs.Findings.{is_found};
-ghost use Rattle.og_report_html.specs.Numbers.{number_link, number_where, number_links, numbers_line, numbers_of, numbers_text};
+ghost use Rattle.og_report_html.specs.Numbers.{number_link, number_where, number_links, numbers_line, numbers_of, numbers_text, heading_text};
 
+use crate::constants::{ALL_PROVED, BEFORE_BLOCKS};
 use crate::finding::Finding;
 use crate::links::put_twice;
-use og_report_prove::Diagnosis;
+use og_report_prove::{Diagnosis, is_safe, is_unblocked};
 use std::alloc::AllocError;
 
 // A link to the block of a condition.
@@ -92,4 +93,15 @@ pub(crate) fn put_numbers(text: &mut Vec<u8>, diagnoses: &[Diagnosis]) -> Result
 {
     put_numbers_of(text, Finding::False, diagnoses)?;
     put_numbers_of(text, Finding::Open, diagnoses)
+}
+
+/// Adds the heading above the blocks, or that there are none.
+pub(crate) fn put_heading(text: &mut Vec<u8>, diagnoses: &[Diagnosis]) -> Result<(), AllocError>
+    ensures { OnOk result (text.new.items ≡ text.old.items ++ heading_text diagnoses.now) }
+{
+    if is_safe(diagnoses) && is_unblocked(diagnoses) {
+        text.extend_from_slice(ALL_PROVED)
+    } else {
+        text.extend_from_slice(BEFORE_BLOCKS)
+    }
 }

@@ -2,8 +2,11 @@
 
 ghost use Rattle.std.specs.Prelude.{◌≡◌, ◌++◌, ◌≤◌, ◌^◌, ℕ, length, OnOk};
 ghost use Rattle.og_report_html.specs.Marks.{found};
-ghost use Rattle.og_report_html.specs.Source.{link_start, assertion_start, statement_start, ending, starting, closing, line_number, line_start, byte_text, source_text};
+ghost use Rattle.og_report_html.specs.declared.edge.Edge.TheVariants as Edge;
+ghost use Rattle.og_report_html.specs.Source.{link_start, assertion_start, statement_start, ending, starting, closing, line_number, line_start, edge_text, edge_here, later, byte_text, source_text};
 
+use crate::constants::SHARED_WORD;
+use crate::edge::{Boundary, Edge};
 use crate::escapes::put_byte;
 use crate::links::put_twice;
 use crate::marks::{Mark, Marks};
@@ -112,22 +115,62 @@ fn put_line_start(text: &mut Vec<u8>, spot: Spot) -> Result<(), AllocError>
     }
 }
 
+// What begins behind the word that stands for what all assertions share.
+fn put_fold(text: &mut Vec<u8>) -> Result<(), AllocError>
+    ensures { OnOk result (text.new.items ≡ text.old.items ++ edge_text Edge.Shared) }
+{
+    text.extend_from_slice(b"<label for=shared>")?;
+    text.extend_from_slice(SHARED_WORD)?;
+    text.extend_from_slice(b"</label><u>")
+}
+
+// What begins or ends within an assertion.
+fn put_edge(text: &mut Vec<u8>, edge: Edge) -> Result<(), AllocError>
+    ensures { OnOk result (text.new.items ≡ text.old.items ++ edge_text edge) }
+{
+    match edge {
+        Edge::Shared => put_fold(text),
+        Edge::SharedEnd => text.extend_from_slice(b"</u>"),
+        Edge::False => text.extend_from_slice(b"<em>"),
+        Edge::FalseEnd => text.extend_from_slice(b"</em>"),
+    }
+}
+
+// The next one, where it stands at this byte offset.
+fn put_edge_here(text: &mut Vec<u8>, at: u32, edges: &[Boundary]) -> Result<(), AllocError>
+    ensures { OnOk result (text.new.items ≡ text.old.items ++ edge_here at edges.now) }
+{
+    match edges {
+        [first, ..] if first.at == at => put_edge(text, first.edge),
+        _ => Ok(()),
+    }
+}
+
+// Those behind it.
+fn later(at: u32, edges: &[Boundary]) -> &[Boundary]
+    ensures { result.now ≡ later at edges.now }
+{
+    match edges {
+        [first, others @ ..] if first.at == at => others,
+        _ => edges,
+    }
+}
+
 // A byte, with what ends and begins at it.
 fn put_source_byte(
     text: &mut Vec<u8>,
     utf8: bool,
     mark: Option<Mark>,
-    spot: Spot,
+    old: Mode,
     new: Mode,
     byte: u8,
 ) -> Result<(), AllocError>
-    ensures { OnOk result (text.new.items ≡ text.old.items ++ byte_text utf8 mark spot new byte) }
+    ensures { OnOk result (text.new.items ≡ text.old.items ++ byte_text utf8 mark old new byte) }
 {
-    put_line_start(text, spot)?;
-    put_ending(text, spot.mode, new)?;
-    put_starting(text, spot.mode, new, mark)?;
+    put_ending(text, old, new)?;
+    put_starting(text, old, new, mark)?;
     put_byte(text, utf8, byte)?;
-    put_closing(text, spot.mode, new)
+    put_closing(text, old, new)
 }
 
 /// Adds the source: each line with its number, the assertions and the marked statements as links.
@@ -135,18 +178,23 @@ pub(crate) fn put_source(
     text: &mut Vec<u8>,
     utf8: bool,
     marks: &Marks,
+    edges: &[Boundary],
     source: &[u8],
 ) -> Result<(), AllocError>
     requires { length source.now ≤ 2 ^ 20 }
     ensures { OnOk result (text.new.items ≡ text.old.items
-        ++ source_text utf8 (λ (p : ℕ). found p marks.now) source.now) }
+        ++ source_text utf8 (λ (p : ℕ). found p marks.now) edges.now source.now) }
 {
     let mut spot = Spot::first();
+    let mut rest = edges;
     for at in 0..source.len() {
         let byte = source[at];
         let mark = marks.get(&(at as u32)).copied();
         let next = spot.next(mark.is_some(), byte);
-        put_source_byte(text, utf8, mark, spot, next.mode, byte)?;
+        put_line_start(text, spot)?;
+        put_edge_here(text, at as u32, rest)?;
+        put_source_byte(text, utf8, mark, spot.mode, next.mode, byte)?;
+        rest = later(at as u32, rest);
         spot = next;
     }
     put_ending(text, spot.mode, Mode::Text)?;

@@ -1,20 +1,11 @@
--- The report of conditions one after another, with the effects that are known.
-use Rattle.std.proofs.Common.{◌≡◌, ℕ, ◌+◌, List, [], ◌∷◌, ◌++◌, length, drop, Bool, true, false, cond, Option, Some, None, Vec, refl, sym, ap, ap₂, ◌∙◌, append_assoc, length-append, arith, codes}
-use Rattle.std.specs.Global.{Global}
+-- The report of a condition, with the effects that are known.
+use Rattle.std.proofs.Common.{◌≡◌, ℕ, ◌+◌, List, [], ◌∷◌, ◌++◌, length, Bool, true, false, cond, Option, Some, None, refl, sym, ap, ◌∙◌, arith, codes}
 use Rattle.std.specs.Str.{bytes_eq}
-use Rattle.std.specs.Ordering.{nat_cmp}
-use Rattle.std.specs.Cmp.Lexicographic.{slice_cmp}
-use Rattle.std.specs.BTreeMap.{BTreeMap, is_at}
-use Rattle.std.specs.Map.{lookup}
-use Rattle.std.specs.Prelude.{slice_get}
 use Rattle.og_typed.specs.Syntax.{Formula}
-use Rattle.og_cert_read.specs.Firsts.{found}
 use Rattle.og_cond.specs.Condition.{Condition}
 use Rattle.og_report_prove.specs.Blocks.{block_text}
 use Rattle.og_report_prove.specs.Effects.{alike_line, effect_of, effect_text, has_text, has_effect, first_with, after_effect, after_diagnosis}
-use Rattle.og_report_prove.specs.Report.{effect_or_block, alike_or_block, body_text, head_text, one_text, diagnosis_text, diagnosis_lines}
-use Rattle.og_report_prove.specs.Together.{shown}
-use Rattle.og_report_prove.proofs.Lists.{dropped}
+use Rattle.og_report_prove.specs.Report.{effect_or_block, alike_or_block, body_text, head_text, one_text, diagnosis_text}
 use Rattle.og_report_text.specs.Origins.{Rows}
 use Rattle.og_report_prove.specs.declared.block.Block.{Block}
 use Rattle.og_report_prove.specs.declared.diagnosis.Diagnosis.{Diagnosis}
@@ -87,58 +78,3 @@ module _ (names : List (List ℕ)) (source : List ℕ) (rows : Rows) where
           → cond b (Some k) (first_with names source rows text (k + 1) (done ++ t ∷ [])) ≡ after_diagnosis names source rows t text n (cond b (Some k) (first_with names source rows text (k + 1) done))
       from true h = kept text n k t
       from false h = h
-
-  -- ---- all of them, as far as they are reported
-
-  pub record IsSoFar (before text : List ℕ) (firsts : BTreeMap (Vec ℕ Global) ℕ) (i : ℕ) (cs : List Condition) (ms : List (Option ℕ)) (ts : List Diagnosis) : Type 0 where
-    pub done : List Diagnosis
-    pub size : length done ≡ i
-    pub known : (t : List ℕ) → found t firsts ≡ first_with names source rows t 1 done
-    pub whole : text ++ diagnosis_lines names source rows done (drop i cs) (drop i ms) (drop i ts) ≡ before ++ diagnosis_lines names source rows [] cs ms ts
-
-  pub so_far_begins : (before text : List ℕ) (firsts : BTreeMap (Vec ℕ Global) ℕ) (cs : List Condition) (ms : List (Option ℕ)) (ts : List Diagnosis) → text ≡ before → firsts.entries ≡ []
-      → IsSoFar before text firsts 0 cs ms ts
-  so_far_begins before text firsts cs ms ts same none =
-      record {
-        done = [];
-        size = refl;
-        known = λ t. ap (lookup (is_at (λ k. slice_cmp nat_cmp t k.items))) none;
-        whole = ap (λ (x : List ℕ). x ++ diagnosis_lines names source rows [] cs ms ts) same;
-      }
-
-  pub so_far_goes : (before t0 t1 : List ℕ) (old new : BTreeMap (Vec ℕ Global) ℕ) (i : ℕ) (cs : List Condition) (ms : List (Option ℕ)) (ts : List Diagnosis) (c : Condition) (m : Option ℕ) (t : Diagnosis)
-      → slice_get cs i ≡ Some c → slice_get ms i ≡ Some m → slice_get ts i ≡ Some t
-      → t1 ≡ t0 ++ diagnosis_text names source rows (λ x. found x old) (i + 1) c m t
-      → ((x : List ℕ) → found x new ≡ after_diagnosis names source rows (shown m t) x (i + 1) (found x old))
-      → IsSoFar before t0 old i cs ms ts → IsSoFar before t1 new (i + 1) cs ms ts
-  so_far_goes before t0 t1 old new i cs ms ts c m t c_is m_is t_is put noted s =
-      let size = s.size in
-      let one_more = length-append s.done (shown m t ∷ []) in
-      let rest = diagnosis_lines names source rows (s.done ++ shown m t ∷ []) (drop (i + 1) cs) (drop (i + 1) ms) (drop (i + 1) ts) in
-      let one = diagnosis_text names source rows (λ x. found x old) (i + 1) c m t in
-      let same : one ≡ diagnosis_text names source rows (λ x. first_with names source rows x 1 s.done) (length s.done + 1) c m t =
-      told_same (λ x. found x old) (λ x. first_with names source rows x 1 s.done) (i + 1) c m t s.known
-      ∙ ap (λ (k : ℕ). diagnosis_text names source rows (λ x. first_with names source rows x 1 s.done) (k + 1) c m t) (sym size) in
-      record {
-        done = s.done ++ shown m t ∷ [];
-        size = omega (arith, one_more, size);
-        known =
-            λ x. noted x ∙ ap (after_diagnosis names source rows (shown m t) x (i + 1)) (s.known x)
-            ∙ sym (first_end x (i + 1) 1 s.done (shown m t) (omega (arith, size)));
-        whole =
-            ap (λ (a : List ℕ). a ++ rest) put
-            ∙ append_assoc t0 one rest
-            ∙ ap (λ (a : List ℕ). t0 ++ (a ++ rest)) same
-            ∙ ap (λ l. t0 ++ diagnosis_lines names source rows s.done l (m ∷ drop (i + 1) ms) (t ∷ drop (i + 1) ts)) (sym (dropped cs i c c_is))
-            ∙ ap₂ (λ k l. t0 ++ diagnosis_lines names source rows s.done (drop i cs) k l) (sym (dropped ms i m m_is)) (sym (dropped ts i t t_is))
-            ∙ s.whole;
-      }
-
-  append_none : (xs : List ℕ) → xs ++ [] ≡ xs
-  append_none [] = refl
-  append_none (x ∷ xs) = ap (λ ys. x ∷ ys) (append_none xs)
-
-  pub so_far_ends : (before text : List ℕ) (firsts : BTreeMap (Vec ℕ Global) ℕ) (i : ℕ) (cs : List Condition) (ms : List (Option ℕ)) (ts : List Diagnosis) → drop i cs ≡ []
-      → IsSoFar before text firsts i cs ms ts → text ≡ before ++ diagnosis_lines names source rows [] cs ms ts
-  so_far_ends before text firsts i cs ms ts none s =
-      sym (append_none text) ∙ ap (λ k. text ++ diagnosis_lines names source rows s.done k (drop i ms) (drop i ts)) (sym none) ∙ s.whole

@@ -1,5 +1,5 @@
 -- No float stands in the JSON.
-use Rattle.std.proofs.Common.{◌≡◌, ℕ, ◌+◌, ℤ, pos, negsuc, List, [], ◌∷◌, ◌++◌, Bool, true, false, ◌&&◌, cond, refl, ap, ◌∙◌, Option, Some, None, map, option_map, codes, Bor}
+use Rattle.std.proofs.Common.{◌≡◌, ℕ, ◌+◌, ℤ, pos, negsuc, List, [], ◌∷◌, ◌++◌, Bool, true, false, ◌&&◌, cond, refl, Option, Some, None, map, option_map, codes, Bor}
 use Rattle.serde_json.specs.Data.{Data, number, Members, no_members, put}
 use Rattle.serde_json.specs.Find.{of_integer}
 use Rattle.serde_json.specs.View.{items_of}
@@ -13,11 +13,11 @@ use Rattle.og_cond.specs.Condition.{Condition}
 use Rattle.og_typed.specs.declared.sites.StatementSite.{StatementSite}
 use Rattle.og_report_explain.specs.declared.explanation.Fault.{Fault}
 use Rattle.og_report_explain.specs.declared.explanation.Fault.TheVariants as fault
-use Rattle.og_report_prove.specs.Report.{is_proved}
 use Rattle.og_report_prove.specs.declared.diagnosis.Diagnosis.{Diagnosis}
 use Rattle.og_report_prove.specs.declared.diagnosis.Diagnosis.TheVariants as diagnosis
+use Rattle.og_report_prove.specs.Ends.{end_of}
 use Rattle.og_report_prove.specs.Members.{digits_data, value_data, if_some, name_of, with_values}
-use Rattle.og_report_prove.specs.Json.{after_of, conjunct_data, false_of, too_large_of, state_member, after_member, false_member, too_large_member, last_members, middle_members, diagnosis_data, unproved_data, report_data}
+use Rattle.og_report_prove.specs.Json.{after_of, conjunct_data, false_of, too_large_of, state_member, after_member, false_member, too_large_member, last_members, middle_members, diagnosis_data}
 use Rattle.og_report_prove.proofs.Puts.{neither, no_float_put}
 
 -- ---- values
@@ -106,24 +106,18 @@ pub no_float_diagnosis : (names : List (List ℕ)) (source : List ℕ) (n : ℕ)
 no_float_diagnosis names source n c t =
     let middle = middle_members names source n c t in
     let column = option_map (λ at. natural (column_at source at)) c.action_at in
+    let end_column = option_map (λ at. natural (column_at source (end_of source at))) c.action_at in
+    let end_line = option_map (λ at. natural (line_at source (end_of source at))) c.action_at in
     let line = option_map (λ at. natural (line_at source at)) c.action_at in
     let after = if_some (codes "after") (after_member names t) middle in
-    no_float_if (codes "action_column") column (if_some (codes "action_line") line after) (no_float_place (column_at source) c.action_at)
+    let third = if_some (codes "action_line") line after in
+    let second = if_some (codes "action_end_line") end_line third in
+    no_float_if (codes "action_column") column (if_some (codes "action_end_column") end_column second) (no_float_place (column_at source) c.action_at)
+    (no_float_if (codes "action_end_column") end_column second (no_float_place (λ at. column_at source (end_of source at)) c.action_at)
+    (no_float_if (codes "action_end_line") end_line third (no_float_place (λ at. line_at source (end_of source at)) c.action_at)
     (no_float_if (codes "action_line") line after (no_float_place (line_at source) c.action_at)
-    (no_float_if (codes "after") (after_member names t) middle (no_float_after names t) (no_float_middle names source n c t)))
+    (no_float_if (codes "after") (after_member names t) middle (no_float_after names t) (no_float_middle names source n c t)))))
 
 pub no_float_step : (d : Data) (rest : List Data) (b : Bool) → has_float d ≡ false → items_have_float (items_of rest) ≡ false → items_have_float (items_of (cond b [] (d ∷ []) ++ rest)) ≡ false
 no_float_step d rest true p q = q
 no_float_step d rest false p q = neither (has_float d) (items_have_float (items_of rest)) p q
-
-no_float_list : (names : List (List ℕ)) (source : List ℕ) (n : ℕ) (cs : List Condition) (ts : List Diagnosis) → items_have_float (items_of (unproved_data names source n cs ts)) ≡ false
-no_float_list names source n [] ts = refl
-no_float_list names source n (c ∷ cs) [] = refl
-no_float_list names source n (c ∷ cs) (t ∷ ts) =
-    no_float_step (diagnosis_data names source n c t) (unproved_data names source (n + 1) cs ts) (is_proved t) (no_float_diagnosis names source n c t) (no_float_list names source (n + 1) cs ts)
-
-no_float : (names : List (List ℕ)) (source : List ℕ) (cs : List Condition) (ts : List Diagnosis) → has_float (report_data names source cs ts) ≡ false
-no_float names source cs ts = rw (no_float_list names source 1 cs ts) refl
-
-pub no_float_value_of : (v : Data) (names : List (List ℕ)) (source : List ℕ) (cs : List Condition) (ts : List Diagnosis) → v ≡ report_data names source cs ts → has_float v ≡ false
-no_float_value_of v names source cs ts is = ap has_float is ∙ no_float names source cs ts

@@ -1,6 +1,6 @@
 -- Keys, counted and taken out one after another.
 use Rattle.std.proofs.Common.{◌≡◌, ℕ, zero, suc, ◌+◌, ◌-◌, ◌<◌, List, [], ◌∷◌, ◌++◌, length, take, drop, Bool, true, false, true≢false, ◌||◌, cond, Option, Some, None, Vec, refl, sym, ap, ap₂, ◌∙◌, append_assoc, add-one, arith}
-use Rattle.std.specs.Prelude.{slice_get, count_by, option_map, replicate, unwrap_or, is_none, Result, Ok, Err, IfOk}
+use Rattle.std.specs.Prelude.{slice_get, count_by, option_map, unwrap_or}
 use Rattle.std.specs.Global.{Global}
 use Rattle.std.specs.List.{list_any, sum_by}
 use Rattle.std.specs.Str.{bytes_eq}
@@ -13,10 +13,7 @@ use Rattle.std.proofs.lemmas.Map.Text.{is_eq-slice_cmp}
 use Rattle.std.proofs.lemmas.List.Folds.{list_any-append}
 use Rattle.std.proofs.lemmas.List.Sums.{sum_by-append, sum_by-cons}
 use Rattle.og_cert_read.specs.Firsts.{found}
-use Rattle.og_cond.specs.Condition.{Condition}
-use Rattle.og_report_text.specs.Origins.{Rows}
-use Rattle.og_report_prove.specs.Together.{keys_of, has_key, total, counted, left_of, more_left, without, more_of, repeats_from, repeats}
-use Rattle.og_report_prove.specs.declared.diagnosis.Diagnosis.{Diagnosis}
+use Rattle.og_report_prove.specs.Together.{has_key, total, counted, left_of, more_left, without, more_of, repeats_from, repeats}
 use Rattle.og_report_prove.proofs.Lists.{dropped, taken}
 
 -- ---- a map in which one text has another number
@@ -165,32 +162,5 @@ repeats_from_length : (all before ks : List (Option (List ℕ))) → length (rep
 repeats_from_length all before [] = refl
 repeats_from_length all before (k ∷ ks) = let rest = repeats_from_length all (before ++ k ∷ []) ks in omega (arith, rest)
 
-pub keys_length : (rows : Rows) (cs : List Condition) (ts : List Diagnosis) → length ts ≡ length cs → length (keys_of rows cs ts) ≡ length ts
-keys_length rows [] [] h = refl
-keys_length rows [] (t ∷ ts) h = absurd (omega (arith, h))
-keys_length rows (c ∷ cs) [] h = refl
-keys_length rows (c ∷ cs) (t ∷ ts) h = let rest = keys_length rows cs ts (omega (arith, h)) in omega (arith, rest)
-
-pub repeats_length : (rows : Rows) (cs : List Condition) (ts : List Diagnosis) → length ts ≡ length cs → length (repeats (keys_of rows cs ts)) ≡ length ts
-repeats_length rows cs ts h = repeats_from_length (keys_of rows cs ts) [] (keys_of rows cs ts) ∙ keys_length rows cs ts h
-
--- ---- without rows
-
--- of an outline in its own text no more are reported with any condition
-none_more_from : (all before : List (Option (List ℕ))) (cs : List Condition) (ts : List Diagnosis) → length ts ≡ length cs → repeats_from all before (keys_of None cs ts) ≡ replicate (length cs) (Some 0)
-none_more_from all before [] ts h = refl
-none_more_from all before (c ∷ cs) [] h = absurd (omega arith)
-none_more_from all before (c ∷ cs) (t ∷ ts) h = ap (λ ms. Some 0 ∷ ms) (none_more_from all (before ++ None ∷ []) cs ts (omega (arith, h)))
-
-pub none_repeated : (cs : List Condition) (ts : List Diagnosis) → length ts ≡ length cs → repeats (keys_of None cs ts) ≡ replicate (length cs) (Some 0)
-none_repeated cs ts h = none_more_from (keys_of None cs ts) [] cs ts h
-
-no_rows : (rows : Rows) → is_none rows ≡ true → rows ≡ None
-no_rows None e = refl
-no_rows (Some r) e = absurd (true≢false (sym e))
-
-pub none_together : {E : Type 0} (rows : Rows) (cs : List Condition) (ts : List Diagnosis) (r : Result (Vec (Option ℕ) Global) E) (count : ℕ) → length ts ≡ length cs → is_none rows ≡ true → count ≡ length cs
-    → IfOk r (λ v. v.items ≡ replicate count (Some 0)) → IfOk r (λ v. v.items ≡ repeats (keys_of rows cs ts))
-none_together rows cs ts (Err e) count each none same h = tt
-none_together rows cs ts (Ok v) count each none same h =
-    h ∙ ap (λ n. replicate n (Some 0)) same ∙ sym (none_repeated cs ts each) ∙ ap (λ (r : Rows). repeats (keys_of r cs ts)) (sym (no_rows rows none))
+pub repeats_length : (keys : List (Option (List ℕ))) → length (repeats keys) ≡ length keys
+repeats_length keys = repeats_from_length keys [] keys

@@ -7,5 +7,5 @@ pub mod Lists
 pub mod OfBlock
 mod Openings
 pub mod Puts
-pub mod Says
 pub mod Texts
+pub mod Told

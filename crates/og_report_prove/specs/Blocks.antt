@@ -12,6 +12,7 @@ use Rattle.og_typed.specs.declared.sites.Part.{Part}
 use Rattle.og_typed.specs.declared.sites.StatementSite.{StatementSite}
 use Rattle.og_report_text.specs.Assertions.{assertion_text}
 use Rattle.og_report_text.specs.Conjuncts.{known_text}
+use Rattle.og_report_text.specs.Uses.{use_text_at}
 use Rattle.og_report_text.specs.Values.{values_text, value_text}
 use Rattle.og_report_explain.specs.declared.explanation.Fault.{Fault}
 use Rattle.og_report_explain.specs.declared.explanation.Fault.TheVariants as fault
@@ -76,7 +77,8 @@ module _ (names : List (List ℕ)) where
   -- what an assertion says of the variables of the focus
   abbrev pub known_line : List ℕ → Rows → List ℕ → Noted → List ℕ
   known_line source rows focus note =
-      place_text source rows (codes "true") note.at & known_text names focus note.assertion & codes "\n"
+      place_text source rows (codes "true") note.at & use_text_at source rows note.at
+      & known_text names focus note.assertion & codes "\n"
 
   abbrev pub known_lines : List ℕ → Rows → List ℕ → List (Bor Note) → List ℕ
   known_lines source rows focus [] = []

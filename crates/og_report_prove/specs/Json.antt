@@ -1,8 +1,7 @@
--- The report of all conditions of an outline, as JSON: the members of each object stand in the order of their bytes.
-use Rattle.std.specs.Prelude.{ℕ, ◌+◌, true, false, if◌then◌else◌, List, [], ◌∷◌, ◌++◌, length, count_by, map, codes, Option, Some, None, option_map}
+-- The report of a condition, and the totals, as JSON: the members of each object stand in the order of their bytes.
+use Rattle.std.specs.Prelude.{ℕ, true, false, List, length, count_by, map, codes, Option, Some, None, option_map}
 use Rattle.serde_json.specs.Data.{Data, Members, string, boolean, array, object, member, no_members}
 use Rattle.serde_json.specs.View.{items_of}
-use Rattle.serde_json.specs.Written.{compact_text}
 use Rattle.og_report_text.specs.Numbers.{natural}
 use Rattle.og_text.specs.Place.{line_at, column_at}
 use Rattle.og_typed.specs.Syntax.{Formula, Noted}
@@ -18,6 +17,7 @@ use Rattle.og_report_prove.specs.declared.block.Block.{Block}
 use Rattle.og_report_prove.specs.declared.diagnosis.Diagnosis.{Diagnosis}
 use Rattle.og_report_prove.specs.declared.diagnosis.Diagnosis.TheVariants as diagnosis
 use Rattle.og_report_prove.specs.Report.{is_proved, is_false, is_open, is_safe, is_unblocked}
+use Rattle.og_report_prove.specs.Ends.{end_of}
 use Rattle.og_report_prove.specs.Members.{utf8_text, digits_data, if_some, name_of, with_values}
 use denote.Ref.{Bor}
 
@@ -91,7 +91,9 @@ module _ (names : List (List ℕ)) (source : List ℕ) where
   conjuncts_data note found = object
       (member (codes "column") (natural (column_at source note.at))
       (member (codes "conjuncts") (array (items_of (map (λ a. conjunct_data names (formula a.now)) found)))
-      (member (codes "line") (natural (line_at source note.at)) no_members)))
+      (member (codes "end_column") (natural (column_at source (end_of source note.at)))
+      (member (codes "end_line") (natural (line_at source (end_of source note.at)))
+      (member (codes "line") (natural (line_at source note.at)) no_members)))))
 
   abbrev pub false_of : Fault → Option Data
   false_of (fault.False note found) = Some (conjuncts_data (noted note.now) found.items)
@@ -107,27 +109,17 @@ module _ (names : List (List ℕ)) (source : List ℕ) where
   abbrev pub middle_members : ℕ → Condition → Diagnosis → Members
   middle_members n c t = member (codes "column") (natural (column_at source c.at))
       (member (codes "condition") (natural n)
+      (member (codes "end_column") (natural (column_at source (end_of source c.at)))
+      (member (codes "end_line") (natural (line_at source (end_of source c.at)))
       (if_some (codes "false") (false_member t)
       (member (codes "kind") (string (name_of_kind c.kind))
-      (member (codes "line") (natural (line_at source c.at)) (last_members names t)))))
+      (member (codes "line") (natural (line_at source c.at)) (last_members names t)))))))
 
   -- the n-th condition
   abbrev pub diagnosis_data : ℕ → Condition → Diagnosis → Data
   diagnosis_data n c t = object
       (if_some (codes "action_column") (option_map (λ at. natural (column_at source at)) c.action_at)
+      (if_some (codes "action_end_column") (option_map (λ at. natural (column_at source (end_of source at))) c.action_at)
+      (if_some (codes "action_end_line") (option_map (λ at. natural (line_at source (end_of source at))) c.action_at)
       (if_some (codes "action_line") (option_map (λ at. natural (line_at source at)) c.action_at)
-      (if_some (codes "after") (after_member names t) (middle_members n c t))))
-
-  -- ---- all of it
-
-  -- the conditions that are not proved, numbered on
-  abbrev pub unproved_data : ℕ → List Condition → List Diagnosis → List Data
-  unproved_data n [] ts = []
-  unproved_data n (c ∷ cs) [] = []
-  unproved_data n (c ∷ cs) (t ∷ ts) = (if is_proved t then [] else diagnosis_data n c t ∷ []) ++ unproved_data (n + 1) cs ts
-
-  abbrev pub report_data : List Condition → List Diagnosis → Data
-  report_data cs ts = totals_data ts (array (items_of (unproved_data 1 cs ts)))
-
-  abbrev pub json_text : List Condition → List Diagnosis → List ℕ
-  json_text cs ts = compact_text (report_data cs ts)
+      (if_some (codes "after") (after_member names t) (middle_members n c t))))))

@@ -1,5 +1,6 @@
 pub mod Blocks
 pub mod Effects
+pub mod Ends
 pub mod Json
 pub mod Members
 pub mod Numbers

@@ -1,5 +1,5 @@
--- The report of all conditions of an outline.
-use Rattle.std.specs.Prelude.{ℕ, ◌+◌, ◌-◌, List, [], ◌∷◌, ◌++◌, length, count_by, take, slice_get, Bool, true, false, if◌then◌else◌, Option, Some, None, codes}
+-- The report of a condition, and the totals.
+use Rattle.std.specs.Prelude.{ℕ, ◌-◌, List, [], length, count_by, take, slice_get, Bool, true, false, Option, Some, None, codes}
 use Rattle.std.specs.Fmt.{decimal}
 use Rattle.std.specs.List.{list_all}
 use Rattle.og_typed.specs.Syntax.{Formula}
@@ -8,8 +8,8 @@ use Rattle.og_cond.specs.Names.{name_of_kind}
 use Rattle.og_report_text.specs.Places.{◌&◌}
 use Rattle.og_report_text.specs.Origins.{Rows, place_text_at, with_place_text}
 use Rattle.og_report_prove.specs.Blocks.{block_text}
-use Rattle.og_report_prove.specs.Effects.{effect_of, effect_text, first_with, alike_line}
-use Rattle.og_report_prove.specs.Together.{keys_of, repeats, shown, more_text}
+use Rattle.og_report_prove.specs.Effects.{effect_of, effect_text, alike_line}
+use Rattle.og_report_prove.specs.Together.{more_text}
 use Rattle.og_report_prove.specs.declared.block.Block.{Block}
 use Rattle.og_report_prove.specs.declared.diagnosis.Diagnosis.{Diagnosis}
 use Rattle.og_report_prove.specs.declared.diagnosis.Diagnosis.TheVariants as diagnosis
@@ -66,7 +66,7 @@ totals_text ts =
     & number_line (codes "false") (count_by is_false ts) & number_line (codes "open") (count_by is_open ts)
     & yes_line (codes "safe") (is_safe ts) & yes_line (codes "unblocked") (is_unblocked ts)
 
--- ---- all of it
+-- ---- a condition
 
 module _ (names : List (List ℕ)) (source : List ℕ) (rows : Rows) where
   -- the block, or that the condition is as an earlier one
@@ -92,14 +92,3 @@ module _ (names : List (List ℕ)) (source : List ℕ) (rows : Rows) where
   abbrev pub diagnosis_text : (List ℕ → Option ℕ) → ℕ → Condition → Option ℕ → Diagnosis → List ℕ
   diagnosis_text known n c None t = []
   diagnosis_text known n c (Some more) t = one_text known n c more t
-
-  -- after these
-  abbrev pub diagnosis_lines : List Diagnosis → List Condition → List (Option ℕ) → List Diagnosis → List ℕ
-  diagnosis_lines done [] ms ts = []
-  diagnosis_lines done (c ∷ cs) [] ts = []
-  diagnosis_lines done (c ∷ cs) (m ∷ ms) [] = []
-  diagnosis_lines done (c ∷ cs) (m ∷ ms) (t ∷ ts) =
-      diagnosis_text (λ text. first_with names source rows text 1 done) (length done + 1) c m t & diagnosis_lines (done ++ shown m t ∷ []) cs ms ts
-
-  abbrev pub report_text : List Condition → List Diagnosis → List ℕ
-  report_text cs ts = diagnosis_lines [] cs (repeats (keys_of rows cs ts)) ts & totals_text ts

@@ -66,11 +66,6 @@ key_of (Some rows) c diagnosis.Proved = None
 key_of (Some rows) c (diagnosis.False block) = Some (key_text (Some rows) c block)
 key_of (Some rows) c diagnosis.Open = None
 
-abbrev pub keys_of : Rows → List Condition → List Diagnosis → List (Option (List ℕ))
-keys_of rows [] ts = []
-keys_of rows (c ∷ cs) [] = []
-keys_of rows (c ∷ cs) (t ∷ ts) = key_of rows c t ∷ keys_of rows cs ts
-
 abbrev pub has_key : List ℕ → Option (List ℕ) → Bool
 has_key key None = false
 has_key key (Some other) = bytes_eq key other
@@ -86,6 +81,11 @@ repeats_from all before (k ∷ ks) = more_of all before k ∷ repeats_from all (
 
 abbrev pub repeats : List (Option (List ℕ)) → List (Option ℕ)
 repeats keys = repeats_from keys [] keys
+
+-- how many conditions are reported with one: itself and these, or none
+abbrev pub told : Option ℕ → ℕ
+told None = 0
+told (Some more) = more + 1
 
 -- ---- the conditions shown
 

@@ -1,6 +1,7 @@
 //! Conditions that are false as an earlier one is: the same action makes the same conjuncts false.
 
-ghost use Rattle.std.specs.Prelude.{◌≡◌, ◌++◌, ℕ, List, length, option_map, IfOk, OnOk};
+ghost use Rattle.std.specs.Prelude.{◌≡◌, ◌++◌, ℕ, List, option_map, IfOk, OnErr, OnOk};
+ghost use Rattle.std.specs.BTreeMap.{IsUnchanged};
 ghost use Rattle.og_cert_read.specs.Firsts.{found as number_of, or_this};
 ghost use Rattle.og_report_text.specs.Seen.{formulas_of};
 ghost use Rattle.og_report_prove.specs.Effects.{effect_of, together, alike_line, effect_text};
@@ -13,7 +14,7 @@ use std::alloc::{AllocError, Global};
 use std::collections::BTreeMap;
 
 /// The place of the action and the conjuncts that are false after it, where there are such.
-pub(crate) fn effect_of<'b, 'a>(explanation: &'b Explanation<'a>) -> Option<(u32, &'b [&'a Assert])>
+pub fn effect_of<'b, 'a>(explanation: &'b Explanation<'a>) -> Option<(u32, &'b [&'a Assert])>
     ensures { option_map (λ e. (e.0, formulas_of e.1.now)) result
         ≡ effect_of explanation.now.action explanation.now.fault }
 {
@@ -51,7 +52,11 @@ pub(crate) fn put_alike(
 }
 
 /// The text of an effect, by which effects are held against one another.
-pub(crate) fn effect_text(
+///
+/// # Errors
+///
+/// An allocation was refused.
+pub fn effect_text(
     alloc: Global,
     names: &[Name],
     origins: &Origins,
@@ -73,7 +78,11 @@ pub(crate) fn effect_text(
 pub type Firsts = BTreeMap<Vec<u8>, u128>;
 
 /// The number that the text has; else none, and it has this one from now on.
-pub(crate) fn number_or_add(
+///
+/// # Errors
+///
+/// An allocation was refused; the numbers are as they were.
+pub fn number_or_add(
     firsts: &mut Firsts,
     text: Vec<u8>,
     number: u128,
@@ -81,6 +90,7 @@ pub(crate) fn number_or_add(
     ensures found { IfOk result (λ found. found ≡ number_of text.items firsts.old) }
     ensures firsts { OnOk result ((t : List ℕ) → number_of t firsts.new
         ≡ or_this (number_of t firsts.old) t text.items number) }
+    ensures kept { OnErr result (IsUnchanged firsts.old firsts.new) }
 {
     if let Some(first) = firsts.get(text.as_slice()).copied() {
         return Ok(Some(first));

@@ -1,6 +1,6 @@
 //! The report of a false condition.
 
-ghost use Rattle.std.specs.Prelude.{◌≡◌, true, false, map, Some, option_map, IfOk};
+ghost use Rattle.std.specs.Prelude.{◌≡◌, ◌≤◌, ◌^◌, length, true, false, map, Some, option_map, IfOk};
 ghost use Rattle.serde_json.specs.Data.{object, member, no_members};
 ghost use Rattle.serde_json.specs.View.{view};
 ghost use Rattle.og_typed.specs.Plain.{formula, noted};
@@ -9,10 +9,11 @@ ghost use Rattle.og_report_prove.specs.Json.{state_data, after_data, conjunct_da
 
 use crate::block::Block;
 use crate::diagnosis::Diagnosis;
+use crate::ends::end_of;
 use crate::unproved::Entry;
 use crate::values::{digits_value, name_of, put_values, utf8_text};
 use og_report_explain::Fault;
-use og_report_text::{Places, list_value, put_assertion, set_number};
+use og_report_text::{Origins, list_value, put_assertion, set_number};
 use og_text::Name;
 use og_typed::{Assert, Note};
 use serde_json::{Map, Value, put};
@@ -73,17 +74,22 @@ pub fn conjunct_values(
 fn conjuncts_value(
     alloc: Global,
     names: &[Name],
-    places: &Places,
+    origins: &Origins,
     note: &Note,
     found: &[&Assert],
 ) -> Result<Value, AllocError>
+    requires places { origins.now.places.now ≡ origins.now.source.now }
+    requires short { length origins.now.source.now ≤ 2 ^ 20 }
     ensures { IfOk result (λ v.
-        view v ≡ conjuncts_data names.now places.now (noted note.now) found.now) }
+        view v ≡ conjuncts_data names.now origins.now.source.now (noted note.now) found.now) }
 {
-    let place = places.position(note.at);
+    let place = origins.places.position(note.at);
+    let end = origins.places.position(end_of(origins.source, note.at));
     let conjuncts = list_value(conjunct_values(alloc, names, found)?);
     let mut members = Map::new(alloc);
     set_number(&mut members, alloc, "line", place.line as u64)?;
+    set_number(&mut members, alloc, "end_line", end.line as u64)?;
+    set_number(&mut members, alloc, "end_column", end.column as u64)?;
     put(&mut members, alloc, "conjuncts", conjuncts)?;
     set_number(&mut members, alloc, "column", place.column as u64)?;
     Ok(Value::Object(members))
@@ -128,16 +134,18 @@ pub(crate) fn after_member(alloc: Global, entry: &Entry) -> Result<Option<Value>
 
 /// The assertion that is false.
 pub(crate) fn false_member(alloc: Global, entry: &Entry) -> Result<Option<Value>, AllocError>
+    requires places { entry.now.origins.now.places.now ≡ entry.now.origins.now.source.now }
+    requires short { length entry.now.origins.now.source.now ≤ 2 ^ 20 }
     ensures { IfOk result (λ v. option_map view v
-        ≡ false_member entry.now.names.now entry.now.places.now entry.now.diagnosis.now) }
+        ≡ false_member entry.now.names.now entry.now.origins.now.source.now entry.now.diagnosis.now) }
 {
     let Diagnosis::False(block) = entry.diagnosis else {
         return Ok(None);
     };
     match &block.details.explanation.fault {
         Fault::False(note, found) => {
-            let (names, places) = (entry.names, entry.places);
-            Ok(Some(conjuncts_value(alloc, names, places, note, found)?))
+            let (names, origins) = (entry.names, entry.origins);
+            Ok(Some(conjuncts_value(alloc, names, origins, note, found)?))
         }
         Fault::TooLarge(..) | Fault::Blocked(_) => Ok(None),
     }

@@ -31,8 +31,17 @@ pub fn put_label(text: &mut Vec<u8>, label: &[u8]) -> Result<(), AllocError>
     text.extend_from_slice(b": ")
 }
 
-// A word and a place, before what stands there.
-fn put_place(text: &mut Vec<u8>, word: &[u8], origins: &Origins, at: u32) -> Result<(), AllocError>
+/// Adds a word and a place, and a colon, after two blanks, before what stands there.
+///
+/// # Errors
+///
+/// An allocation was refused; the text has what it had, and perhaps a part of this.
+pub fn put_place(
+    text: &mut Vec<u8>,
+    word: &[u8],
+    origins: &Origins,
+    at: u32,
+) -> Result<(), AllocError>
     requires { origins.now.places.now ≡ origins.now.source.now }
     ensures { OnOk result (text.new.items ≡ text.old.items
         ++ place_text origins.now.source.now origins.now.rows word.now at) }
@@ -113,6 +122,7 @@ fn put_known_line(
         origins.now.source.now origins.now.rows focus.now (noted note.now)) }
 {
     put_place(text, b"true", origins, note.at)?;
+    origins.put_use(text, note.at)?;
     put_known(text, names, focus, &note.assertion)?;
     text.extend_from_slice(b"\n")
 }

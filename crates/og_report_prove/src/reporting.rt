@@ -1,31 +1,19 @@
-//! The report of all conditions of an outline.
+//! The report of a condition, and the totals.
 
-ghost use Rattle.std.specs.Prelude.{◌≡◌, ◌++◌, ◌<◌, ◌≤◌, ◌^◌, count_by, ℕ, List, [], length, map, codes, IfOk, OnOk};
+ghost use Rattle.std.specs.Prelude.{◌≡◌, ◌++◌, count_by, ℕ, List, codes, OnOk};
 ghost use Rattle.og_cond.specs.Seen.{seen};
 ghost use Rattle.og_cert_read.specs.Firsts.{found as number_of};
 ghost use Rattle.og_report_prove.specs.Effects.{effect_of, after_effect, after_diagnosis};
 ghost use Rattle.og_report_prove.specs.Together.{shown, more_text};
-ghost use Rattle.og_report_prove.specs.Report.{body_text, one_text, head_text, is_proved, is_false, is_open, is_safe, is_unblocked, yes_line, number_line, totals_text, diagnosis_text, diagnosis_lines, report_text};
+ghost use Rattle.og_report_prove.specs.Report.{body_text, one_text, head_text, is_proved, is_false, is_open, is_safe, is_unblocked, yes_line, number_line, totals_text, diagnosis_text};
 
 use crate::block::{Block, put_block};
 use crate::diagnosis::Diagnosis;
 use crate::earlier::{Firsts, effect_of, effect_text, number_or_add, put_alike};
-use crate::together::repeats;
 use og_cond::Condition;
-use og_report_text::{Origins, Places, Rows, put_number, put_number_between};
+use og_report_text::{Origins, put_number, put_number_between};
 use og_text::Name;
-use og_typed::Outline;
-use std::alloc::{AllocError, Global};
-
-// How many more are reported with a condition.
-fn put_more(text: &mut Vec<u8>, more: usize) -> Result<(), AllocError>
-    ensures { OnOk result (text.new.items ≡ text.old.items ++ more_text more) }
-{
-    if more == 0 {
-        return Ok(());
-    }
-    put_number_between(text, b" (and ", more as u128, b" more)")
-}
+use std::alloc::AllocError;
 
 // The finding on a condition, and on how many more with it.
 fn put_found(text: &mut Vec<u8>, word: &[u8], more: usize) -> Result<(), AllocError>
@@ -33,12 +21,19 @@ fn put_found(text: &mut Vec<u8>, word: &[u8], more: usize) -> Result<(), AllocEr
         ++ (word.now ++ (more_text more ++ codes "\n"))) }
 {
     text.extend_from_slice(word)?;
-    put_more(text, more)?;
-    text.extend_from_slice(b"\n")
+    if more == 0 {
+        return text.extend_from_slice(b"\n");
+    }
+    put_number_between(text, b" (and ", more as u128, b" more)\n")
 }
 
-// The place, the number and the kind of a condition, and the finding on it.
-fn put_head(
+/// Adds the place, the number from 1 and the kind of a condition, the finding on it as a word, and
+/// how many more are reported with it, as a line.
+///
+/// # Errors
+///
+/// An allocation was refused; the text has what it had, and perhaps a part of this.
+pub fn put_head(
     text: &mut Vec<u8>,
     origins: &Origins,
     number: u128,
@@ -162,37 +157,6 @@ pub fn put_diagnosis(
     }
 }
 
-// The report of each condition, numbered from 1.
-fn put_all(
-    text: &mut Vec<u8>,
-    page: Page,
-    conditions: &[Condition],
-    repeats: &[Option<usize>],
-    diagnoses: &[Diagnosis],
-) -> Result<(), AllocError>
-    requires places { page.origins.now.places.now ≡ page.origins.now.source.now }
-    requires repeats { length repeats.now ≡ length conditions.now }
-    requires each { length diagnoses.now ≡ length conditions.now }
-    ensures { OnOk result (text.new.items ≡ text.old.items ++ diagnosis_lines page.entry.names.now
-        page.entry.origins.now.source.now page.entry.origins.now.rows [] (map seen conditions.now)
-        repeats.now diagnoses.now) }
-{
-    let mut firsts = Firsts::new(*text.allocator());
-    for index in 0..conditions.len() {
-        let number = index as u128 + 1;
-        put_diagnosis(
-            text,
-            &mut firsts,
-            page,
-            number,
-            &conditions[index],
-            repeats[index],
-            &diagnoses[index],
-        )?;
-    }
-    Ok(())
-}
-
 impl<'a> Diagnosis<'a> {
     /// Whether the condition is proved. Takes no memory.
     pub fn is_proved(&self) -> bool
@@ -312,44 +276,4 @@ pub fn put_totals(text: &mut Vec<u8>, diagnoses: &[Diagnosis]) -> Result<(), All
     put_number_line(text, b"open", totals.still_open)?;
     put_yes_line(text, b"safe", is_safe(diagnoses))?;
     put_yes_line(text, b"unblocked", is_unblocked(diagnoses))
-}
-
-/// The report of all conditions of an outline, as a text: those that are not proved, in order, and
-/// the totals. Places are lines and columns of the text in which the outline stands, or of a
-/// template, by its rows. The text has at most 1,048,576 bytes. Of a template's outline the false
-/// conditions that differ in their instances alone are reported together, where the first one
-/// stands.
-///
-/// # Errors
-///
-/// An allocation was refused.
-pub fn report(
-    alloc: Global,
-    outline: &Outline,
-    source: &[u8],
-    rows: Option<&Rows>,
-    conditions: &[Condition],
-    diagnoses: &[Diagnosis],
-) -> Result<Vec<u8>, AllocError>
-    requires short { length source.now ≤ 2 ^ 20 }
-    requires each { length diagnoses.now ≡ length conditions.now }
-    requires few { length diagnoses.now < 2 ^ 32 }
-    ensures { IfOk result (λ text. text.items
-        ≡ report_text outline.now.names source.now rows.entry (map seen conditions.now) diagnoses.now) }
-{
-    let places = Places::new(alloc, source)?;
-    let origins = Origins {
-        source,
-        places: &places,
-        rows,
-    };
-    let repeats = repeats(alloc, rows, conditions, diagnoses)?;
-    let mut text = Vec::new(alloc);
-    let page = Page {
-        names: outline.names(),
-        origins: &origins,
-    };
-    put_all(&mut text, page, conditions, &repeats, diagnoses)?;
-    put_totals(&mut text, diagnoses)?;
-    Ok(text)
 }

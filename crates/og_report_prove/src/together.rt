@@ -1,12 +1,12 @@
 //! Which false conditions of a template's outline are reported together: those that differ in their
 //! instances alone.
 
-ghost use Rattle.std.specs.Prelude.{◌≡◌, ◌<◌, ◌^◌, ◌++◌, ℕ, List, [], length, map, option_map, replicate, unwrap_or, count_by, Some, IfOk, OnOk};
+ghost use Rattle.std.specs.Prelude.{◌≡◌, ◌<◌, ◌^◌, ◌++◌, ℕ, List, [], length, map, option_map, unwrap_or, count_by, sum_by, Some, IfOk, OnOk};
 ghost use Rattle.std.specs.Str.{bytes_eq};
 ghost use Rattle.og_cond.specs.Seen.{seen};
 ghost use Rattle.og_cert_read.specs.Firsts.{found};
 ghost use Rattle.og_report_text.specs.Origins.{row_at, from_of};
-ghost use Rattle.og_report_prove.specs.Together.{conjunct_at, with_place, with_places, false_places, places_key, action_key, key_text, key_of, key_seen, keys_of, has_key, total, counted, more_left, without, repeats};
+ghost use Rattle.og_report_prove.specs.Together.{conjunct_at, with_place, with_places, false_places, places_key, action_key, key_text, key_of, key_seen, has_key, total, counted, more_left, without, told, repeats};
 
 use crate::block::Block;
 use crate::diagnosis::Diagnosis;
@@ -110,8 +110,13 @@ fn key_text(
     Ok(text)
 }
 
-// The key of the finding on a condition, if others may be reported with it.
-fn key_of(
+/// The key of the finding on a condition, if others may be reported with it: of a template's outline
+/// those false conditions have the same one that differ in their instances alone.
+///
+/// # Errors
+///
+/// An allocation was refused.
+pub fn key_of(
     alloc: Global,
     rows: Option<&Rows>,
     condition: &Condition,
@@ -126,24 +131,6 @@ fn key_of(
         Diagnosis::False(block) => Ok(Some(key_text(alloc, rows, condition, block)?)),
         Diagnosis::Proved | Diagnosis::Open => Ok(None),
     }
-}
-
-// A key for each condition.
-fn keys_of(
-    alloc: Global,
-    rows: Option<&Rows>,
-    conditions: &[Condition],
-    diagnoses: &[Diagnosis],
-) -> Result<Vec<Option<Vec<u8>>>, AllocError>
-    requires { length diagnoses.now ≡ length conditions.now }
-    ensures { IfOk result (λ keys.
-        map key_seen keys.items ≡ keys_of rows.entry (map seen conditions.now) diagnoses.now) }
-{
-    let mut keys = Vec::with_capacity(alloc, conditions.len())?;
-    for index in 0..conditions.len() {
-        keys.push(key_of(alloc, rows, &conditions[index], &diagnoses[index])?)?;
-    }
-    Ok(keys)
 }
 
 // How often each key occurs.
@@ -200,10 +187,17 @@ fn more_left(counts: &mut Counts, key: &Option<Vec<u8>>) -> Option<usize>
     Some(number.saturating_sub(1))
 }
 
-// Of all of them.
-fn repeats_of(alloc: Global, keys: &[Option<Vec<u8>>]) -> Result<Vec<Option<usize>>, AllocError>
+/// How many more are reported with each of those that have these keys: with the first of those with
+/// one key, and none with the others, which are reported with it; with one that has no key 0. So each
+/// of them is reported once.
+///
+/// # Errors
+///
+/// An allocation was refused.
+pub fn repeats(alloc: Global, keys: &[Option<Vec<u8>>]) -> Result<Vec<Option<usize>>, AllocError>
     requires { length keys.now < 2 ^ 32 }
-    ensures { IfOk result (λ v. v.items ≡ repeats (map key_seen keys.now)) }
+    ensures more { IfOk result (λ v. v.items ≡ repeats (map key_seen keys.now)) }
+    ensures all { IfOk result (λ v. sum_by told v.items ≡ length keys.now) }
 {
     let mut counts = counts_of(alloc, keys)?;
     let mut repeats = Vec::with_capacity(alloc, keys.len())?;
@@ -211,40 +205,4 @@ fn repeats_of(alloc: Global, keys: &[Option<Vec<u8>>]) -> Result<Vec<Option<usiz
         repeats.push(more_left(&mut counts, &keys[index]))?;
     }
     Ok(repeats)
-}
-
-// No more are reported with any of this many.
-fn none_more(alloc: Global, count: usize) -> Result<Vec<Option<usize>>, AllocError>
-    ensures { IfOk result (λ v. v.items ≡ replicate count (Some 0)) }
-{
-    let mut repeats = Vec::with_capacity(alloc, count)?;
-    for _ in 0..count {
-        repeats.push(Some(0))?;
-    }
-    Ok(repeats)
-}
-
-/// How many more are reported with each condition: with the first of those false conditions of a
-/// template's outline that differ in their instances alone, and none with the others, which are
-/// reported with it. With any other condition, and without rows, 0.
-///
-/// # Errors
-///
-/// An allocation was refused.
-pub fn repeats(
-    alloc: Global,
-    rows: Option<&Rows>,
-    conditions: &[Condition],
-    diagnoses: &[Diagnosis],
-) -> Result<Vec<Option<usize>>, AllocError>
-    requires each { length diagnoses.now ≡ length conditions.now }
-    requires few { length diagnoses.now < 2 ^ 32 }
-    ensures { IfOk result (λ v.
-        v.items ≡ repeats (keys_of rows.entry (map seen conditions.now) diagnoses.now)) }
-{
-    if rows.is_none() {
-        return none_more(alloc, conditions.len());
-    }
-    let keys = keys_of(alloc, rows, conditions, diagnoses)?;
-    repeats_of(alloc, &keys)
 }

@@ -1,17 +1,19 @@
-//! The conditions that are not proved.
+//! A condition that is not proved.
 
-ghost use Rattle.std.specs.Prelude.{◌≡◌, [], ◌∷◌, ◌++◌, if◌then◌else◌, length, map, IfOk, OnOk};
+ghost use Rattle.std.specs.Prelude.{◌≡◌, ◌≤◌, ◌^◌, [], length, IfOk, OnOk};
 ghost use Rattle.serde_json.specs.Data.{object};
 ghost use Rattle.serde_json.specs.View.{view, members_view};
 ghost use Rattle.og_cond.specs.Seen.{seen};
-ghost use Rattle.og_report_prove.specs.Report.{is_proved};
-ghost use Rattle.og_report_prove.specs.Json.{status_word, last_members, middle_members, diagnosis_data, unproved_data};
+ghost use Rattle.og_report_text.specs.Places.{position_of};
+ghost use Rattle.og_report_prove.specs.Ends.{end_of};
+ghost use Rattle.og_report_prove.specs.Json.{status_word, last_members, middle_members, diagnosis_data};
 
 use crate::diagnosis::Diagnosis;
+use crate::ends::end_of;
 use crate::faults::{after_member, false_member, state_member, too_large_member};
 use crate::values::put_optional;
 use og_cond::Condition;
-use og_report_text::{Places, set_number, set_text};
+use og_report_text::{Origins, Position, set_number, set_text};
 use og_text::Name;
 use serde_json::{Map, Value};
 use std::alloc::{AllocError, Global};
@@ -32,14 +34,26 @@ fn status_word(diagnosis: &Diagnosis) -> &'static str
 pub(crate) struct Entry<'e, 'c, 'd> {
     /// The names of the variables.
     pub(crate) names: &'e [Name],
-    /// The places of the source.
-    pub(crate) places: &'e Places<'e>,
+    /// The source and its places.
+    pub(crate) origins: &'e Origins<'e>,
     pub(crate) number: u64,
     pub(crate) condition: &'e Condition<'c>,
     pub(crate) diagnosis: &'e Diagnosis<'d>,
 }
 
 impl Entry<'_, '_, '_> {
+    // Where the part ends that begins there.
+    fn end_at(&self, at: u32) -> Position
+        requires places { self.now.origins.now.places.now ≡ self.now.origins.now.source.now }
+        requires short { length self.now.origins.now.source.now ≤ 2 ^ 20 }
+        ensures { result ≡ position_of self.now.origins.now.source.now
+            (end_of self.now.origins.now.source.now at) }
+    {
+        self.origins
+            .places
+            .position(end_of(self.origins.source, at))
+    }
+
     // Sets the state and the status.
     fn put_last(&self, members: &mut Map<String, Value>, alloc: Global) -> Result<(), AllocError>
         requires { members.old.entries ≡ [] }
@@ -55,28 +69,36 @@ impl Entry<'_, '_, '_> {
 
     // Sets the place, the number and the kind, and the false conjuncts.
     fn put_middle(&self, members: &mut Map<String, Value>, alloc: Global) -> Result<(), AllocError>
-        requires { members_view members.old.entries
+        requires places { self.now.origins.now.places.now ≡ self.now.origins.now.source.now }
+        requires short { length self.now.origins.now.source.now ≤ 2 ^ 20 }
+        requires last { members_view members.old.entries
             ≡ last_members self.now.names.now self.now.diagnosis.now }
         ensures { OnOk result (members_view members.new.entries
-            ≡ middle_members self.now.names.now self.now.places.now self.now.number
+            ≡ middle_members self.now.names.now self.now.origins.now.source.now self.now.number
             (seen self.now.condition.now) self.now.diagnosis.now) }
     {
-        let place = self.places.position(self.condition.at);
+        let at = self.condition.at;
+        let place = self.origins.places.position(at);
+        let end = self.end_at(at);
         set_number(members, alloc, "line", place.line as u64)?;
         set_text(members, alloc, "kind", self.condition.kind.name())?;
         let found = false_member(alloc, self)?;
         put_optional(members, alloc, "false", found)?;
+        set_number(members, alloc, "end_line", end.line as u64)?;
+        set_number(members, alloc, "end_column", end.column as u64)?;
         set_number(members, alloc, "condition", self.number)?;
         set_number(members, alloc, "column", place.column as u64)
     }
 
     // Sets what the action assigns, and its place in interference.
     fn put_first(&self, members: &mut Map<String, Value>, alloc: Global) -> Result<(), AllocError>
-        requires { members_view members.old.entries
-            ≡ middle_members self.now.names.now self.now.places.now self.now.number
+        requires places { self.now.origins.now.places.now ≡ self.now.origins.now.source.now }
+        requires short { length self.now.origins.now.source.now ≤ 2 ^ 20 }
+        requires middle { members_view members.old.entries
+            ≡ middle_members self.now.names.now self.now.origins.now.source.now self.now.number
             (seen self.now.condition.now) self.now.diagnosis.now }
         ensures { OnOk result (object (members_view members.new.entries)
-            ≡ diagnosis_data self.now.names.now self.now.places.now self.now.number
+            ≡ diagnosis_data self.now.names.now self.now.origins.now.source.now self.now.number
             (seen self.now.condition.now) self.now.diagnosis.now) }
     {
         let after = after_member(alloc, self)?;
@@ -84,26 +106,16 @@ impl Entry<'_, '_, '_> {
         let Some(at) = self.condition.action_at else {
             return Ok(());
         };
-        let action = self.places.position(at);
+        let action = self.origins.places.position(at);
+        let end = self.end_at(at);
         set_number(members, alloc, "action_line", action.line as u64)?;
+        set_number(members, alloc, "action_end_line", end.line as u64)?;
+        set_number(members, alloc, "action_end_column", end.column as u64)?;
         set_number(members, alloc, "action_column", action.column as u64)
-    }
-
-    // The value of the condition.
-    fn value(&self, alloc: Global) -> Result<Value, AllocError>
-        ensures { IfOk result (λ v. view v
-            ≡ diagnosis_data self.now.names.now self.now.places.now self.now.number
-            (seen self.now.condition.now) self.now.diagnosis.now) }
-    {
-        let mut members = Map::new(alloc);
-        self.put_last(&mut members, alloc)?;
-        self.put_middle(&mut members, alloc)?;
-        self.put_first(&mut members, alloc)?;
-        Ok(Value::Object(members))
     }
 }
 
-/// The value of a condition, by its number from 1.
+/// The value of a condition, by its number from 1, with the places and the ends of its own text.
 ///
 /// # Errors
 ///
@@ -111,74 +123,26 @@ impl Entry<'_, '_, '_> {
 pub fn diagnosis_value(
     alloc: Global,
     names: &[Name],
-    places: &Places,
+    origins: &Origins,
     number: u64,
     condition: &Condition,
     diagnosis: &Diagnosis,
 ) -> Result<Value, AllocError>
-    ensures { IfOk result (λ v.
-        view v ≡ diagnosis_data names.now places.now number (seen condition.now) diagnosis.now) }
+    requires places { origins.now.places.now ≡ origins.now.source.now }
+    requires short { length origins.now.source.now ≤ 2 ^ 20 }
+    ensures { IfOk result (λ v. view v
+        ≡ diagnosis_data names.now origins.now.source.now number (seen condition.now) diagnosis.now) }
 {
     let entry = Entry {
         names,
-        places,
+        origins,
         number,
         condition,
         diagnosis,
     };
-    entry.value(alloc)
-}
-
-// Adds the value of a condition, where that is not proved.
-fn add_unproved(
-    values: &mut Vec<Value>,
-    names: &[Name],
-    places: &Places,
-    number: u64,
-    condition: &Condition,
-    diagnosis: &Diagnosis,
-) -> Result<(), AllocError>
-    ensures { OnOk result (map view values.new.items ≡ map view values.old.items
-        ++ (if is_proved diagnosis.now then [] else diagnosis_data names.now places.now number (seen condition.now) diagnosis.now ∷ [])) }
-{
-    if diagnosis.is_proved() {
-        return Ok(());
-    }
-    let value = diagnosis_value(
-        *values.allocator(),
-        names,
-        places,
-        number,
-        condition,
-        diagnosis,
-    )?;
-    values.push(value)?;
-    Ok(())
-}
-
-/// The values of the conditions that are not proved, numbered from 1.
-pub(crate) fn unproved_values(
-    alloc: Global,
-    names: &[Name],
-    places: &Places,
-    conditions: &[Condition],
-    diagnoses: &[Diagnosis],
-) -> Result<Vec<Value>, AllocError>
-    requires { length diagnoses.now ≡ length conditions.now }
-    ensures { IfOk result (λ values. map view values.items
-        ≡ unproved_data names.now places.now 1 (map seen conditions.now) diagnoses.now) }
-{
-    let mut values = Vec::new(alloc);
-    for index in 0..conditions.len() {
-        let number = index as u64 + 1;
-        add_unproved(
-            &mut values,
-            names,
-            places,
-            number,
-            &conditions[index],
-            &diagnoses[index],
-        )?;
-    }
-    Ok(values)
+    let mut members = Map::new(alloc);
+    entry.put_last(&mut members, alloc)?;
+    entry.put_middle(&mut members, alloc)?;
+    entry.put_first(&mut members, alloc)?;
+    Ok(Value::Object(members))
 }

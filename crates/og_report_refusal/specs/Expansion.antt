@@ -1,5 +1,5 @@
 -- The message about a template of which nothing is printed.
-use Rattle.std.specs.Prelude.{◌≡◌, ◌^◌, nat_lt, if◌then◌else◌, true, ℕ, List, length, map, Option, None, IfSome, IsTrue, codes}
+use Rattle.std.specs.Prelude.{◌≡◌, ◌⊎◌, ◌^◌, nat_lt, if◌then◌else◌, true, ℕ, List, length, map, Option, None, IfSome, IsTrue, codes}
 use Rattle.og_report_text.specs.Places.{◌&◌}
 use Rattle.og_report_refusal.specs.Advice.{is_one_line, hint_text, place_text, refusal_text, front_text}
 use Rattle.og_report_refusal.specs.Names.{shown_name}
@@ -7,6 +7,12 @@ use Rattle.og_report_refusal.specs.Quotes.{shown_byte}
 use Rattle.og_report_refusal.specs.Templates.{IsTemplateReason}
 use Rattle.og_template_outline.specs.Faults.{number_of_fault, name_of_fault, place_of_fault}
 use Rattle.og_template_outline.specs.declared.fault.ExpandFault.{ExpandFault}
+
+-- a reason as it is shown; of a template that is too long its length
+abbrev pub IsShownReason : List ℕ → ExpandFault → List ℕ → Type 0
+IsShownReason source fault text =
+    ((reason : List ℕ) × IsTemplateReason source fault reason × (text ≡ map shown_byte reason))
+    ⊎ (text ≡ codes "a template has at most 1048576 bytes")
 
 -- a reason as it is shown, in one line, and at most one line of advice
 pub record IsTold (source : List ℕ) (fault : ExpandFault) (text : List ℕ) : Type 0 where

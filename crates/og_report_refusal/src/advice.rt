@@ -1,8 +1,9 @@
 //! The message about a refusal on standard error.
 
-ghost use Rattle.std.specs.Prelude.{◌≡◌, ◌++◌, OnOk, IfOk};
+ghost use Rattle.std.specs.Prelude.{◌≡◌, ◌++◌, OnOk, IfOk, IfSome, IsTrue};
 ghost use Rattle.og_report_text.specs.Faults.{place_of_input};
-ghost use Rattle.og_report_refusal.specs.Advice.{IsKnown, front_text, IsAdvice};
+ghost use Rattle.og_report_refusal.specs.Advice.{IsKnown, front_text, is_one_line, IsAdvice};
+ghost use Rattle.og_report_refusal.specs.Reasons.{IsReason};
 
 use crate::head::put_head;
 use crate::help::{help_of, put_help};
@@ -61,6 +62,36 @@ fn template_hint(fault: &InputFault, source: &[u8]) -> Option<Hint> {
     }
 }
 
+/// Why a text is refused, and what to write.
+#[derive(Debug, Drop)]
+pub struct Advice {
+    /// Why.
+    pub reason: Vec<u8>,
+    /// A line of advice without its end, where there is some.
+    pub help: Option<Vec<u8>>,
+}
+
+/// Why an input is refused, as `advise` tells it.
+///
+/// # Errors
+///
+/// An allocation was refused.
+pub fn why(
+    alloc: Global,
+    names: Names<'_>,
+    fault: &InputFault,
+    source: &[u8],
+) -> Result<Advice, AllocError>
+    requires { IsKnown source.now fault.now }
+    ensures reason { IfOk result (λ w. IsReason source.now fault.now w.reason.items) }
+    ensures help { IfOk result (λ w. IfSome w.help (λ h. IsTrue (is_one_line h.items))) }
+{
+    let (reason, hint) = reason(alloc, names, fault, source)?;
+    let hint = template_hint(fault, source).or(hint);
+    let help = help_of(alloc, hint, source, undeclared(fault))?;
+    Ok(Advice { reason, help })
+}
+
 /// The message about a refusal: the file with the place, and the refusal's number and name; the
 /// line of the source with a mark below it, and why; and a line of advice, where there is some.
 /// Where another symbol is expected, all that may stand there are listed, and no other.
@@ -81,11 +112,9 @@ pub fn advise(
     let mut text = Vec::new(alloc);
     put_head(&mut text, names, fault, source)?;
     put_front(&mut text, source, fault)?;
-    let (reason, hint) = reason(alloc, names, fault, source)?;
-    let hint = template_hint(fault, source).or(hint);
-    let help = help_of(alloc, hint, source, undeclared(fault))?;
-    text.extend_from_slice(&reason)?;
+    let why = why(alloc, names, fault, source)?;
+    text.extend_from_slice(&why.reason)?;
     text.extend_from_slice(b"\n")?;
-    put_help(&mut text, &help)?;
+    put_help(&mut text, &why.help)?;
     Ok(text)
 }

@@ -1,12 +1,13 @@
 //! The message about a template of which nothing is printed.
 
-ghost use Rattle.std.specs.Prelude.{◌≡◌, ◌≤◌, ◌<◌, ◌^◌, ◌++◌, None, Some, IfOk, OnOk, length, map, option_map, codes};
-ghost use Rattle.og_report_refusal.specs.Advice.{hint_text, place_text, refusal_text};
+ghost use Rattle.std.specs.Prelude.{◌≡◌, ◌≤◌, ◌<◌, ◌^◌, ◌++◌, None, Some, IfOk, IfSome, IsTrue, OnOk, length, map, option_map, codes};
+ghost use Rattle.og_report_refusal.specs.Advice.{is_one_line, hint_text, place_text, refusal_text};
 ghost use Rattle.og_report_refusal.specs.Names.{shown_name};
 ghost use Rattle.og_report_refusal.specs.Quotes.{shown_byte};
 ghost use Rattle.og_template_outline.specs.Faults.{number_of_fault, name_of_fault, place_of_fault};
-ghost use Rattle.og_report_refusal.specs.Expansion.{IsTold, IsExpansionRemark, IsRemarkAt};
+ghost use Rattle.og_report_refusal.specs.Expansion.{IsShownReason, IsTold, IsExpansionRemark, IsRemarkAt};
 
+use crate::advice::Advice;
 use crate::help::{help_of, put_help};
 use crate::quotes::put_shown;
 use crate::template_reasons::Told;
@@ -100,6 +101,44 @@ impl Refused<'_> {
         put_name(&mut text, self.name)?;
         put_refusal(&mut text, self.fault.number(), self.fault.name())?;
         Ok(text)
+    }
+
+    /// Why, in printable characters, and a line of advice.
+    ///
+    /// # Errors
+    ///
+    /// An allocation was refused.
+    pub fn why(&self, alloc: Global) -> Result<Advice, AllocError>
+        ensures reason { IfOk result (λ w. IsShownReason self.now.source.now self.now.fault.now
+            w.reason.items) }
+        ensures help { IfOk result (λ w. IfSome w.help (λ h. IsTrue (is_one_line h.items))) }
+    {
+        if SOURCE_LIMIT < self.source.len() {
+            let reason = Vec::from_slice(alloc, b"a template has at most 1048576 bytes")?;
+            return Ok(Advice { reason, help: None });
+        }
+        self.placed_why(alloc)
+    }
+
+    // The same, where the template is not too long.
+    fn placed_why(&self, alloc: Global) -> Result<Advice, AllocError>
+        requires { length self.now.source.now ≤ 2 ^ 20 }
+        ensures reason { IfOk result (λ w. IsShownReason self.now.source.now self.now.fault.now
+            w.reason.items) }
+        ensures help { IfOk result (λ w. IfSome w.help (λ h. IsTrue (is_one_line h.items))) }
+    {
+        let template = Told {
+            source: self.source,
+            words: self.words,
+        };
+        let (reason, hint) = template.reason(alloc, self.fault)?;
+        let help = help_of(alloc, hint, self.source, undeclared(self.fault))?;
+        let mut shown = Vec::new(alloc);
+        put_shown(&mut shown, &reason)?;
+        Ok(Advice {
+            reason: shown,
+            help,
+        })
     }
 
     // Why, and the line of advice, where the template is not too long.

@@ -25,10 +25,11 @@ mod template_reasons;
 mod values;
 mod words;
 
-pub use advice::{Names, advise};
+pub use advice::{Advice, Names, advise, why};
 pub use expansion::Refused;
 pub use missing::{long_line, missing_line};
 pub use names::{put_command, put_name};
 pub use quotes::put_quote;
 pub use starting::start_remark;
+pub use template_expected::expected_words;
 pub use values::{Gives, schedule_remark, value_remark};

@@ -57,8 +57,13 @@ fn words_in(alloc: Global, text: &[u8]) -> Result<Vec<Word>, AllocError> {
     }
 }
 
-// The kinds of the words with which a template goes on behind these.
-fn symbols(alloc: Global, before: &mut Vec<Word>) -> Result<Vec<WordKind>, AllocError> {
+/// The kinds of the words with which a template goes on behind these, which stay as they are. A name
+/// and a number are there for all of them.
+///
+/// # Errors
+///
+/// An allocation was refused.
+pub fn expected_words(alloc: Global, before: &mut Vec<Word>) -> Result<Vec<WordKind>, AllocError> {
     let mut all = Vec::new(alloc);
     for word in words_in(alloc, ALL_WORDS.as_bytes())? {
         if let Some(kind) = admitted(alloc, before, word.kind)? {
@@ -111,7 +116,7 @@ fn choices(
     let mut before = words_in(alloc, source)?;
     before.truncate(count_words(words, at));
     let ends = may_end(alloc, &before)?;
-    let symbols = symbols(alloc, &mut before)?;
+    let symbols = expected_words(alloc, &mut before)?;
     let hint = hint_at(source, at, words, &symbols);
     Ok((all_words_of(alloc, &symbols, ends)?, hint))
 }

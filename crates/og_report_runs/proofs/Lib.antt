@@ -1,5 +1,4 @@
 pub mod Floats
 pub mod Parts
 pub mod Placed
-pub mod RunSteps
 pub mod Sought

@@ -1,18 +1,14 @@
 -- As JSON.
-use Rattle.std.specs.Prelude.{ℕ, ◌+◌, ℤ, true, List, [], ◌∷◌, ◌++◌, length, map, if◌then◌else◌, codes}
+use Rattle.std.specs.Prelude.{ℕ, ℤ, true, List, ◌++◌, length, map, codes}
 use Rattle.serde_json.specs.Data.{Data, string, boolean, array, object, member, no_members, put}
 use Rattle.serde_json.specs.View.{items_of}
-use Rattle.serde_json.specs.Written.{compact_text}
 use Rattle.og_report_text.specs.Numbers.{natural}
 use Rattle.og_typed.specs.Syntax.{Program}
-use Rattle.og_cond.specs.Condition.{Condition}
 use Rattle.og_report_text.specs.Processes.{printed_number}
 use Rattle.og_report_text.specs.Values.{numbers}
-use Rattle.og_report_prove.specs.Report.{is_proved}
 use Rattle.og_report_prove.specs.declared.diagnosis.Diagnosis.{Diagnosis}
 use Rattle.og_report_prove.specs.declared.diagnosis.Diagnosis.TheVariants as diagnosis
 use Rattle.og_report_prove.specs.Members.{with_values}
-use Rattle.og_report_prove.specs.Json.{diagnosis_data, totals_data}
 use Rattle.og_report_runs.specs.declared.witness.Run.{Run}
 use Rattle.og_report_runs.specs.declared.witness.Run.TheVariants as run
 use Rattle.og_report_runs.specs.Report.{count_reached}
@@ -53,18 +49,3 @@ module _ (o : Program) where
   with_run diagnosis.Proved r d = d
   with_run (diagnosis.False block) r d = with_member (codes "run") (run_data r) d
   with_run diagnosis.Open r d = d
-
-  module _ (source : List ℕ) where
-    -- the conditions that are not proved, numbered on
-    abbrev pub unproved_data : ℕ → List Condition → List Diagnosis → List Run → List Data
-    unproved_data n [] ts rs = []
-    unproved_data n (c ∷ cs) [] rs = []
-    unproved_data n (c ∷ cs) (t ∷ ts) [] = []
-    unproved_data n (c ∷ cs) (t ∷ ts) (r ∷ rs) =
-        (if is_proved t then [] else with_run t r (diagnosis_data o.names source n c t) ∷ []) ++ unproved_data (n + 1) cs ts rs
-
-    abbrev pub report_data : Explored → List Condition → List Diagnosis → List Run → Data
-    report_data e cs ts rs = with_member (codes "runs") (explored_data e rs) (totals_data ts (array (items_of (unproved_data 1 cs ts rs))))
-
-    abbrev pub json_text : Explored → List Condition → List Diagnosis → List Run → List ℕ
-    json_text e cs ts rs = compact_text (report_data e cs ts rs)

@@ -9,6 +9,7 @@ use og_report_text::{printed_number, put_number, put_number_between, put_values}
 use og_subst::Values;
 use og_text::Name;
 use og_typed::Outline;
+use og_violation::Wrong;
 use std::alloc::{AllocError, Global};
 
 /// The longest history that is printed.
@@ -23,6 +24,8 @@ pub struct Explored {
     pub moments: u32,
     /// Whether these are all moments of all runs from these starts.
     pub complete: bool,
+    /// What is wrong at the end of such a run; where all were looked at, nothing is without it.
+    pub wrong: Option<Wrong>,
 }
 
 // The processes that stepped, with a blank between two.

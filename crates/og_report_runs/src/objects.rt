@@ -1,27 +1,31 @@
 //! The same as JSON.
 
-ghost use Rattle.std.specs.Prelude.{◌≡◌, ◌++◌, ◌≤◌, ◌^◌, [], ◌∷◌, if◌then◌else◌, length, map, IfOk, OnOk};
+ghost use Rattle.std.specs.Prelude.{◌≡◌, ◌++◌, map, IfOk};
 ghost use Rattle.serde_json.specs.View.{view};
-ghost use Rattle.og_cond.specs.Seen.{seen};
-ghost use Rattle.og_report_prove.specs.Report.{is_proved};
-ghost use Rattle.og_report_prove.specs.Json.{diagnosis_data};
-ghost use Rattle.og_report_runs.specs.Json.{with_member, history_items, start_data, run_data, with_run, unproved_data, explored_data, report_data, json_text};
+ghost use Rattle.og_report_runs.specs.Json.{with_member, history_items, start_data, run_data, with_run, explored_data};
 
 use crate::lines::Explored;
-use crate::reporting::count_reached;
+use crate::totals::count_reached;
 use crate::witness::{Run, Witness};
-use og_cond::Condition;
 use og_linear::State;
-use og_report_prove::{Diagnosis, diagnosis_value, put_values, totals_value};
-use og_report_text::{Places, bytes_of, list_value, numbers, printed_number, set_number, set_text};
+use og_report_prove::{Diagnosis, put_values};
+use og_report_text::{list_value, numbers, printed_number, set_number, set_text};
 use og_subst::Values;
-use og_text::Name;
 use og_typed::Outline;
 use serde_json::{Map, Value, put};
 use std::alloc::{AllocError, Global};
 
-// The object with one member more.
-fn with_member(alloc: Global, key: &str, member: Value, value: Value) -> Result<Value, AllocError>
+/// The object with one member more; a value that is no object as it is.
+///
+/// # Errors
+///
+/// An allocation was refused.
+pub fn with_member(
+    alloc: Global,
+    key: &str,
+    member: Value,
+    value: Value,
+) -> Result<Value, AllocError>
     ensures { IfOk result (λ v. view v ≡ with_member key.now (view member) (view value)) }
 {
     match value {
@@ -96,8 +100,13 @@ fn run_value(alloc: Global, outline: &Outline, run: &Run) -> Result<Value, Alloc
     Ok(Value::Object(members))
 }
 
-// With the run, of a false condition.
-fn with_run(
+/// The value of the finding on a condition with the result of the search for runs, where the
+/// condition is false.
+///
+/// # Errors
+///
+/// An allocation was refused.
+pub fn with_run(
     alloc: Global,
     outline: &Outline,
     diagnosis: &Diagnosis,
@@ -112,65 +121,12 @@ fn with_run(
     }
 }
 
-// A condition by its number from 1, the finding on it, and the result of the search for runs.
-#[derive(Clone, Copy)]
-struct Entry<'e, 'c, 'd> {
-    number: u64,
-    condition: &'e Condition<'c>,
-    diagnosis: &'e Diagnosis<'d>,
-    run: &'e Run,
-}
-
-// Adds the value of a condition, where that is not proved.
-fn add_unproved(
-    values: &mut Vec<Value>,
-    outline: &Outline,
-    places: &Places,
-    entry: Entry,
-) -> Result<(), AllocError>
-    ensures { OnOk result (map view values.new.items ≡ map view values.old.items
-        ++ (if is_proved entry.entry.diagnosis.now then [] else with_run outline.now entry.entry.diagnosis.now entry.entry.run.now (diagnosis_data outline.now.names places.now entry.entry.number (seen entry.entry.condition.now) entry.entry.diagnosis.now) ∷ [])) }
-{
-    let (condition, diagnosis) = (entry.condition, entry.diagnosis);
-    if diagnosis.is_proved() {
-        return Ok(());
-    }
-    let alloc = *values.allocator();
-    let names = outline.names();
-    let value = diagnosis_value(alloc, names, places, entry.number, condition, diagnosis)?;
-    values.push(with_run(alloc, outline, diagnosis, entry.run, value)?)?;
-    Ok(())
-}
-
-// The values of the conditions that are not proved, numbered from 1.
-fn unproved_values(
-    alloc: Global,
-    outline: &Outline,
-    places: &Places,
-    conditions: &[Condition],
-    diagnoses: &[Diagnosis],
-    runs: &[Run],
-) -> Result<Vec<Value>, AllocError>
-    requires each { length diagnoses.now ≡ length conditions.now }
-    requires run { length runs.now ≡ length conditions.now }
-    ensures { IfOk result (λ values. map view values.items
-        ≡ unproved_data outline.now places.now 1 (map seen conditions.now) diagnoses.now runs.now) }
-{
-    let mut values = Vec::new(alloc);
-    for index in 0..conditions.len() {
-        let entry = Entry {
-            number: index as u64 + 1,
-            condition: &conditions[index],
-            diagnosis: &diagnoses[index],
-            run: &runs[index],
-        };
-        add_unproved(&mut values, outline, places, entry)?;
-    }
-    Ok(values)
-}
-
-// How far the exploration went.
-fn explored_value(alloc: Global, explored: Explored, runs: &[Run]) -> Result<Value, AllocError>
+/// How far the exploration went, and how many of these runs get there.
+///
+/// # Errors
+///
+/// An allocation was refused.
+pub fn explored_value(alloc: Global, explored: Explored, runs: &[Run]) -> Result<Value, AllocError>
     ensures { IfOk result (λ v. view v ≡ explored_data explored runs.now) }
 {
     let complete = Value::Bool(explored.complete);
@@ -180,68 +136,4 @@ fn explored_value(alloc: Global, explored: Explored, runs: &[Run]) -> Result<Val
     set_number(&mut members, alloc, "moments", u64::from(explored.moments))?;
     put(&mut members, alloc, "complete", complete)?;
     Ok(Value::Object(members))
-}
-
-// All conditions, the findings on them, and the results of the search for runs.
-#[derive(Clone, Copy)]
-struct Findings<'f, 'c, 'd> {
-    conditions: &'f [Condition<'c>],
-    diagnoses: &'f [Diagnosis<'d>],
-    runs: &'f [Run],
-}
-
-// The whole report.
-fn report_value(
-    alloc: Global,
-    outline: &Outline,
-    places: &Places,
-    explored: Explored,
-    findings: Findings,
-) -> Result<Value, AllocError>
-    requires each { length findings.diagnoses.now ≡ length findings.conditions.now }
-    requires run { length findings.runs.now ≡ length findings.conditions.now }
-    ensures { IfOk result (λ v. view v ≡ report_data outline.now places.now explored
-        (map seen findings.entry.conditions.now) findings.entry.diagnoses.now findings.entry.runs.now) }
-{
-    let (conditions, diagnoses, runs) = (findings.conditions, findings.diagnoses, findings.runs);
-    let unproved = unproved_values(alloc, outline, places, conditions, diagnoses, runs)?;
-    let totals = totals_value(alloc, diagnoses, list_value(unproved))?;
-    with_member(
-        alloc,
-        "runs",
-        explored_value(alloc, explored, runs)?,
-        totals,
-    )
-}
-
-/// As JSON, in one line without an LF: as by `og_report_prove::json`, with `runs`, how far the
-/// exploration went, and for each false condition `run`, the result of the search for runs that get
-/// there.
-///
-/// # Errors
-///
-/// An allocation was refused.
-pub fn json(
-    alloc: Global,
-    outline: &Outline,
-    source: &[u8],
-    explored: Explored,
-    conditions: &[Condition],
-    diagnoses: &[Diagnosis],
-    runs: &[Run],
-) -> Result<Vec<u8>, AllocError>
-    requires short { length source.now ≤ 2 ^ 20 }
-    requires each { length diagnoses.now ≡ length conditions.now }
-    requires run { length runs.now ≡ length conditions.now }
-    ensures { IfOk result (λ text. text.items
-        ≡ json_text outline.now source.now explored (map seen conditions.now) diagnoses.now runs.now) }
-{
-    let places = Places::new(alloc, source)?;
-    let findings = Findings {
-        conditions,
-        diagnoses,
-        runs,
-    };
-    let value = report_value(alloc, outline, &places, explored, findings)?;
-    bytes_of(alloc, &value)
 }

@@ -1,3 +1,4 @@
+pub mod Uses
 pub mod Assertions
 pub mod Conjuncts
 pub mod Faults

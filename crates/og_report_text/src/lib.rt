@@ -22,6 +22,7 @@ mod quotes;
 mod relations;
 mod row;
 mod subject;
+mod uses;
 mod values;
 mod words;
 

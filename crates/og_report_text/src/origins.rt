@@ -1,11 +1,13 @@
 //! How the places of an outline are printed.
 
 ghost use Rattle.std.specs.Prelude.{◌≡◌, ◌++◌, None, OnOk, option_map};
+ghost use Rattle.og_report_text.specs.Uses.{use_text_at};
 ghost use Rattle.og_report_text.specs.Origins.{row_at, place_text_at, with_place_text, quoted_at};
 
 use crate::places::Places;
 use crate::quotes::put_quote;
 use crate::row::{Row, Rows};
+use crate::uses::put_use;
 use crate::words::put_position;
 use std::alloc::AllocError;
 
@@ -92,6 +94,22 @@ impl<'a> Origins<'a> {
         match self.row(at) {
             None => put_quote(text, limit, self.source, at),
             Some(row) => put_quote(text, limit, self.source, row.from),
+        }
+    }
+
+    /// Adds what the note at the byte offset `at` has in a template and a colon, where that is one
+    /// use of a named assertion; nothing else.
+    ///
+    /// # Errors
+    ///
+    /// As `put_place`.
+    pub fn put_use(&self, text: &mut Vec<u8>, at: u32) -> Result<(), AllocError>
+        ensures { OnOk result (text.new.items ≡ text.old.items
+            ++ use_text_at self.now.source.now self.now.rows at) }
+    {
+        match self.row(at) {
+            None => Ok(()),
+            Some(row) => put_use(text, self.source, row.from),
         }
     }
 }

@@ -11,7 +11,7 @@ fn ends_line(byte: u8) -> bool
     byte == b'\n' || byte == b'#'
 }
 
-fn is_blank(byte: u8) -> bool
+pub(crate) fn is_blank(byte: u8) -> bool
     ensures { result ≡ is_blank byte }
 {
     byte == b'\t' || byte == b'\r' || byte == b' '
@@ -29,8 +29,8 @@ fn line_of(bytes: &[u8]) -> &[u8]
     bytes
 }
 
-// The bytes without the blanks at their end.
-fn trimmed(bytes: &[u8]) -> &[u8]
+/// The bytes without the blanks at their end.
+pub(crate) fn trimmed(bytes: &[u8]) -> &[u8]
     ensures { result.now ≡ trimmed bytes.now }
 {
     let mut length = bytes.len();

@@ -9,31 +9,39 @@ const JOBS: &[(&str, &str)] = &[
     ("", "Joined"),
     (
         "prove a",
-        "Prove(Prove { source: \"a\", budget: Budget { facts: 100000 }, workers: Workers { count: 1 }, json: false, words: [], runs: None })",
+        "Prove(Prove { source: \"a\", budget: Budget { facts: 100000 }, workers: Workers { count: 1 }, json: false, words: [], runs: Some(MomentLimit { moments: 100000 }), suggest: false })",
     ),
     (
         "prove - --budget 1 --workers 64 --json",
-        "Prove(Prove { source: \"-\", budget: Budget { facts: 1 }, workers: Workers { count: 64 }, json: true, words: [], runs: None })",
+        "Prove(Prove { source: \"-\", budget: Budget { facts: 1 }, workers: Workers { count: 64 }, json: true, words: [], runs: Some(MomentLimit { moments: 100000 }), suggest: false })",
     ),
     (
         "prove --json --workers 2 --budget 1000000000 a",
-        "Prove(Prove { source: \"a\", budget: Budget { facts: 1000000000 }, workers: Workers { count: 2 }, json: true, words: [], runs: None })",
+        "Prove(Prove { source: \"a\", budget: Budget { facts: 1000000000 }, workers: Workers { count: 2 }, json: true, words: [], runs: Some(MomentLimit { moments: 100000 }), suggest: false })",
     ),
     (
         "prove a b",
-        "Prove(Prove { source: \"a\", budget: Budget { facts: 100000 }, workers: Workers { count: 1 }, json: false, words: [\"b\"], runs: None })",
+        "Prove(Prove { source: \"a\", budget: Budget { facts: 100000 }, workers: Workers { count: 1 }, json: false, words: [\"b\"], runs: Some(MomentLimit { moments: 100000 }), suggest: false })",
     ),
     (
         "prove a N=3 M=-2 --budget 7",
-        "Prove(Prove { source: \"a\", budget: Budget { facts: 7 }, workers: Workers { count: 1 }, json: false, words: [\"N=3\", \"M=-2\"], runs: None })",
+        "Prove(Prove { source: \"a\", budget: Budget { facts: 7 }, workers: Workers { count: 1 }, json: false, words: [\"N=3\", \"M=-2\"], runs: Some(MomentLimit { moments: 100000 }), suggest: false })",
     ),
     (
         "prove a --runs",
-        "Prove(Prove { source: \"a\", budget: Budget { facts: 100000 }, workers: Workers { count: 1 }, json: false, words: [], runs: Some(MomentLimit { moments: 100000 }) })",
+        "Prove(Prove { source: \"a\", budget: Budget { facts: 100000 }, workers: Workers { count: 1 }, json: false, words: [], runs: Some(MomentLimit { moments: 100000 }), suggest: false })",
     ),
     (
-        "prove a x=1 --runs --limit 5 --json y=2..3 --workers 2",
-        "Prove(Prove { source: \"a\", budget: Budget { facts: 100000 }, workers: Workers { count: 2 }, json: true, words: [\"x=1\", \"y=2..3\"], runs: Some(MomentLimit { moments: 5 }) })",
+        "prove a N=3 --no-runs",
+        "Prove(Prove { source: \"a\", budget: Budget { facts: 100000 }, workers: Workers { count: 1 }, json: false, words: [\"N=3\"], runs: None, suggest: false })",
+    ),
+    (
+        "prove a --suggest",
+        "Prove(Prove { source: \"a\", budget: Budget { facts: 100000 }, workers: Workers { count: 1 }, json: false, words: [], runs: Some(MomentLimit { moments: 100000 }), suggest: true })",
+    ),
+    (
+        "prove a x=1 --limit 5 --json y=2..3 --workers 2",
+        "Prove(Prove { source: \"a\", budget: Budget { facts: 100000 }, workers: Workers { count: 2 }, json: true, words: [\"x=1\", \"y=2..3\"], runs: Some(MomentLimit { moments: 5 }), suggest: false })",
     ),
     (
         "infer a",
@@ -142,15 +150,23 @@ const JOBS: &[(&str, &str)] = &[
     ),
     (
         "explore a",
-        "Explore(Explore { source: \"a\", limit: MomentLimit { moments: 100000 }, erased: false, json: false, words: [] })",
+        "Explore(Explore { source: \"a\", limit: MomentLimit { moments: 1000000 }, workers: Workers { count: 1 }, erased: false, json: false, dot: false, words: [] })",
     ),
     (
         "explore - x=1 y=-2..3 --limit 1",
-        "Explore(Explore { source: \"-\", limit: MomentLimit { moments: 1 }, erased: false, json: false, words: [\"x=1\", \"y=-2..3\"] })",
+        "Explore(Explore { source: \"-\", limit: MomentLimit { moments: 1 }, workers: Workers { count: 1 }, erased: false, json: false, dot: false, words: [\"x=1\", \"y=-2..3\"] })",
     ),
     (
-        "explore --json --limit 1000000 --erased a",
-        "Explore(Explore { source: \"a\", limit: MomentLimit { moments: 1000000 }, erased: true, json: true, words: [] })",
+        "explore --json --limit 1000000000 --workers 64 --erased a",
+        "Explore(Explore { source: \"a\", limit: MomentLimit { moments: 1000000000 }, workers: Workers { count: 64 }, erased: true, json: true, dot: false, words: [] })",
+    ),
+    (
+        "explore --dot a",
+        "Explore(Explore { source: \"a\", limit: MomentLimit { moments: 1000000 }, workers: Workers { count: 1 }, erased: false, json: false, dot: true, words: [] })",
+    ),
+    (
+        "promela --erased a x=1",
+        "Promela(Promela { source: \"a\", erased: true, words: [\"x=1\"] })",
     ),
     (
         "expand a",

@@ -40,6 +40,18 @@ certs_option = record (option (codes "certs")) { is_free = false }
 abbrev pub schedule_option : Rule
 schedule_option = record (option (codes "schedule")) { is_free = false }
 
+-- `--no-runs`, which goes with neither `--runs` nor `--limit`
+abbrev pub no_runs_flag : Rule
+no_runs_flag = record (flag (codes "no-runs")) { is_free = false }
+
+-- `--suggest`, which does not go with `--json`
+abbrev pub suggest_flag : Rule
+suggest_flag = record (flag (codes "suggest")) { is_free = false }
+
+-- `--dot`, which does not go with `--json`
+abbrev pub dot_flag : Rule
+dot_flag = record (flag (codes "dot")) { is_free = false }
+
 -- words of this form, as many as there are
 abbrev pub words : Text → Rule
 words form = record (new_rule form) {
@@ -82,12 +94,16 @@ version = number (codes "version") (codes "1") (Signed (pos 1) (pos 2))
 abbrev pub limit : Rule
 limit = number (codes "limit") (codes "1000") (Signed (pos 0) (pos 1000000))
 
-abbrev pub moments : Rule
-moments = number (codes "limit") (codes "100000") (Signed (pos 1) (pos 1000000))
+-- a limit of moments, and this one where none is given
+abbrev pub moments : Text → Rule
+moments default = number (codes "limit") default (Signed (pos 1) (pos 1000000000))
+
+abbrev pub runs_limit : Rule
+runs_limit = moments (codes "100000")
 
 -- the same, which goes with `--runs` alone
 abbrev pub run_moments : Rule
-run_moments = record moments { is_free = false }
+run_moments = record runs_limit { is_free = false }
 
 -- a command with these arguments
 abbrev pub command : Text → List Rule → Shape
@@ -96,7 +112,7 @@ command name rules = record (new_shape name) { rules = rules }
 abbrev pub prover : Shape
 prover =
     command (codes "prove") (source ∷ budget ∷ workers ∷ flag (codes "json") ∷ flag (codes "runs")
-    ∷ run_moments ∷ ranges ∷ [])
+    ∷ no_runs_flag ∷ suggest_flag ∷ runs_limit ∷ ranges ∷ [])
 
 abbrev pub infer : Shape
 infer =
@@ -133,13 +149,19 @@ run =
 abbrev pub explorer : Shape
 explorer =
     command (codes "explore")
-    (source ∷ moments ∷ flag (codes "erased") ∷ flag (codes "json") ∷ ranges ∷ [])
+    (source ∷ moments (codes "1000000") ∷ workers ∷ flag (codes "erased") ∷ flag (codes "json") ∷ dot_flag ∷ ranges ∷ [])
+
+abbrev pub translator : Shape
+translator = command (codes "promela") (source ∷ flag (codes "erased") ∷ ranges ∷ [])
 
 abbrev pub expander : Shape
 expander = command (codes "expand") (template ∷ flag (codes "map") ∷ values ∷ [])
 
 abbrev pub formatter : Shape
 formatter = command (codes "fmt") (source ∷ flag (codes "check") ∷ [])
+
+abbrev pub editor : Shape
+editor = command (codes "lsp") []
 
 abbrev pub migrate : Shape
 migrate = command (codes "migrate") (certs ∷ [])
@@ -167,6 +189,6 @@ og = record {
     has_version = true;
   };
   subs =
-      prover ∷ infer ∷ check ∷ notes ∷ show ∷ conditions ∷ finder ∷ erase ∷ run ∷ explorer ∷ expander
-      ∷ formatter ∷ migrate ∷ [];
+      prover ∷ infer ∷ check ∷ notes ∷ show ∷ conditions ∷ finder ∷ erase ∷ run ∷ explorer ∷ translator
+      ∷ expander ∷ formatter ∷ editor ∷ migrate ∷ [];
 }

@@ -1,6 +1,7 @@
 -- Which job words ask for.
-use Rattle.std.specs.Prelude.{◌≡◌, ℕ, List, length, map, Option, None, Some, IfSome, option_map, Result, Ok, IfOk, slice_get, codes, string_bytes, true, false, ⊤}
+use Rattle.std.specs.Prelude.{◌≡◌, ℕ, Bool, List, [], ◌∷◌, length, map, Option, None, Some, IfSome, option_map, Result, Ok, IfOk, slice_get, codes, string_bytes, true, false, ⊤}
 use Rattle.std.specs.Borrow.{Bor}
+use Rattle.std.specs.Str.{bytes_eq}
 use Rattle.clap.specs.Words.{Row, Text}
 use Rattle.og_words.specs.Given.{given, text_of, number_of, is_given, texts_of}
 use Rattle.og_words.specs.declared.job.Verb.{Verb}
@@ -15,6 +16,7 @@ use Rattle.og_words.specs.declared.job.Format.{Format}
 use Rattle.og_words.specs.declared.job.Infer.{Infer}
 use Rattle.og_words.specs.declared.job.Migrate.{Migrate}
 use Rattle.og_words.specs.declared.job.Notes.{Notes}
+use Rattle.og_words.specs.declared.job.Promela.{Promela}
 use Rattle.og_words.specs.declared.job.Prove.{Prove}
 use Rattle.og_words.specs.declared.job.Run.{Run}
 use Rattle.og_words.specs.declared.job.Show.{Show}
@@ -34,6 +36,7 @@ verb_name verbs.Find = codes "find"
 verb_name verbs.Erase = codes "erase"
 verb_name verbs.Run = codes "run"
 verb_name verbs.Explore = codes "explore"
+verb_name verbs.Promela = codes "promela"
 verb_name verbs.Expand = codes "expand"
 verb_name verbs.Format = codes "fmt"
 verb_name verbs.Migrate = codes "migrate"
@@ -50,6 +53,7 @@ words_form verbs.Find = None
 words_form verbs.Erase = None
 words_form verbs.Run = Some (codes "NAME=INT")
 words_form verbs.Explore = Some (codes "NAME=INT|LO..HI")
+words_form verbs.Promela = Some (codes "NAME=INT|LO..HI")
 words_form verbs.Expand = Some (codes "NAME=INT")
 words_form verbs.Format = None
 words_form verbs.Migrate = None
@@ -71,6 +75,7 @@ command_of (jobs.Find find) = Some (codes "find")
 command_of (jobs.Erase erase) = Some (codes "erase")
 command_of (jobs.Run run) = Some (codes "run")
 command_of (jobs.Explore explore) = Some (codes "explore")
+command_of (jobs.Promela promela) = Some (codes "promela")
 command_of (jobs.Expand expand) = Some (codes "expand")
 command_of (jobs.Format format) = Some (codes "fmt")
 command_of (jobs.Migrate migrate) = Some (codes "migrate")
@@ -85,6 +90,12 @@ HoldsRuns rows None = is_given (codes "runs") rows ≡ false
 HoldsRuns rows (Some limit) =
     (is_given (codes "runs") rows ≡ true) × (number_of (codes "limit") rows ≡ Some limit)
 
+-- runs are looked for unless the flag says that none are, and then through as many moments
+abbrev pub HoldsUsualRuns : List Row → Option ℕ → Type 0
+HoldsUsualRuns rows None = is_given (codes "no-runs") rows ≡ true
+HoldsUsualRuns rows (Some limit) =
+    (is_given (codes "no-runs") rows ≡ false) × (number_of (codes "limit") rows ≡ Some limit)
+
 -- ---- the arguments of each command are those that are given
 
 pub record HoldsProve (rows : List Row) (prove : Prove) : Type 0 where
@@ -93,7 +104,8 @@ pub record HoldsProve (rows : List Row) (prove : Prove) : Type 0 where
   pub workers : number_of (codes "workers") rows ≡ Some prove.workers
   pub json : prove.json ≡ is_given (codes "json") rows
   pub words : word_bytes prove.words.items ≡ texts_of (codes "NAME=INT|LO..HI") rows
-  pub runs : HoldsRuns rows prove.runs
+  pub runs : HoldsUsualRuns rows prove.runs
+  pub suggest : prove.suggest ≡ is_given (codes "suggest") rows
 
 pub record HoldsInfer (rows : List Row) (infer : Infer) : Type 0 where
   pub source : text_of (codes "SOURCE") rows ≡ Some infer.source.now
@@ -149,9 +161,16 @@ pub record HoldsRun (rows : List Row) (run : Run) : Type 0 where
 pub record HoldsExplore (rows : List Row) (explore : Explore) : Type 0 where
   pub source : text_of (codes "SOURCE") rows ≡ Some explore.source.now
   pub limit : number_of (codes "limit") rows ≡ Some explore.limit
+  pub workers : number_of (codes "workers") rows ≡ Some explore.workers
   pub erased : explore.erased ≡ is_given (codes "erased") rows
   pub json : explore.json ≡ is_given (codes "json") rows
+  pub dot : explore.dot ≡ is_given (codes "dot") rows
   pub words : word_bytes explore.words.items ≡ texts_of (codes "NAME=INT|LO..HI") rows
+
+pub record HoldsPromela (rows : List Row) (promela : Promela) : Type 0 where
+  pub source : text_of (codes "SOURCE") rows ≡ Some promela.source.now
+  pub erased : promela.erased ≡ is_given (codes "erased") rows
+  pub words : word_bytes promela.words.items ≡ texts_of (codes "NAME=INT|LO..HI") rows
 
 pub record HoldsExpand (rows : List Row) (expand : Expand) : Type 0 where
   pub template : text_of (codes "TEMPLATE") rows ≡ Some expand.template.now
@@ -178,9 +197,15 @@ Holds rows (jobs.Find find) = HoldsFind rows find
 Holds rows (jobs.Erase erase) = HoldsErase rows erase
 Holds rows (jobs.Run run) = HoldsRun rows run
 Holds rows (jobs.Explore explore) = HoldsExplore rows explore
+Holds rows (jobs.Promela promela) = HoldsPromela rows promela
 Holds rows (jobs.Expand expand) = HoldsExpand rows expand
 Holds rows (jobs.Format format) = HoldsFormat rows format
 Holds rows (jobs.Migrate migrate) = HoldsMigrate rows migrate
+
+-- the first word is this one
+abbrev pub begins_with : List ℕ → List (List ℕ) → Bool
+begins_with word [] = false
+begins_with word (w ∷ ws) = bytes_eq w word
 
 -- what words ask for
 pub record IsAsked (words : List (List ℕ)) (asked : Result Job Usage) : Type 0 where

@@ -9,6 +9,10 @@ use clap::builder::ValueParser;
 use clap::{Arg, ArgAction, Command};
 use std::alloc::{AllocError, Global};
 
+// How help calls the words behind an outline or a template whose runs are looked for.
+const START_WORDS: &str =
+    "A constant's value, where SOURCE is a template; or a variable's value at the start, or its values";
+
 // A command without arguments.
 fn command<'a>(alloc: Global, name: &'a str, about: &'a str) -> Command<'a>
     ensures { IsCommand (line.command name.entry.now []) result }
@@ -139,12 +143,19 @@ fn condition_budget_arg<'a>(alloc: Global) -> Arg<'a>
     )
 }
 
-// How many moments may be looked at; the help text says when.
-fn moments_arg<'a>(alloc: Global, help: &'a str) -> Arg<'a>
-    ensures { IsArg line.moments result }
+// How many moments may be looked at, and this many where it is not said; the help text says when.
+fn moments_arg<'a>(alloc: Global, usual: &'a str, help: &'a str) -> Arg<'a>
+    ensures { IsArg (line.moments usual.entry.now) result }
 {
-    let bounds = clap::value_parser!(u32).range(1..=1000000);
-    number_arg(alloc, "limit", "100000", bounds, help)
+    let bounds = clap::value_parser!(u32).range(1..=1000000000);
+    number_arg(alloc, "limit", usual, bounds, help)
+}
+
+// How many moments may be looked at for runs; the help text says when.
+fn runs_limit_arg<'a>(alloc: Global, help: &'a str) -> Arg<'a>
+    ensures { IsArg line.runs_limit result }
+{
+    moments_arg(alloc, "100000", help)
 }
 
 // Words that give variables or constants their values; the help text says when.
@@ -160,6 +171,14 @@ fn json_arg<'a>(alloc: Global) -> Arg<'a>
     flag_arg(alloc, "json", "Print the report as JSON")
 }
 
+// `--runs` where runs are looked for without it too.
+fn usual_runs_arg<'a>(alloc: Global) -> Arg<'a>
+    ensures { IsArg (line.flag (codes "runs")) result }
+{
+    let help = "Look for runs to the states in which conditions are false, as without it";
+    flag_arg(alloc, "runs", help)
+}
+
 fn runs_arg<'a>(alloc: Global) -> Arg<'a>
     ensures { IsArg (line.flag (codes "runs")) result }
 {
@@ -170,11 +189,35 @@ fn runs_arg<'a>(alloc: Global) -> Arg<'a>
     )
 }
 
+// `--no-runs`.
+fn no_runs_arg<'a>(alloc: Global) -> Result<Arg<'a>, AllocError>
+    ensures { IfOk result (IsArg line.no_runs_flag) }
+{
+    let no_runs = flag_arg(alloc, "no-runs", "Look for no runs");
+    without(without(no_runs, "runs")?, "limit")
+}
+
+// `--suggest`.
+fn suggest_arg<'a>(alloc: Global) -> Result<Arg<'a>, AllocError>
+    ensures { IfOk result (IsArg line.suggest_flag) }
+{
+    let help = "Say what assertions lack to prove a false condition, as og infer finds it";
+    without(flag_arg(alloc, "suggest", help), "json")
+}
+
+// `--dot`.
+fn dot_arg<'a>(alloc: Global) -> Result<Arg<'a>, AllocError>
+    ensures { IfOk result (IsArg line.dot_flag) }
+{
+    let help = "Print the moments and steps as a graph for Graphviz, at most 1000 moments";
+    without(flag_arg(alloc, "dot", help), "json")
+}
+
 fn run_moments_arg<'a>(alloc: Global) -> Result<Arg<'a>, AllocError>
     ensures { IfOk result (IsArg line.run_moments) }
 {
-    let help = "With --runs: how many moments may be looked at, 1 to 1000000";
-    beside(moments_arg(alloc, help), "runs")
+    let help = "With --runs: how many moments may be looked at, 1 to 1000000000";
+    beside(runs_limit_arg(alloc, help), "runs")
 }
 
 // The words behind an outline or a template whose runs may be looked for.
@@ -199,13 +242,16 @@ fn prove_command<'a>(alloc: Global) -> Result<Command<'a>, AllocError>
 {
     let about = "Prove an outline, or say what is wrong with it";
     let workers = workers_arg(alloc, "How many threads work, 1 to 64");
+    let help = "How many moments may be looked at for runs, 1 to 1000000000";
     let prove = with_arg(Ok(command(alloc, "prove", about)), Ok(source_arg(alloc)));
     let prove = with_arg(prove, Ok(condition_budget_arg(alloc)));
     let prove = with_arg(prove, Ok(workers));
     let prove = with_arg(prove, Ok(json_arg(alloc)));
-    let prove = with_arg(prove, Ok(runs_arg(alloc)));
-    let prove = with_arg(prove, run_moments_arg(alloc));
-    with_arg(prove, Ok(start_words_arg(alloc)))
+    let prove = with_arg(prove, Ok(usual_runs_arg(alloc)));
+    let prove = with_arg(prove, no_runs_arg(alloc));
+    let prove = with_arg(prove, suggest_arg(alloc));
+    let prove = with_arg(prove, Ok(runs_limit_arg(alloc, help)));
+    with_arg(prove, Ok(ranges_arg(alloc, START_WORDS)))
 }
 
 // How many steps a search for an assertion may make.
@@ -240,15 +286,13 @@ fn infer_command<'a>(alloc: Global) -> Result<Command<'a>, AllocError>
 {
     let about = "Complete an outline by assertions that prove it";
     let workers = workers_arg(alloc, "How many threads work, 1 to 64");
-    let help =
-        "A constant's value, where SOURCE is a template; or a variable's value at the start, or its values";
     let infer = with_arg(Ok(command(alloc, "infer", about)), Ok(source_arg(alloc)));
     let infer = with_arg(infer, Ok(aux_arg(alloc)));
     let infer = with_arg(infer, Ok(infer_budget_arg(alloc)));
     let infer = with_arg(infer, Ok(questions_arg(alloc)));
     let infer = with_arg(infer, Ok(workers));
     let infer = with_arg(infer, Ok(json_arg(alloc)));
-    with_arg(infer, Ok(ranges_arg(alloc, help)))
+    with_arg(infer, Ok(ranges_arg(alloc, START_WORDS)))
 }
 
 fn check_command<'a>(alloc: Global) -> Result<Command<'a>, AllocError>
@@ -377,15 +421,27 @@ fn explore_command<'a>(alloc: Global) -> Result<Command<'a>, AllocError>
     ensures { IfOk result (IsCommand line.explorer) }
 {
     let about = "Look through every run for what goes wrong";
-    let moments = moments_arg(alloc, "How many moments may be looked at, 1 to 1000000");
+    let help = "How many moments may be looked at, 1 to 1000000000";
+    let moments = moments_arg(alloc, "1000000", help);
+    let workers = workers_arg(alloc, "How many threads work, 1 to 64");
     let erased = flag_arg(alloc, "erased", "Explore the erased program");
-    let help =
-        "A constant's value, where SOURCE is a template; or a variable's value at the start, or its values";
     let explore = with_arg(Ok(command(alloc, "explore", about)), Ok(source_arg(alloc)));
     let explore = with_arg(explore, Ok(moments));
+    let explore = with_arg(explore, Ok(workers));
     let explore = with_arg(explore, Ok(erased));
     let explore = with_arg(explore, Ok(json_arg(alloc)));
-    with_arg(explore, Ok(ranges_arg(alloc, help)))
+    let explore = with_arg(explore, dot_arg(alloc));
+    with_arg(explore, Ok(ranges_arg(alloc, START_WORDS)))
+}
+
+fn promela_command<'a>(alloc: Global) -> Result<Command<'a>, AllocError>
+    ensures { IfOk result (IsCommand line.translator) }
+{
+    let about = "Print the program as SPIN reads it";
+    let erased = flag_arg(alloc, "erased", "Print the erased program");
+    let promela = with_arg(Ok(command(alloc, "promela", about)), Ok(source_arg(alloc)));
+    let promela = with_arg(promela, Ok(erased));
+    with_arg(promela, Ok(ranges_arg(alloc, START_WORDS)))
 }
 
 fn expand_command<'a>(alloc: Global) -> Result<Command<'a>, AllocError>
@@ -407,6 +463,13 @@ fn format_command<'a>(alloc: Global) -> Result<Command<'a>, AllocError>
     let help = "Print nothing, and tell by the status whether it is laid out";
     let format = with_arg(Ok(command(alloc, "fmt", about)), Ok(source_arg(alloc)));
     with_arg(format, Ok(flag_arg(alloc, "check", help)))
+}
+
+fn editor_command<'a>(alloc: Global) -> Command<'a>
+    ensures { IsCommand line.editor result }
+{
+    let about = "Serve an editor by the Language Server Protocol, over standard input and output";
+    command(alloc, "lsp", about)
 }
 
 fn migrate_command<'a>(alloc: Global) -> Result<Command<'a>, AllocError>
@@ -454,7 +517,9 @@ pub(crate) fn program<'a>(alloc: Global) -> Result<Command<'a>, AllocError>
     let program = with_word(program, erase_command(alloc));
     let program = with_word(program, run_command(alloc));
     let program = with_word(program, explore_command(alloc));
+    let program = with_word(program, promela_command(alloc));
     let program = with_word(program, expand_command(alloc));
     let program = with_word(program, format_command(alloc));
+    let program = with_word(program, Ok(editor_command(alloc)));
     with_word(program, migrate_command(alloc))
 }

@@ -20,6 +20,7 @@ pub(crate) enum Verb {
     Erase,
     Run,
     Explore,
+    Promela,
     Expand,
     Format,
     Migrate,
@@ -50,6 +51,8 @@ pub enum Job<'a> {
     Run(Run<'a>),
     /// Look through the moments of all runs of an outline, or of a template's.
     Explore(Explore<'a>),
+    /// Print the program of an outline, or of a template's, as SPIN reads it.
+    Promela(Promela<'a>),
     /// Print the outline that a template means.
     Expand(Expand<'a>),
     /// Print an outline or a template laid out, or say whether it is.
@@ -72,9 +75,11 @@ pub struct Prove<'a> {
     /// Words that give a template's constants their values and, where runs are looked for,
     /// variables their values, or ranges of them, at the start.
     pub words: Vec<&'a str>,
-    /// Where runs are to be looked for that get to states in which conditions are false: how many
+    /// Unless no runs are to be looked for that get to states in which conditions are false: how many
     /// moments may be looked at.
     pub runs: Option<MomentLimit>,
+    /// Whether advice is wanted below false conditions.
+    pub suggest: bool,
 }
 
 /// The arguments of `infer`.
@@ -197,10 +202,26 @@ pub struct Explore<'a> {
     pub source: &'a str,
     /// How many moments may be looked at.
     pub limit: MomentLimit,
+    /// How many threads work.
+    pub workers: Workers,
     /// Whether the program without auxiliary variables is to be explored.
     pub erased: bool,
     /// Whether the report is to be JSON.
     pub json: bool,
+    /// Whether the moments are to be drawn instead.
+    pub dot: bool,
+    /// Words that give a template's constants their values, and variables their values, or ranges
+    /// of them, at the start.
+    pub words: Vec<&'a str>,
+}
+
+/// The arguments of `promela`.
+#[derive(Debug, Drop)]
+pub struct Promela<'a> {
+    /// The file of the outline or the template; `-` is standard input.
+    pub source: &'a str,
+    /// Whether it is the program without auxiliary variables.
+    pub erased: bool,
     /// Words that give a template's constants their values, and variables their values, or ranges
     /// of them, at the start.
     pub words: Vec<&'a str>,

@@ -8,7 +8,7 @@ mod words;
 
 pub use given::given_words;
 pub use job::{
-    Check, Conditions, Erase, Expand, Explore, Find, Format, Infer, Job, Migrate, Notes, Prove,
-    Run, Show, Usage,
+    Check, Conditions, Erase, Expand, Explore, Find, Format, Infer, Job, Migrate, Notes, Promela,
+    Prove, Run, Show, Usage,
 };
-pub use words::read_words;
+pub use words::{asks_for_editor, read_words};

@@ -4,12 +4,12 @@ ghost use Rattle.std.specs.Prelude.{◌≡◌, IfOk, IfSome, Some, true, false, 
 ghost use Rattle.clap.specs.Words.{found_of, rows_of, subcommand_of, subcommand_rows_of};
 ghost use Rattle.og_words.specs.CommandLine.{og};
 ghost use Rattle.og_words.specs.Given.{rows_below, text_of, number_of, is_given, texts_of};
-ghost use Rattle.og_words.specs.Jobs.{verb_name, words_form, command_of, word_bytes, HasWords, HoldsRuns, Holds, IsAsked};
+ghost use Rattle.og_words.specs.Jobs.{verb_name, words_form, command_of, word_bytes, begins_with, HasWords, HoldsRuns, HoldsUsualRuns, Holds, IsAsked};
 
 use crate::commands::program;
 use crate::job::{
-    Check, Conditions, Erase, Expand, Explore, Find, Format, Infer, Job, Migrate, Notes, Prove,
-    Run, Show, Usage, Verb,
+    Check, Conditions, Erase, Expand, Explore, Find, Format, Infer, Job, Migrate, Notes, Promela,
+    Prove, Run, Show, Usage, Verb,
 };
 use clap::ArgMatches;
 use clap::error::{Error, ErrorKind};
@@ -30,6 +30,7 @@ fn verb_of(word: &str) -> Option<Verb>
         "erase" => Some(Verb::Erase),
         "run" => Some(Verb::Run),
         "explore" => Some(Verb::Explore),
+        "promela" => Some(Verb::Promela),
         "expand" => Some(Verb::Expand),
         "fmt" => Some(Verb::Format),
         "migrate" => Some(Verb::Migrate),
@@ -96,6 +97,17 @@ fn runs_of(m: &ArgMatches<'_>) -> Option<Option<MomentLimit>>
     } else {
         Some(None)
     }
+}
+
+// The same, where they are looked for unless the flag says not to.
+fn usual_runs_of(m: &ArgMatches<'_>) -> Option<Option<MomentLimit>>
+    ensures { IfSome result (HoldsUsualRuns (rows_of (found_of m.now))) }
+{
+    if has_flag(m, "no-runs") {
+        return Some(None);
+    }
+    let limit = moments_of(m)?;
+    Some(Some(limit))
 }
 
 fn infer_job<'a>(m: &ArgMatches<'a>, words: Vec<&'a str>) -> Option<Job<'a>>
@@ -219,7 +231,7 @@ fn prove_job<'a>(m: &ArgMatches<'a>, words: Vec<&'a str>) -> Option<Job<'a>>
 {
     let source = text_of(m, "SOURCE")?;
     let (budget, workers) = (budget_of(m)?, workers_of(m)?);
-    let (json, runs) = (has_flag(m, "json"), runs_of(m)?);
+    let (json, runs) = (has_flag(m, "json"), usual_runs_of(m)?);
     Some(Job::Prove(Prove {
         source,
         budget,
@@ -227,6 +239,7 @@ fn prove_job<'a>(m: &ArgMatches<'a>, words: Vec<&'a str>) -> Option<Job<'a>>
         json,
         words,
         runs,
+        suggest: has_flag(m, "suggest"),
     }))
 }
 
@@ -266,13 +279,31 @@ fn explore_job<'a>(m: &ArgMatches<'a>, words: Vec<&'a str>) -> Option<Job<'a>>
     ensures command { IfSome result (λ job. command_of job ≡ Some (verb_name Verb.Explore)) }
     ensures holds { IfSome result (Holds (rows_of (found_of m.now))) }
 {
-    let (source, limit) = (text_of(m, "SOURCE")?, moments_of(m)?);
+    let source = text_of(m, "SOURCE")?;
+    let (limit, workers) = (moments_of(m)?, workers_of(m)?);
     let (erased, json) = (has_flag(m, "erased"), has_flag(m, "json"));
     Some(Job::Explore(Explore {
         source,
         limit,
+        workers,
         erased,
         json,
+        dot: has_flag(m, "dot"),
+        words,
+    }))
+}
+
+fn promela_job<'a>(m: &ArgMatches<'a>, words: Vec<&'a str>) -> Option<Job<'a>>
+    requires { word_bytes words.items ≡ texts_of (codes "NAME=INT|LO..HI")
+        (rows_of (found_of m.now)) }
+    ensures command { IfSome result (λ job. command_of job ≡ Some (verb_name Verb.Promela)) }
+    ensures holds { IfSome result (Holds (rows_of (found_of m.now))) }
+{
+    let source = text_of(m, "SOURCE")?;
+    let erased = has_flag(m, "erased");
+    Some(Job::Promela(Promela {
+        source,
+        erased,
         words,
     }))
 }
@@ -297,7 +328,9 @@ fn words_form(verb: Verb) -> Option<&'static str>
 {
     match verb {
         Verb::Notes | Verb::Run | Verb::Expand => Some("NAME=INT"),
-        Verb::Prove | Verb::Infer | Verb::Show | Verb::Explore => Some("NAME=INT|LO..HI"),
+        Verb::Prove | Verb::Infer | Verb::Show | Verb::Explore | Verb::Promela => Some(
+            "NAME=INT|LO..HI",
+        ),
         Verb::Check | Verb::Conditions | Verb::Find | Verb::Erase | Verb::Format | Verb::Migrate =>
             None,
     }
@@ -331,6 +364,7 @@ fn job_with<'a>(verb: Verb, m: &ArgMatches<'a>, words: Vec<&'a str>) -> Option<J
         Verb::Erase => erase_job(m),
         Verb::Run => run_job(m, words),
         Verb::Explore => explore_job(m, words),
+        Verb::Promela => promela_job(m, words),
         Verb::Expand => expand_job(m, words),
         Verb::Format => format_job(m),
         Verb::Migrate => migrate_job(m),
@@ -433,6 +467,25 @@ fn matches_of<'a>(alloc: Global, words: &'a [String]) -> Result<ArgMatches<'a>, 
         Ok(matches) => Ok(matches),
         Err(error) => Err(shown_usage(alloc, words, error.kind())?),
     }
+}
+
+/// Whether the words ask for the language server, which is no job: the first of them is `lsp`.
+///
+/// # Errors
+///
+/// As `read_words`, where that is the first word.
+pub fn asks_for_editor(alloc: Global, words: &[String]) -> Result<bool, Usage>
+    ensures { IfOk result (λ asks. asks ≡ begins_with (codes "lsp") (map (λ w. string_bytes w) words.now)) }
+{
+    let Some(first) = words.first() else {
+        return Ok(false);
+    };
+    if first.as_str() != "lsp" {
+        return Ok(false);
+    }
+    let matches = matches_of(alloc, words)?;
+    drop(matches);
+    Ok(true)
 }
 
 /// The job that the words ask for; they are the words after the program's name. The first names

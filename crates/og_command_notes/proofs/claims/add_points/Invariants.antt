@@ -2,7 +2,8 @@ use Rattle.std.proofs.Common.{◌≡◌, ◌++◌, map, drop}
 use Rattle.std.specs.Prelude.{flat_map}
 use Rattle.std.specs.List.{AllByRecursion}
 use Rattle.og_command_notes.specs.Claims.{question_of, point_questions, IsFound}
-use Rattle.og_command_notes.specs.Seen.{claims_of, points_of}
+use Rattle.og_review_text.specs.Seen.{points_of}
+use Rattle.og_command_notes.specs.Seen.{claims_of}
 use Rattle.og_command_notes.proofs.claims.add_points.Given as goal
 
 abbrev pub invariant-loop-point : goal.invariant-loop-point

@@ -1,9 +1,10 @@
 use Rattle.std.proofs.Common.{◌≡◌, ◌∙◌, ◌++◌, List, length, take, sym, ap, false}
 use Rattle.std.specs.Prelude.{codes, flat_map, ◌==◌}
 use Rattle.og_command_notes.specs.Notes.{block_line, more_text}
-use Rattle.og_command_notes.specs.Seen.{points_of}
+use Rattle.og_review_text.specs.Seen.{points_of}
 use Rattle.og_command_notes.specs.declared.together.Block.{Block}
-use Rattle.og_command_notes.proofs.Joins.{joined, not_chosen}
+use Rattle.og_report_text.proofs.Joins.{joined}
+use Rattle.og_command_notes.proofs.Joins.{not_chosen}
 use Rattle.og_command_notes.proofs.lines.put_table.Goals as goal
 
 pub returns : goal.returns

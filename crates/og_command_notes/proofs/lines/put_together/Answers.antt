@@ -2,9 +2,11 @@ use Rattle.std.proofs.Common.{rules, ◌≡◌, ◌∙◌, ◌++◌, List, [], a
 use Rattle.std.specs.Prelude.{codes, nat_lt, if◌then◌else◌}
 use Rattle.std.proofs.lemmas.Bool.{le-ltb}
 use Rattle.og_command_notes.specs.Notes.{table_text}
-use Rattle.og_command_notes.specs.Seen.{points_of}
+use Rattle.og_review_text.specs.Seen.{points_of}
 use Rattle.og_command_notes.specs.declared.together.Block.{Block}
-use Rattle.og_command_notes.proofs.Joins.{joined, when_ok, chosen, not_chosen}
+use Rattle.og_report_text.proofs.Joins.{joined}
+use Rattle.og_review_text.proofs.Joins.{when_ok}
+use Rattle.og_command_notes.proofs.Joins.{chosen, not_chosen}
 use Rattle.og_command_notes.proofs.lines.put_together.Goals as goal
 
 pub returns : goal.returns

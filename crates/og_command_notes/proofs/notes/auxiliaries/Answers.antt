@@ -1,6 +1,6 @@
 use Rattle.std.proofs.Common.{length}
 use Rattle.og_command_notes.specs.Notes.{auxiliaries}
-use Rattle.og_command_notes.proofs.Ranges.{added_next}
+use Rattle.og_review_text.proofs.Ranges.{added_next}
 use Rattle.og_command_notes.proofs.notes.auxiliaries.Goals as goal
 
 pub loop-var-preserved : goal.loop-var-preserved

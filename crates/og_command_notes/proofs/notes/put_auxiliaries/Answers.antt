@@ -1,7 +1,9 @@
 use Rattle.std.proofs.Common.{◌≡◌, ◌∙◌, ◌++◌, [], length, sym, false}
 use Rattle.std.specs.Prelude.{codes, ◌==◌}
 use Rattle.og_report_text.specs.Values.{names_text}
-use Rattle.og_command_notes.proofs.Joins.{joined, when_ok, not_chosen}
+use Rattle.og_report_text.proofs.Joins.{joined}
+use Rattle.og_review_text.proofs.Joins.{when_ok}
+use Rattle.og_command_notes.proofs.Joins.{not_chosen}
 use Rattle.og_command_notes.proofs.notes.put_auxiliaries.Goals as goal
 
 pub returns : goal.returns

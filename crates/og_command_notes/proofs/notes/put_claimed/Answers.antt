@@ -2,7 +2,7 @@ use Rattle.std.proofs.Common.{rules, ◌≡◌, ◌++◌}
 use Rattle.std.specs.Prelude.{codes, flat_map}
 use Rattle.og_command_notes.specs.Notes.{assertion_line, claim_line}
 use Rattle.og_command_notes.specs.Seen.{claims_of}
-use Rattle.og_command_notes.proofs.Joins.{joined}
+use Rattle.og_report_text.proofs.Joins.{joined}
 use Rattle.og_command_notes.proofs.notes.put_claimed.Goals as goal
 
 pub returns : goal.returns

@@ -1,5 +1,6 @@
 use Rattle.og_command_notes.specs.Notes.{unblocked_line, definitions_line}
-use Rattle.og_command_notes.proofs.Joins.{joined, when_ok}
+use Rattle.og_report_text.proofs.Joins.{joined}
+use Rattle.og_review_text.proofs.Joins.{when_ok}
 use Rattle.og_command_notes.proofs.notes.put_meaning.Goals as goal
 
 pub returns : goal.returns

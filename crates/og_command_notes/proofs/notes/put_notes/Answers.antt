@@ -1,9 +1,9 @@
 use Rattle.std.proofs.Common.{rules, ◌≡◌, ◌++◌}
 use Rattle.std.specs.Prelude.{OnOk}
-use Rattle.og_command_notes.specs.Hidden.{hidden_lines}
+use Rattle.og_review_text.specs.Hidden.{hidden_lines}
 use Rattle.og_command_notes.specs.Notes.{findings_text, unblocked_line, definitions_line, auxiliaries, auxiliaries_text, program_of}
 use Rattle.og_command_notes.specs.Seen.{claims_of}
-use Rattle.og_command_notes.proofs.Joins.{joined}
+use Rattle.og_report_text.proofs.Joins.{joined}
 use Rattle.og_command_notes.proofs.notes.put_notes.Goals as goal
 
 pub returns : goal.returns
@@ -14,11 +14,11 @@ returns c =
     let found = c.args.found.now in
     let before = c.args.text.now.items in
     let one = c.put_findings.new.text.items in
-    let two = c.put_all_hidden.new.text.items in
+    let two = c.put_hidden_lines.new.text.items in
     let three = c.put_meaning.new.text.items in
     let after = c.put_program.new.text.items in
     let r = c.put_program.result in
-    let first = findings_text o source rows (claims_of found.claims.items) found.together.blocks.items found.together.is_cut in
+    let first = findings_text o source rows (claims_of found.claims.items) found.together.blocks.items in
     let second = hidden_lines source in
     let third = unblocked_line ++ definitions_line in
     let last = auxiliaries_text o (auxiliaries o) ++ program_of o in

@@ -1,4 +1,4 @@
-use Rattle.og_command_notes.specs.Seen.{points_of}
+use Rattle.og_review_text.specs.Seen.{points_of}
 use Rattle.og_command_notes.specs.Together.{AreBlocks}
 use Rattle.og_command_notes.proofs.together.add_row.Given as goal
 

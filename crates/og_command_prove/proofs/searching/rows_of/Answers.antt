@@ -1,10 +1,9 @@
-use Rattle.std.proofs.Common.{◌≡◌, ◌∙◌, ◌++◌, ◌∷◌, [], length, map, ap, ap₂, sym, subst, append_assoc, rules}
+use Rattle.std.proofs.Common.{◌≡◌, ◌∙◌, ◌++◌, ◌∷◌, [], None, length, map, ap, ap₂, sym, subst, append_assoc, rules}
 use Rattle.std.specs.Prelude.{All}
 use Rattle.std.proofs.lemmas.List.{length-map, map-append}
 use Rattle.std.proofs.lemmas.List.Elements.{All-push}
 use Rattle.og_cond.specs.Seen.{seen}
 use Rattle.og_command_prove.specs.Found.{IsFound}
-use Rattle.og_command_prove.specs.Moments.{starts_of}
 use Rattle.og_command_prove.proofs.Rows.{verdict_true}
 use Rattle.og_command_prove.proofs.searching.rows_of.Goals as goal
 
@@ -20,7 +19,7 @@ row-requires-clause-verdict c =
 
 pub loop-condition-preserved : goal.loop-condition-preserved
 loop-condition-preserved c =
-    let P = IsFound c.args.outline.now (starts_of c.args.moments) in
+    let P = IsFound c.args.diagnoser.outline.now None in
     let rows = c.loop-condition.rows.items in
     let row = c.in_ok-row.row in
     let before = c.loop-condition.yielded in

@@ -19,5 +19,5 @@ loop-index-preserved c = λ (p : ℕ).
     let first : slice_get (map seen conditions) i ≡ Some (seen condition) =
     slice_get-map seen conditions i ∙ ap (option_map seen) (slice_get_read conditions (length conditions) i condition refl c.loop-index-test.true c.index-conditions-index.is) in
     let second : slice_get diagnoses i ≡ Some t = slice_get_read diagnoses (length diagnoses) i t refl in_told c.index-diagnoses-index.is in
-    diagnosis_goes p i (map seen conditions) diagnoses targets (seen condition) t _ (found p c.loop-index.marks) (found p c.add_diagnosis.new.marks) (mark_at (map seen conditions) diagnoses targets p)
+    diagnosis_goes c.args.rows p i (map seen conditions) diagnoses targets (seen condition) t _ (found p c.loop-index.marks) (found p c.add_diagnosis.new.marks) (mark_at c.args.rows (map seen conditions) diagnoses targets p)
     first second (slice_get-get_or targets i _ in_targets) (c.in_ok-add_diagnosis.ensures p) (c.loop-index.invariant p)

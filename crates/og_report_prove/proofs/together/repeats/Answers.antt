@@ -1,28 +1,28 @@
-use Rattle.std.proofs.Common.{◌≡◌, length, map, ap, sym, ◌∙◌, arith, rules, true}
-use Rattle.std.specs.Prelude.{is_none}
+use Rattle.std.proofs.Common.{◌≡◌, ◌≤◌, length, map, Some, ap, refl, ◌∙◌, arith}
+use Rattle.std.specs.Prelude.{option_map, slice_get}
+use Rattle.std.proofs.Math.ListN.{drop_of_length-le}
 use Rattle.std.proofs.lemmas.List.{length-map}
-use Rattle.og_cond.specs.Seen.{seen}
+use Rattle.std.proofs.lemmas.Option.{slice_get-map, slice_get_read}
 use Rattle.og_report_prove.specs.Together.{key_seen}
-use Rattle.og_report_prove.proofs.Keys.{keys_length, none_together}
+use Rattle.og_report_prove.proofs.Keys.{is_left_goes, is_left_ends}
+use Rattle.og_report_prove.proofs.Told.{each_told}
 use Rattle.og_report_prove.proofs.together.repeats.Goals as goal
 
-pub repeats_of-requires : goal.repeats_of-requires
-repeats_of-requires c =
-    let diagnoses = c.args.diagnoses.now in
-    let cs = map seen c.args.conditions.now in
-    let each : length diagnoses ≡ length cs = c.requires.each ∙ sym (length-map c.args.conditions.now seen) in
-    let items = ap length c.deref.ensures.value in
-    let mapped = length-map c.in_ok-keys.keys.items key_seen in
-    let same = ap length c.in_ok-keys.ensures in
-    let all = keys_length c.args.rows cs diagnoses each in
-    let few = c.requires.few in
-    omega (arith, items, mapped, same, all, few)
+pub loop-index-preserved : goal.loop-index-preserved
+loop-index-preserved c =
+    let keys = c.args.keys.now in
+    let i = c.loop-index.index in
+    let key = c.index-keys-index.result in
+    let at : slice_get (map key_seen keys) i ≡ Some (key_seen key) =
+    slice_get-map key_seen keys i ∙ ap (option_map key_seen) (slice_get_read keys (length keys) i key refl c.loop-index-test.true c.index-keys-index.is) in
+    is_left_goes (map key_seen keys) i (key_seen key) c.loop-index.counts c.more_left.new.counts c.loop-index.repeats.items c.push.new.self.items c.more_left.result
+    at c.more_left.ensures.more c.more_left.ensures.counts c.in_ok-push.ensures.items c.loop-index.invariant
 
-pub returns-then-is_none : goal.returns-then-is_none
-returns-then-is_none c =
-    let cs = map seen c.args.conditions.now in
-    let diagnoses = c.args.diagnoses.now in
-    let count = length-map c.args.conditions.now seen in
-    let each : length diagnoses ≡ length cs = c.requires.each ∙ sym count in
-    let none : is_none c.args.rows ≡ true = search rules in
-    none_together c.args.rows cs diagnoses c.none_more.result (length c.args.conditions.now) each none (sym count) c.none_more.ensures
+pub returns-clause-all : goal.returns-clause-all
+returns-clause-all c =
+    let keys = c.args.keys.now in
+    let i = c.loop-index.index in
+    let count = length-map keys key_seen in
+    let past : length (map key_seen keys) ≤ i = omega (arith, count) in
+    each_told keys c.loop-index.repeats.items
+    (is_left_ends (map key_seen keys) i c.loop-index.counts c.loop-index.repeats.items (drop_of_length-le (map key_seen keys) past) c.loop-index.invariant)

@@ -13,6 +13,8 @@ returns c =
     let eight = c.with_word-program-8.ensures _ line.erase seven c.erase_command.ensures in
     let nine = c.with_word-program-9.ensures _ line.run eight c.run_command.ensures in
     let ten = c.with_word-program-10.ensures _ line.explorer nine c.explore_command.ensures in
-    let eleven = c.with_word-program-11.ensures _ line.expander ten c.expand_command.ensures in
-    let twelve = c.with_word-program-12.ensures _ line.formatter eleven c.format_command.ensures in
-    c.with_word.ensures _ line.migrate twelve c.migrate_command.ensures
+    let eleven = c.with_word-program-11.ensures _ line.translator ten c.promela_command.ensures in
+    let twelve = c.with_word-program-12.ensures _ line.expander eleven c.expand_command.ensures in
+    let thirteen = c.with_word-program-13.ensures _ line.formatter twelve c.format_command.ensures in
+    let fourteen = c.with_word-program-14.ensures _ line.editor thirteen c.editor_command.ensures in
+    c.with_word.ensures _ line.migrate fourteen c.migrate_command.ensures

@@ -3,4 +3,4 @@ use Rattle.og_words.specs.CommandLine as line
 use Rattle.og_words.proofs.commands.run_moments_arg.Goals as goal
 
 pub returns : goal.returns
-returns c = IfOk-weaker c.beside.result _ _ (λ r h. h line.moments c.moments_arg.ensures) c.beside.ensures
+returns c = IfOk-weaker c.beside.result _ _ (λ r h. h line.runs_limit c.runs_limit_arg.ensures) c.beside.ensures

@@ -1,20 +1,17 @@
-use Rattle.std.proofs.Common.{◌<◌, subst, is_some, IfOk, ℕ, List}
+use Rattle.std.proofs.Common.{◌<◌, sym, subst, is_some, IfOk, ℕ, List, Bool}
 use Rattle.std.specs.Borrow.{Bor}
 use Rattle.og_template_outline.specs.declared.meaning.Takes.{Takes}
 use Rattle.og_words.specs.Jobs.{word_bytes}
-use Rattle.og_program.specs.World.{named, world_of}
-use Rattle.og_report_text.specs.Subject.{Subject}
-use Rattle.og_template_outline.specs.Meaning.{Means}
-use Rattle.og_command_prove.specs.declared.form.ReportForm.{ReportForm}
+use Rattle.og_program.specs.World.{world_of}
 use Rattle.og_program.specs.Opened.{One}
-use Rattle.og_program.specs.Commands.{report_form, takes_for, ProvesOutline}
+use Rattle.og_program.specs.Commands.{takes_for, text_form, ProvesOutline, ProvesBy}
 use Rattle.og_program.specs.Given.{IsGiven, MeansNone}
 use Rattle.og_program.proofs.Faults.{wants}
 use Rattle.og_program.proofs.Meanings.{on_result, no_meaning, ok_of, err_of}
 use Rattle.og_program.proofs.program.Program.prove.Goals as goal
 
-pub proved-requires-clause-meaning : goal.proved-requires-clause-meaning
-proved-requires-clause-meaning g c κs within = (ok_of (IsGiven c.takes.result (world_of g.F.Files.contents g.F.Files.is_missing g.I.Read.remaining c.args.self.now c.args.input.now) c.args.prove.now.source.now (word_bytes c.deref.result.now)) c.in_ok-given.field-0 c.in-Ok.given c.in-Ok.is c.in_ok-given.ensures.given).1.0
+pub proved_as_text-requires-clause-meaning : goal.proved_as_text-requires-clause-meaning
+proved_as_text-requires-clause-meaning g c κs within = (ok_of (IsGiven c.takes.result (world_of g.F.Files.contents g.F.Files.is_missing g.I.Read.remaining c.args.self.now c.args.input.now) c.args.prove.now.source.now (word_bytes c.deref.result.now)) c.in_ok-given.field-0 c.in-Ok.given c.in-Ok.is c.in_ok-given.ensures.given).1.0
 
 pub returns-in-Ok-clause-outcome : goal.returns-in-Ok-clause-outcome
 returns-in-Ok-clause-outcome g c =
@@ -22,14 +19,15 @@ returns-in-Ok-clause-outcome g c =
     let prove = c.args.prove.now in
     let name = prove.source.now in
     let runs = is_some prove.runs in
-    on_result (takes_for runs) world name (word_bytes prove.words.items) (ProvesOutline (report_form c.args.prove.now.json) runs) c.in-Ok.given c.proved.result
+    subst (λ (j : Bool). IfOk c.proved_as_text.result (ProvesBy j world prove)) (sym c.if-prove.false)
+    (on_result (takes_for runs) world name (word_bytes prove.words.items) (ProvesOutline (text_form prove.suggest) runs) c.in-Ok.given c.proved_as_text.result
     (subst (λ (t : Takes). IsGiven t world name (word_bytes prove.words.items) c.in-Ok.given) c.takes.ensures
     (subst (λ (v : List (Bor (List ℕ))). IsGiven c.takes.result world name (word_bytes v) c.in-Ok.given) c.deref.ensures.value (ok_of (IsGiven c.takes.result world name (word_bytes c.deref.result.now)) c.in_ok-given.field-0 c.in-Ok.given c.in-Ok.is c.in_ok-given.ensures.given)))
-    (subst (λ (f : ReportForm). IfOk c.proved.result (λ outcome. (s : Subject) × Means c.in-Ok.given.text.items s × ProvesOutline f runs (named name c.in-Ok.given.text.items) s (word_bytes c.in-Ok.given.reading.starts.items) outcome)) c.report_form.ensures c.proved.ensures.outcome)
+    c.proved_as_text.ensures.outcome)
 
 pub returns-in-Ok-clause-fault : goal.returns-in-Ok-clause-fault
 returns-in-Ok-clause-fault g c =
-    wants (One c.args.prove.now.source.now) (1 < c.args.prove.now.workers) (1 < c.args.prove.now.workers) c.proved.result (λ w. w) c.proved.ensures.want
+    wants (One c.args.prove.now.source.now) (1 < c.args.prove.now.workers) (1 < c.args.prove.now.workers) c.proved_as_text.result (λ w. w) c.proved_as_text.ensures.want
 
 pub returns-in-Err-clause-outcome : goal.returns-in-Err-clause-outcome
 returns-in-Err-clause-outcome g c =
@@ -37,6 +35,7 @@ returns-in-Err-clause-outcome g c =
     let prove = c.args.prove.now in
     let name = prove.source.now in
     let runs = is_some prove.runs in
-    no_meaning (takes_for runs) world name (word_bytes prove.words.items) (ProvesOutline (report_form c.args.prove.now.json) runs) c.in-Err.outcome
+    subst (λ (j : Bool). ProvesBy j world prove c.in-Err.outcome) (sym c.if-prove.false)
+    (no_meaning (takes_for runs) world name (word_bytes prove.words.items) (ProvesOutline (text_form prove.suggest) runs) c.in-Err.outcome
     (subst (λ (t : Takes). MeansNone t world name (word_bytes prove.words.items) c.in-Err.outcome) c.takes.ensures
-    (subst (λ (v : List (Bor (List ℕ))). MeansNone c.takes.result world name (word_bytes v) c.in-Err.outcome) c.deref.ensures.value (err_of (MeansNone c.takes.result world name (word_bytes c.deref.result.now)) c.in_ok-given.field-0 c.in-Err.outcome c.in-Err.is c.in_ok-given.ensures.none)))
+    (subst (λ (v : List (Bor (List ℕ))). MeansNone c.takes.result world name (word_bytes v) c.in-Err.outcome) c.deref.ensures.value (err_of (MeansNone c.takes.result world name (word_bytes c.deref.result.now)) c.in_ok-given.field-0 c.in-Err.outcome c.in-Err.is c.in_ok-given.ensures.none))))

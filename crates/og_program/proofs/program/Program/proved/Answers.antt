@@ -5,7 +5,7 @@ use Rattle.og_judge.specs.declared.refusal.Refusal.TheVariants as refusals
 use Rattle.og_report_text.specs.InputErrors.{IsFaultOfCount}
 use Rattle.og_report_text.specs.Subject.{Subject, subject_of}
 use Rattle.og_template_outline.specs.Meaning.{Means}
-use Rattle.og_command_prove.specs.Reply.{IsReply, Warrants}
+use Rattle.og_command_prove.specs.Reply.{IsReply}
 use Rattle.og_words.specs.Jobs.{word_bytes}
 use Rattle.og_program.specs.World.{named}
 use Rattle.og_program.specs.Beside.{Refuses}
@@ -26,7 +26,7 @@ returns-in-Ok-clause-outcome g c =
         reply,
         subst (λ (b : Bool). IsReply form b s (word_bytes c.args.given.now.reading.starts.items) reply) runs
             (subst (λ (v : List (Bor (List ℕ))). IsReply form (is_some c.prover.result.search.runs) s (word_bytes v) reply) c.deref.ensures.value c.in-Ok.ensures.reply),
-        subst (λ (b : Bool). Warrants form b s.outline reply) runs c.in-Ok.ensures.warrants,
+        c.in-Ok.ensures.warrants,
         c.beside_reply.ensures,
       ),
     )

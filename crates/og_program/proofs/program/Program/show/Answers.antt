@@ -1,7 +1,7 @@
 use Rattle.std.proofs.Common.{◌<◌, subst, is_some, ℕ, List}
 use Rattle.std.specs.Borrow.{Bor}
 use Rattle.og_template_outline.specs.declared.meaning.Takes.{Takes}
-use Rattle.og_command_prove.specs.declared.form.ReportForm.TheVariants.{Page}
+use Rattle.og_command_prove.specs.declared.form.ReportForm.TheVariants as reports
 use Rattle.og_words.specs.Jobs.{word_bytes}
 use Rattle.og_program.specs.World.{world_of}
 use Rattle.og_program.specs.Opened.{One}
@@ -20,7 +20,7 @@ returns-in-Ok-clause-outcome g c =
     let show = c.args.show.now in
     let name = show.source.now in
     let runs = is_some show.runs in
-    on_result (takes_for runs) world name (word_bytes show.words.items) (ProvesOutline (Page) runs) c.in-Ok.given c.proved.result
+    on_result (takes_for runs) world name (word_bytes show.words.items) (ProvesOutline (reports.Page show.source) runs) c.in-Ok.given c.proved.result
     (subst (λ (t : Takes). IsGiven t world name (word_bytes show.words.items) c.in-Ok.given) c.takes.ensures
     (subst (λ (v : List (Bor (List ℕ))). IsGiven c.takes.result world name (word_bytes v) c.in-Ok.given) c.deref.ensures.value (ok_of (IsGiven c.takes.result world name (word_bytes c.deref.result.now)) c.in_ok-given.field-0 c.in-Ok.given c.in-Ok.is c.in_ok-given.ensures.given)))
     c.proved.ensures.outcome
@@ -35,6 +35,6 @@ returns-in-Err-clause-outcome g c =
     let show = c.args.show.now in
     let name = show.source.now in
     let runs = is_some show.runs in
-    no_meaning (takes_for runs) world name (word_bytes show.words.items) (ProvesOutline (Page) runs) c.in-Err.outcome
+    no_meaning (takes_for runs) world name (word_bytes show.words.items) (ProvesOutline (reports.Page show.source) runs) c.in-Err.outcome
     (subst (λ (t : Takes). MeansNone t world name (word_bytes show.words.items) c.in-Err.outcome) c.takes.ensures
     (subst (λ (v : List (Bor (List ℕ))). MeansNone c.takes.result world name (word_bytes v) c.in-Err.outcome) c.deref.ensures.value (err_of (MeansNone c.takes.result world name (word_bytes c.deref.result.now)) c.in_ok-given.field-0 c.in-Err.outcome c.in-Err.is c.in_ok-given.ensures.none)))

@@ -1,6 +1,0 @@
-use Rattle.std.proofs.Common.{◌≡◌, ◌++◌, drop}
-use Rattle.og_command_notes.specs.Hidden.{lines_from, hidden_lines}
-use Rattle.og_command_notes.proofs.hidden.put_all_hidden.Given as goal
-
-abbrev pub invariant-loop-at : goal.invariant-loop-at
-invariant-loop-at l = l.text.items ++ lines_from l.source l.inside l.at (drop l.at l.source) ≡ l.initial.text.items ++ hidden_lines l.source

@@ -1,8 +1,0 @@
-use Rattle.std.proofs.Common.{◌≡◌, map, drop}
-use Rattle.std.specs.List.{list_any}
-use Rattle.og_typed.specs.Plain.{simple}
-use Rattle.og_command_notes.specs.Steps.{is_set_by}
-use Rattle.og_command_notes.proofs.steps.is_set_in.Given as goal
-
-abbrev pub invariant-loop-basic : goal.invariant-loop-basic
-invariant-loop-basic l = list_any (is_set_by l.var) (map simple (drop l.basic-index l.body)) ≡ list_any (is_set_by l.var) (map simple l.body)

@@ -1,7 +1,0 @@
-use Rattle.std.proofs.Common.{◌≡◌, drop}
-use Rattle.og_command_notes.specs.Seen.{steps_of}
-use Rattle.og_command_notes.specs.Unused as plain
-use Rattle.og_command_notes.proofs.unused.is_assigned.Given as goal
-
-abbrev pub invariant-loop-step : goal.invariant-loop-step
-invariant-loop-step l = plain.is_assigned (steps_of (drop l.step-index l.steps)) l.var ≡ plain.is_assigned (steps_of l.steps) l.var

@@ -1,7 +1,0 @@
-use Rattle.std.proofs.Common.{◌≡◌, drop}
-use Rattle.og_command_notes.specs.Seen.{points_of}
-use Rattle.og_command_notes.specs.Unused as plain
-use Rattle.og_command_notes.proofs.unused.is_claimed.Given as goal
-
-abbrev pub invariant-loop-point : goal.invariant-loop-point
-invariant-loop-point l = plain.is_claimed (points_of (drop l.point-index l.points)) l.var ≡ plain.is_claimed (points_of l.points) l.var

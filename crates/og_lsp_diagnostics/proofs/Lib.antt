@@ -1,0 +1,2 @@
+mod Groups
+pub mod Standing

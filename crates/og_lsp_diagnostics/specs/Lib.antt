@@ -1,0 +1,4 @@
+pub mod Extents
+pub mod Refusals
+pub mod Remarked
+pub mod Said

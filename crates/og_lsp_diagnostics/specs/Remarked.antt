@@ -1,0 +1,22 @@
+-- What is said of what an outline claims of no run.
+use Rattle.std.specs.Prelude.{◌≡◌, ℕ, List, [], codes}
+use Rattle.std.specs.List.{AllZip}
+use Rattle.og_typed.specs.Syntax.{Program}
+use Rattle.og_command_notes.specs.Remarks.{AreRemarks}
+use Rattle.og_command_notes.specs.declared.remarking.Remark.{Remark}
+use Rattle.og_report_text.specs.Origins.{Rows}
+use Rattle.og_lsp_diagnostics.specs.Extents.{part_span, place_in}
+use Rattle.og_lsp_diagnostics.specs.declared.diagnostic.Diagnostic.{Diagnostic}
+use Rattle.og_lsp_diagnostics.specs.declared.diagnostic.Severity.TheVariants as severities
+
+-- an information at its part, in its words
+pub record IsOfRemark (text : List ℕ) (rows : Rows) (r : Remark) (d : Diagnostic) : Type 0 where
+  pub span : d.span ≡ part_span text (place_in rows r.at)
+  pub severity : d.severity ≡ severities.Information
+  pub code : d.code.items ≡ codes "notes"
+  pub message : d.message.items ≡ r.text.items
+  pub related : d.related.items ≡ []
+
+-- one of each remark on the outline
+abbrev pub AreOfRemarks : List ℕ → Rows → Program → List Diagnostic → Type 0
+AreOfRemarks text rows o ds = (remarks : List Remark) × AreRemarks o remarks × AllZip (IsOfRemark text rows) remarks ds

@@ -1,0 +1,4 @@
+mod Counting
+mod Given
+mod Stepped
+mod Verdicts

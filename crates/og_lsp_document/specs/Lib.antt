@@ -1,0 +1,5 @@
+pub mod Faults
+pub mod Hovers
+pub mod Judged
+pub mod Parts
+pub mod Stepping

@@ -1,0 +1,4 @@
+pub mod Refusals
+pub mod Renames
+pub mod Texts
+pub mod Values

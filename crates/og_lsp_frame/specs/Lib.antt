@@ -1,0 +1,5 @@
+pub mod Errors
+pub mod Front
+pub mod Headers
+pub mod Read
+pub mod Writes

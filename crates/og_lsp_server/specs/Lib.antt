@@ -1,0 +1,6 @@
+pub mod Ends
+pub mod Methods
+pub mod Output
+pub mod Replies
+pub mod Said
+pub mod Texts

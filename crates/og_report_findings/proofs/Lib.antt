@@ -1,0 +1,17 @@
+pub mod Bounded
+pub mod Hinted
+pub mod Blocks
+pub mod Counts
+pub mod Ends
+pub mod Exact
+pub mod Filtered
+pub mod Floats
+pub mod Groups
+pub mod Keys
+pub mod Lines
+pub mod Ordered
+pub mod Pushes
+pub mod Says
+pub mod Sorted
+pub mod Suggestions
+pub mod Told

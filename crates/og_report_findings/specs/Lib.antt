@@ -1,0 +1,14 @@
+pub mod Bounds
+pub mod Hints
+pub mod Alike
+pub mod Causes
+pub mod Entries
+pub mod Exact
+pub mod Json
+pub mod Order
+pub mod Refused
+pub mod Report
+pub mod Says
+pub mod Suggested
+pub mod Told
+pub mod Verdicts

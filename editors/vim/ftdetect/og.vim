@@ -1,0 +1,2 @@
+" Outlines and templates of og.
+autocmd BufRead,BufNewFile *.og,*.ogt setfiletype og
