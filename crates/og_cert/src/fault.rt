@@ -127,7 +127,7 @@ impl<T: Drop> From<AllocFailed<T>> for ReplayError {
 }
 
 /// Why a single check has no answer.
-#[derive(Clone, Copy, Debug, PartialEq, Eq)]
+#[derive(Clone, Copy, PartialEq, Eq)]
 pub(crate) enum CheckError {
     Memory,
     Fault(FaultKind),

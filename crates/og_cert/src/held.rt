@@ -12,7 +12,7 @@ use og_linear::Form;
 use std::alloc::{AllocError, Global};
 
 /// A fact that is held.
-#[derive(Debug, Drop)]
+#[derive(Drop)]
 pub(crate) enum Held<'a, 'c> {
     /// A fact of the condition, or of a part of one.
     Given(&'a Fact<'c>),

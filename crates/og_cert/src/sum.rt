@@ -17,7 +17,7 @@ use std::alloc::Global;
 use std::marker::Model;
 
 /// A sum of multiples of inequalities. Contracts see the form.
-#[derive(Debug, Drop)]
+#[derive(Drop)]
 pub(crate) struct Sum {
     terms: Vec<(u32, i128)>,
     constant: i128,

@@ -14,7 +14,7 @@ pub enum Source {
 }
 
 /// A multiple of a fact or a bound.
-#[derive(Clone, Copy, Debug, PartialEq, Eq)]
+#[derive(Clone, Copy, PartialEq, Eq)]
 pub struct Term {
     /// The multiplier.
     pub times: u64,
@@ -23,7 +23,7 @@ pub struct Term {
 }
 
 /// A step that adds a fact.
-#[derive(Debug, Drop)]
+#[derive(Drop)]
 pub enum CertStep {
     /// The sum of these multiples.
     Sum(Vec<Term>),
@@ -33,7 +33,7 @@ pub enum CertStep {
 
 /// A tree of steps that refutes a list of facts.
 #[cycle(cert)]
-#[derive(Debug, Drop)]
+#[derive(Drop)]
 pub struct Cert {
     /// The steps, each of which adds a fact.
     pub steps: Vec<CertStep>,
@@ -43,7 +43,7 @@ pub struct Cert {
 
 /// How a certificate ends.
 #[cycle(cert)]
-#[derive(Debug, Drop)]
+#[derive(Drop)]
 pub enum Finish {
     /// The sum of these multiples is a constant above 0.
     Close(Vec<Term>),

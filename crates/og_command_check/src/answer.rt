@@ -23,7 +23,7 @@ use std::sync::Wait;
 use std::thread::Threads;
 
 /// The report of a check.
-#[derive(Debug, Drop)]
+#[derive(Drop)]
 pub struct CheckReply {
     /// The report, and the status.
     pub answer: Answer,

@@ -24,7 +24,7 @@ use std::sync::Wait;
 use std::thread::Threads;
 
 /// How a check is made and reported.
-#[derive(Clone, Copy, Debug, PartialEq, Eq)]
+#[derive(Clone, Copy, PartialEq, Eq)]
 pub struct Options {
     /// How many workers draw conditions.
     pub workers: Workers,

@@ -31,7 +31,7 @@ use std::sync::Wait;
 use std::thread::Threads;
 
 /// The text of certificates.
-#[derive(Debug, Drop)]
+#[derive(Drop)]
 pub enum CertificateText {
     /// In version 1, written as it is made.
     First(Certificates),
@@ -56,7 +56,7 @@ impl CertificateText {
 
 /// Certificates of the conditions of an outline, as searches found them. Nothing of them is written
 /// yet.
-#[derive(Debug, Drop)]
+#[derive(Drop)]
 pub struct FoundCertificates {
     /// Their text.
     pub text: CertificateText,
@@ -92,7 +92,7 @@ impl FoundCertificates {
 }
 
 /// A text of certificates that would have more bytes than it may have.
-#[derive(Clone, Copy, Debug, PartialEq, Eq)]
+#[derive(Clone, Copy, PartialEq, Eq)]
 pub struct LongText {
     /// How many bytes it may have.
     pub limit: usize,
@@ -101,7 +101,7 @@ pub struct LongText {
 }
 
 /// The certificates of a source that searches find.
-#[derive(Debug, Drop)]
+#[derive(Drop)]
 pub enum FindReply {
     /// Those that were found.
     Found(FoundCertificates),
@@ -110,7 +110,7 @@ pub enum FindReply {
 }
 
 /// Which certificates are wanted, and how they are searched.
-#[derive(Clone, Copy, Debug, PartialEq, Eq)]
+#[derive(Clone, Copy, PartialEq, Eq)]
 pub struct Wanted {
     /// The budget of each search, as in `og_find::find`.
     pub budget: Budget,

@@ -22,7 +22,7 @@ use std::sync::Wait;
 use std::thread::Threads;
 
 /// What comes of exploring a program.
-#[derive(Debug, Drop)]
+#[derive(Drop)]
 pub enum Reply<'a> {
     /// The printed text, and the status.
     Answer(Answer),

@@ -14,7 +14,7 @@ use og_violation::Violation;
 use std::alloc::{AllocError, Global};
 
 /// The report, and whether nothing else was found.
-#[derive(Debug, Drop)]
+#[derive(Drop)]
 pub(crate) struct Reported<'a> {
     pub(crate) findings: Vec<Finding<'a>>,
     pub(crate) complete: bool,

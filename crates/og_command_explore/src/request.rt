@@ -3,7 +3,7 @@
 use og_io::Workers;
 
 /// How a program is explored, and how that is reported.
-#[derive(Clone, Copy, Debug)]
+#[derive(Clone, Copy)]
 pub struct Request {
     /// How many moments are met at most.
     pub limit: u32,

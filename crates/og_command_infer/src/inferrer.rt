@@ -10,7 +10,7 @@ use og_report_text::Answer;
 use std::alloc::Global;
 
 /// How the missing conjuncts are searched.
-#[derive(Clone, Copy, Debug, PartialEq, Eq)]
+#[derive(Clone, Copy, PartialEq, Eq)]
 pub struct Effort {
     /// The budget of each search that proves a condition of what is printed, as in
     /// `og_find::examine`.
@@ -40,7 +40,7 @@ pub struct Inferrer<'r, G, H> {
 }
 
 /// How much was added to an outline.
-#[derive(Clone, Copy, Debug, Drop, PartialEq, Eq)]
+#[derive(Clone, Copy, Drop, PartialEq, Eq)]
 pub struct Added {
     /// How many auxiliary variables.
     pub auxiliaries: u32,
@@ -76,7 +76,7 @@ impl Added {
 }
 
 /// A completed outline.
-#[derive(Debug, Drop)]
+#[derive(Drop)]
 pub struct Inferred {
     /// Its text.
     pub text: Vec<u8>,
@@ -89,7 +89,7 @@ pub struct Inferred {
 }
 
 /// The result of an inference with words.
-#[derive(Debug, Drop)]
+#[derive(Drop)]
 pub enum Reply<'a> {
     /// A completed outline.
     Inferred(Inferred),

@@ -19,6 +19,7 @@ use og_judge::Refusal;
 use og_pool::Gate;
 use og_report_text::Subject;
 use og_typed::{Outline, Source, SourceError};
+use std::alloc::{AllocError, Global};
 use std::sync::Wait;
 use std::thread::Threads;
 
@@ -62,6 +63,16 @@ struct Planned {
     found: Found,
 }
 
+// The text of the outline with these marks, where they can be made.
+fn marked_text(
+    alloc: Global,
+    original: &Original<'_, '_>,
+    marks: &Marks,
+) -> Result<Option<Vec<u8>>, AllocError> {
+    let edits = marks.edits(alloc, original.text, original.places)?;
+    edited(alloc, original.text, &edits)
+}
+
 impl<'r, G: Gate, H: Threads + Wait + Sync> Inferrer<'r, G, H> {
     // What a search finds of a changed outline, by the places of the original one.
     fn found_changed(
@@ -91,6 +102,23 @@ impl<'r, G: Gate, H: Threads + Wait + Sync> Inferrer<'r, G, H> {
         })
     }
 
+    // What it finds of the outline of a changed text.
+    fn found_in(
+        &self,
+        original: &Original<'_, '_>,
+        text: &[u8],
+        reach: Reach,
+    ) -> Result<Found, Refusal>
+        ensures refused { IfErr result (OnInput (λ _. ⊥)) }
+        ensures spawn { IfErr result (λ e. e ≡ refusals.Spawn → 1 < self.now.effort.workers) }
+    {
+        match Source::read(self.alloc, text) {
+            Ok(source) => self.found_changed(original, source.outline(), reach),
+            Err(SourceError::Memory) => Err(Refusal::Memory),
+            Err(SourceError::Fault(_)) => Ok(not_found(self.alloc)),
+        }
+    }
+
     // What it finds of the outline with these marks.
     fn found_marked(
         &self,
@@ -101,14 +129,9 @@ impl<'r, G: Gate, H: Threads + Wait + Sync> Inferrer<'r, G, H> {
         ensures refused { IfErr result (OnInput (λ _. ⊥)) }
         ensures spawn { IfErr result (λ e. e ≡ refusals.Spawn → 1 < self.now.effort.workers) }
     {
-        let edits = marks.edits(self.alloc, original.text, original.places)?;
-        let Some(text) = edited(self.alloc, original.text, &edits)? else {
-            return Ok(not_found(self.alloc));
-        };
-        match Source::read(self.alloc, &text) {
-            Ok(source) => self.found_changed(original, source.outline(), reach),
-            Err(SourceError::Memory) => Err(Refusal::Memory),
-            Err(SourceError::Fault(_)) => Ok(not_found(self.alloc)),
+        match marked_text(self.alloc, original, marks)? {
+            Some(text) => self.found_in(original, &text, reach),
+            None => Ok(not_found(self.alloc)),
         }
     }
 
@@ -280,6 +303,53 @@ impl<'r, G: Gate, H: Threads + Wait + Sync> Inferrer<'r, G, H> {
         Ok(Planned { marks, found })
     }
 
+    // The plan of a draft, as simple as one is found.
+    fn simplified(&self, original: &Original<'_, '_>, draft: &mut Draft) -> Result<Plan, Refusal>
+        ensures refused { IfErr result (OnInput (λ _. ⊥)) }
+        ensures spawn { IfErr result (λ e. e ≡ refusals.Spawn → 1 < self.now.effort.workers) }
+    {
+        let groups = alike(self.alloc, original.places, original.actions)?;
+        self.simplify_all(original, draft, &groups)?;
+        Ok(draft.plan.renumbered(self.alloc)?)
+    }
+
+    // The same with counters in place of flags, where that suffices too.
+    fn renamed(
+        &self,
+        original: &Original<'_, '_>,
+        draft: &mut Draft,
+        planned: &Planned,
+    ) -> Result<Option<Planned>, Refusal>
+        ensures refused { IfErr result (OnInput (λ _. ⊥)) }
+        ensures spawn { IfErr result (λ e. e ≡ refusals.Spawn → 1 < self.now.effort.workers) }
+    {
+        let Some(plan) = planned.marks.counters(self.alloc, original.actions)? else {
+            return Ok(None);
+        };
+        let renamed = self.finished(original, draft, &plan)?;
+        if draft.is_matched_by(&renamed.found) {
+            Ok(Some(renamed))
+        } else {
+            Ok(None)
+        }
+    }
+
+    // The marks of a draft, as simple as they are found, and the conjuncts.
+    fn planned_by(&self, original: &Original<'_, '_>, draft: &mut Draft) -> Result<Planned, Refusal>
+        ensures refused { IfErr result (OnInput (λ _. ⊥)) }
+        ensures spawn { IfErr result (λ e. e ≡ refusals.Spawn → 1 < self.now.effort.workers) }
+    {
+        let plan = self.simplified(original, draft)?;
+        let planned = self.finished(original, draft, &plan)?;
+        if plan.style == Style::Flags {
+            // One flag of each process is better named as a counter.
+            if let Some(renamed) = self.renamed(original, draft, &planned)? {
+                return Ok(renamed);
+            }
+        }
+        Ok(planned)
+    }
+
     // The marks of a plan that suffices, as simple as one is found, and the conjuncts.
     fn planned(
         &self,
@@ -292,19 +362,7 @@ impl<'r, G: Gate, H: Threads + Wait + Sync> Inferrer<'r, G, H> {
         let Some(mut draft) = self.drafted(original, questions)? else {
             return Ok(None);
         };
-        let groups = alike(self.alloc, original.places, original.actions)?;
-        self.simplify_all(original, &mut draft, &groups)?;
-        let plan = draft.plan.renumbered(self.alloc)?;
-        let planned = self.finished(original, &mut draft, &plan)?;
-        if plan.style == Style::Flags {
-            // One flag of each process is better named as a counter.
-            if let Some(plan) = planned.marks.counters(self.alloc, original.actions)? {
-                let renamed = self.finished(original, &mut draft, &plan)?;
-                if draft.is_matched_by(&renamed.found) {
-                    return Ok(Some(renamed));
-                }
-            }
-        }
+        let planned = self.planned_by(original, &mut draft)?;
         Ok(Some(planned))
     }
 
@@ -331,6 +389,27 @@ impl<'r, G: Gate, H: Threads + Wait + Sync> Inferrer<'r, G, H> {
         self.with_edits(subject, merged(declared, conjuncts)?, added, form)
     }
 
+    // An outline of this subject with auxiliaries and conjuncts, if some are found that prove it.
+    fn invented_in(
+        &self,
+        subject: &Subject<'_>,
+        original: &Original<'_, '_>,
+        form: ReportForm,
+        questions: u64,
+    ) -> Result<Option<Inferred>, Refusal>
+        ensures completed { IfOk result (λ some. IfSome some (IsCompleted form.entry true (subject_of subject.now))) }
+        ensures refused { IfErr result (OnInput (λ _. ⊥)) }
+        ensures spawn { IfErr result (λ e. e ≡ refusals.Spawn → 1 < self.now.effort.workers) }
+    {
+        let Some(planned) = self.planned(original, questions)? else {
+            return Ok(None);
+        };
+        match self.with_marks(subject, original.places, &planned, form)? {
+            Some(inferred) if inferred.report.status == 0 => Ok(Some(inferred)),
+            _ => Ok(None),
+        }
+    }
+
     /// The outline with auxiliaries and with the conjuncts that prove it then, if some are found
     /// with so many questions.
     pub(crate) fn invented(
@@ -352,12 +431,6 @@ impl<'r, G: Gate, H: Threads + Wait + Sync> Inferrer<'r, G, H> {
             actions: &actions,
             given,
         };
-        let Some(planned) = self.planned(&original, questions)? else {
-            return Ok(None);
-        };
-        match self.with_marks(subject, &places, &planned, form)? {
-            Some(inferred) if inferred.report.status == 0 => Ok(Some(inferred)),
-            _ => Ok(None),
-        }
+        self.invented_in(subject, &original, form, questions)
     }
 }

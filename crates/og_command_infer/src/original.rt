@@ -29,6 +29,17 @@ pub(crate) fn not_found(alloc: Global) -> Found {
     }
 }
 
+// Which place has its note here.
+fn index_of(places: &Places, at: u32) -> Option<usize> {
+    let places = places.as_slice();
+    for index in 0..places.len() {
+        if places[index].note.at == at {
+            return Some(index);
+        }
+    }
+    None
+}
+
 /// What is added to notes of a changed outline, as what is added to those of the old one, which are
 /// as many.
 pub(crate) fn moved(
@@ -39,11 +50,10 @@ pub(crate) fn moved(
 ) -> Result<Vec<Addition>, AllocError> {
     let mut moved = Vec::new(alloc);
     for addition in additions {
-        let index = new
-            .as_slice()
-            .iter()
-            .position(|place| place.note.at == addition.at);
-        if let Some(place) = index.and_then(|index| old.as_slice().get(index)) {
+        let Some(index) = index_of(new, addition.at) else {
+            continue;
+        };
+        if let Some(place) = old.as_slice().get(index) {
             moved.push(Addition {
                 at: place.note.at,
                 conjuncts: addition.conjuncts,

@@ -19,14 +19,25 @@ fn are_in_braces(text: &[u8], open: u32, at: u32, end: u32) -> bool
     open < at && at <= end && begins && !inside.contains(&b'}')
 }
 
+// The tokens behind the one that begins at a place.
+fn behind_token(tokens: &[Token], start: u32) -> Option<&[Token]> {
+    for index in 0..tokens.len() {
+        if tokens[index].span.start == start {
+            return tokens.get(index + 1..);
+        }
+    }
+    None
+}
+
 // The tokens of a note, those of its braces left out.
 fn note_tokens(tokens: &[Token], open: u32) -> Option<&[Token]> {
-    let index = tokens.iter().position(|token| token.span.start == open)?;
-    let behind = tokens.get(index + 1..)?;
-    let len = behind
-        .iter()
-        .position(|token| matches!(token.kind, TokenKind::CloseBrace))?;
-    behind.get(..len)
+    let behind = behind_token(tokens, open)?;
+    for len in 0..behind.len() {
+        if matches!(behind[len].kind, TokenKind::CloseBrace) {
+            return behind.get(..len);
+        }
+    }
+    None
 }
 
 // Whether an `or` or an arrow stands in no parentheses: as a conjunct the whole is to stand in some.

@@ -57,6 +57,7 @@ fn json_of(alloc: Global, own: &[u8], inferred: &Inferred) -> Result<Vec<u8>, Al
     let edits = edits_text(alloc, own, &inferred.edits)?;
     let mut text = Vec::from_slice(alloc, b"{\"edits\":")?;
     text.extend_from_slice(&edits)?;
+    drop(edits);
     text.extend_from_slice(b",\"report\":")?;
     text.extend_from_slice(&report[..line])?;
     text.extend_from_slice(b"}\n")?;
@@ -118,13 +119,20 @@ fn put_verdict(text: &mut Vec<u8>, safe: bool, unblocked: bool) -> Result<(), Al
     put_answer(text, b", unblocked: ", unblocked)
 }
 
+fn begins_with_digit(line: &[u8]) -> bool {
+    match line {
+        [byte, ..] => byte.is_ascii_digit(),
+        [] => false,
+    }
+}
+
 // Where the report of this text ends in front of the condition after the last that is shown; a line
 // with which a condition begins has its place, a number, in front.
 fn shown_length(report: &[u8]) -> usize {
     let mut shown = 0u32;
     let mut at = 0usize;
     for line in report.split_inclusive(|byte| *byte == b'\n') {
-        if line.first().is_some_and(|byte| byte.is_ascii_digit()) {
+        if begins_with_digit(line) {
             shown = shown.saturating_add(1);
         }
         if shown > MOST_SHOWN {
@@ -140,9 +148,12 @@ fn says_unblocked(report: &[u8], json: bool) -> bool {
     if json {
         return utf8_text(report).contains("\"unblocked\":true");
     }
-    report
-        .split_inclusive(|byte| *byte == b'\n')
-        .any(|line| line == b"unblocked: yes\n".as_slice())
+    for line in report.split_inclusive(|byte| *byte == b'\n') {
+        if line == b"unblocked: yes\n".as_slice() {
+            return true;
+        }
+    }
+    false
 }
 
 impl Inferred {

@@ -19,7 +19,7 @@ use og_typed::{Assert, Outline, Seq, Stmt};
 use std::alloc::{AllocError, Global};
 
 /// What may be so of no run.
-#[derive(Clone, Copy, Debug, PartialEq, Eq)]
+#[derive(Clone, Copy, PartialEq, Eq)]
 pub(crate) enum Asked {
     /// The precondition is true.
     Precondition,
@@ -41,7 +41,7 @@ pub(crate) enum Asked {
 }
 
 /// What is asked, and whether it was found to be so in no state: the facts are never true together.
-#[derive(Debug, Drop)]
+#[derive(Drop)]
 pub(crate) struct Claim<'a> {
     pub(crate) asked: Asked,
     pub(crate) at: u32,

@@ -98,7 +98,7 @@ fn put_claimed(
 }
 
 /// What is known of an outline.
-#[derive(Debug, Drop)]
+#[derive(Drop)]
 struct Findings<'a> {
     walk: Walk<'a>,
     claims: Vec<Claim<'a>>,

@@ -11,7 +11,7 @@ use og_typed::Outline;
 use std::alloc::{AllocError, Global};
 
 /// What is claimed of no run.
-#[derive(Debug, Drop)]
+#[derive(Drop)]
 pub struct Remark {
     /// The byte offset of the assertion or the statement that it is about; of all processes, that of
     /// `cobegin`.

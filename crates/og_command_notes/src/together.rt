@@ -16,7 +16,7 @@ use og_typed::{Assert, Part};
 use std::alloc::AllocError;
 
 /// Places from the first to the last, counted from 0 in text order.
-#[derive(Clone, Copy, Debug, PartialEq, Eq)]
+#[derive(Clone, Copy, PartialEq, Eq)]
 pub(crate) struct Span {
     pub(crate) from: usize,
     pub(crate) to: usize,
@@ -24,7 +24,7 @@ pub(crate) struct Span {
 
 /// Places of one process, and places of another. No state has one of the first together with one
 /// of the second.
-#[derive(Clone, Copy, Debug, PartialEq, Eq)]
+#[derive(Clone, Copy, PartialEq, Eq)]
 pub(crate) struct Block {
     pub(crate) one: u32,
     pub(crate) rows: Span,
@@ -44,7 +44,7 @@ struct Pairs {
 }
 
 /// What is found.
-#[derive(Debug, Drop)]
+#[derive(Drop)]
 pub(crate) struct Together {
     pub(crate) blocks: Vec<Block>,
     /// Whether there are more pairs of places than are compared.

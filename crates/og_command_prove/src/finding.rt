@@ -9,7 +9,7 @@ use og_report_runs::{Explored, Run};
 use std::alloc::{AllocError, Global};
 
 /// What is found of a condition.
-#[derive(Debug, Drop)]
+#[derive(Drop)]
 pub struct Finding<'a> {
     /// The condition.
     pub condition: Condition<'a>,

@@ -1,7 +1,7 @@
 //! The forms in which findings are printed.
 
 /// How the findings on the conditions of an outline are printed.
-#[derive(Clone, Copy, Debug, PartialEq, Eq)]
+#[derive(Clone, Copy, PartialEq, Eq)]
 pub enum ReportForm<'n> {
     /// A text, with the places of the text that was given: an outline, or a template.
     Text,

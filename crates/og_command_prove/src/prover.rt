@@ -4,7 +4,7 @@ use og_io::{Budget, MomentLimit, Workers};
 use std::alloc::Global;
 
 /// How the conditions of an outline are searched.
-#[derive(Clone, Copy, Debug, PartialEq, Eq)]
+#[derive(Clone, Copy, PartialEq, Eq)]
 pub struct Search {
     /// The budget of each search, as in `og_find::examine`.
     pub budget: Budget,

@@ -1,7 +1,7 @@
 //! Why a step of a schedule cannot be made.
 
 /// Why a process has no step.
-#[derive(Clone, Copy, Debug, PartialEq, Eq)]
+#[derive(Clone, Copy, PartialEq, Eq)]
 pub(crate) enum Hindrance {
     /// There is no such process.
     NoProcess,

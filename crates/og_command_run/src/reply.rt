@@ -3,7 +3,7 @@
 use og_report_text::Answer;
 
 /// The report of a run.
-#[derive(Debug, Drop)]
+#[derive(Drop)]
 pub struct Ran {
     /// The printed text, and the status.
     pub answer: Answer,
@@ -13,7 +13,7 @@ pub struct Ran {
 }
 
 /// What comes of running a program.
-#[derive(Debug, Drop)]
+#[derive(Drop)]
 pub enum Reply<'a> {
     /// The report of a run, or why there is none.
     Ran(Ran),

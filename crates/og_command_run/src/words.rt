@@ -10,7 +10,7 @@ use og_typed::Outline;
 use std::alloc::{AllocError, Global};
 
 /// Why words give no values.
-#[derive(Clone, Copy, Debug, Drop, PartialEq, Eq)]
+#[derive(Clone, Copy, Drop, PartialEq, Eq)]
 pub enum WordsError<'a> {
     /// The first word that gives no variable a value.
     Bad(&'a str),

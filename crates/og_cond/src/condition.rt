@@ -5,14 +5,14 @@ use og_subst::Action;
 use og_typed::Assert;
 
 /// An assertion that is true, or false.
-#[derive(Debug, Clone, Copy)]
+#[derive(Clone, Copy)]
 pub enum Part<'a> {
     Yes(&'a Assert),
     No(&'a Assert),
 }
 
 /// What a condition starts from.
-#[derive(Debug, Drop)]
+#[derive(Drop)]
 pub enum Hypothesis<'a> {
     /// This part.
     Is(Part<'a>),
@@ -23,7 +23,7 @@ pub enum Hypothesis<'a> {
 }
 
 /// What a condition claims.
-#[derive(Debug, Clone, Copy)]
+#[derive(Clone, Copy)]
 pub enum Goal<'a> {
     /// The assertion, after the action if there is one.
     Holds(&'a Assert),
@@ -34,7 +34,7 @@ pub enum Goal<'a> {
 }
 
 /// In each state of `i64` values in which the hypotheses are true, the goal is true.
-#[derive(Debug, Drop)]
+#[derive(Drop)]
 pub struct Condition<'a> {
     pub kind: Kind,
     /// The byte offset of the part asked about.

@@ -4,7 +4,7 @@ use crate::watched::Side;
 use og_typed::Outline;
 
 /// Which group comes next.
-#[derive(Clone, Copy, Debug)]
+#[derive(Clone, Copy)]
 pub(crate) enum Next {
     /// The conditions before interference.
     First,
@@ -16,7 +16,7 @@ pub(crate) enum Next {
 
 /// The conditions of an outline in the order of their numbers, in groups that are made one after
 /// the other: so no more than one group is in memory.
-#[derive(Debug, Drop)]
+#[derive(Drop)]
 pub struct Groups<'a> {
     pub(crate) outline: &'a Outline,
     pub(crate) sides: Vec<Side<'a>>,

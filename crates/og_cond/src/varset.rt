@@ -6,7 +6,7 @@ ghost use Rattle.std.specs.Prelude.{◌≡◌, ℕ, ◌==◌, ◌||◌, ◌&&◌
 const VARIABLE_LIMIT: u32 = 256;
 
 /// A set of variables below 256, one bit each.
-#[derive(Clone, Copy, Debug)]
+#[derive(Clone, Copy)]
 pub(crate) struct VarSet {
     words: [u64; 4],
     ghost full: { length words ≡ 4 },

@@ -10,7 +10,7 @@ use og_subst::Action;
 use og_typed::{Assert, Note};
 
 /// An action with the variables that it assigns.
-#[derive(Debug, Drop)]
+#[derive(Drop)]
 pub(crate) struct Move<'a> {
     pub(crate) at: u32,
     pub(crate) before: &'a Assert,
@@ -21,7 +21,7 @@ pub(crate) struct Move<'a> {
 }
 
 /// An assertion with the variables that occur in it.
-#[derive(Debug, Drop)]
+#[derive(Drop)]
 pub(crate) struct Watched<'a> {
     pub(crate) note: &'a Note,
     pub(crate) variables: VarSet,
@@ -30,7 +30,7 @@ pub(crate) struct Watched<'a> {
 
 /// What matters of a process for interference: its actions, and the assertions that the others may
 /// break.
-#[derive(Debug, Drop)]
+#[derive(Drop)]
 pub(crate) struct Side<'a> {
     pub(crate) moves: Vec<Move<'a>>,
     pub(crate) notes: Vec<Watched<'a>>,

@@ -17,7 +17,7 @@ use std::alloc::{AllocError, Global};
 use std::marker::Model;
 
 /// An outline without auxiliary variables. Contracts see it as that outline.
-#[derive(Debug, Drop)]
+#[derive(Drop)]
 pub struct Program {
     pub(crate) outline: Outline,
 }

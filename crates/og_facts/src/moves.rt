@@ -11,7 +11,7 @@ use og_subst::Action;
 use std::marker::Model;
 
 /// The map of an action, or of none. Contracts see the map.
-#[derive(Debug, Drop)]
+#[derive(Drop)]
 pub(crate) struct Moves<'m, 'c> {
     map: &'m Map,
     action: Option<Action<'c>>,

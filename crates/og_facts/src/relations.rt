@@ -17,7 +17,7 @@ use og_linear::{Form, FormError};
 use std::alloc::{AllocError, Global};
 
 /// The claim about a form.
-#[derive(Clone, Copy, Debug)]
+#[derive(Clone, Copy)]
 pub(crate) enum Relation {
     /// It is at most 0.
     AtMost,
@@ -30,7 +30,7 @@ pub(crate) enum Relation {
 }
 
 /// A form of which something is said.
-#[derive(Clone, Copy, Debug)]
+#[derive(Clone, Copy)]
 pub(crate) enum Subject<'f, 'a> {
     /// The facts may borrow it.
     Lent(&'a Form),

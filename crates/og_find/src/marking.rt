@@ -9,7 +9,7 @@ use std::alloc::{AllocError, Global};
 
 /// Two marks of a condition, made of its parts without its facts. Conditions in which that
 /// differs have the same mark only by a chance of the hash.
-#[derive(Debug, Clone, Copy, PartialEq, Eq)]
+#[derive(Clone, Copy, PartialEq, Eq)]
 pub struct Marks {
     /// Of its hypotheses, its goal, and the values that its action gives to the variables of the
     /// goal: where these are the same, the facts are equal.

@@ -4,7 +4,7 @@ use og_cert::Cert;
 use og_linear::State;
 
 /// The verdict of a search on the condition.
-#[derive(Debug, Drop)]
+#[derive(Drop)]
 pub enum Verdict {
     /// The condition is true: the certificate closes its facts.
     True(Cert),
@@ -15,7 +15,7 @@ pub enum Verdict {
 }
 
 /// The verdict on a condition after the certificate of another one, its leader.
-#[derive(Debug, Drop)]
+#[derive(Drop)]
 pub enum Followed {
     /// It is true: the leader's certificate closes its facts too.
     Shares,

@@ -11,7 +11,7 @@ use og_find::Verdict;
 use std::alloc::{AllocError, Global};
 
 /// A verdict on each condition of a list. Conditions with equal facts share one.
-#[derive(Debug, Drop)]
+#[derive(Drop)]
 pub struct Findings {
     // The place of each condition's verdict.
     pub(crate) places: Vec<usize>,

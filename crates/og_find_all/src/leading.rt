@@ -10,7 +10,7 @@ use std::collections::BTreeMap;
 
 /// A condition for which the certificate of the leader of its shape is tried, or one that is alone
 /// in its shape and has no leader.
-#[derive(Debug, Clone, Copy)]
+#[derive(Clone, Copy)]
 pub(crate) struct Follower {
     /// The index of the condition.
     pub(crate) index: usize,
@@ -21,7 +21,7 @@ pub(crate) struct Follower {
 }
 
 /// A condition that is looked at after the leader of its shape, or one that is alone in its shape.
-#[derive(Debug, Clone, Copy)]
+#[derive(Clone, Copy)]
 pub(crate) struct Waiting {
     /// The index of the condition.
     pub(crate) index: usize,
@@ -45,7 +45,7 @@ pub(crate) struct Shapes {
 }
 
 /// The part of a group.
-#[derive(Debug, Clone, Copy)]
+#[derive(Clone, Copy)]
 enum Part {
     /// It leads its kind.
     Leads,
@@ -132,7 +132,7 @@ impl Shapes {
 }
 
 // A shape that groups have, or a kind that leaders of shapes are of.
-#[derive(Debug, Clone, Copy)]
+#[derive(Clone, Copy)]
 struct Shape {
     // How many groups have it.
     groups: usize,

@@ -28,7 +28,7 @@ use std::thread::Threads;
 
 /// Certificates that searches found for conditions. Contracts see them as their text in version 1,
 /// of which no more is made than is written at a time; lines that conditions share are kept once.
-#[derive(Debug, Drop)]
+#[derive(Drop)]
 pub struct Certificates {
     findings: Findings,
     // The lines of the certificate of the verdict at each place.
@@ -48,7 +48,7 @@ impl Model for Certificates {
 }
 
 /// The certificates of conditions, and how many conditions have none.
-#[derive(Debug, Drop)]
+#[derive(Drop)]
 pub struct Written {
     /// The certificates, of which nothing is written yet.
     pub certificates: Certificates,

@@ -15,7 +15,7 @@ const MOST_PROCESSES: u32 = 32;
 const MOST_IMAGES: usize = 64;
 
 /// A piece of the program of a process, without its assertions: a name, or anything else.
-#[derive(Clone, Copy, Debug, PartialEq, Eq)]
+#[derive(Clone, Copy, PartialEq, Eq)]
 enum Word {
     Name(u32),
     Number(i64),

@@ -3,7 +3,7 @@
 use og_typed::Assert;
 
 /// How far a search goes. It counts questions and steps, never seconds.
-#[derive(Clone, Copy, Debug)]
+#[derive(Clone, Copy)]
 pub struct Limits {
     /// The steps of each question, as of `og_find::examine`: 20,000 are usual.
     pub budget: u64,
@@ -16,7 +16,7 @@ pub struct Limits {
 }
 
 /// What a search is to hand out.
-#[derive(Clone, Copy, Debug, PartialEq, Eq)]
+#[derive(Clone, Copy, PartialEq, Eq)]
 pub enum Wanted {
     /// The conjuncts.
     Conjuncts,
@@ -25,7 +25,7 @@ pub enum Wanted {
 }
 
 /// What is added to one assertion.
-#[derive(Debug, Drop)]
+#[derive(Drop)]
 pub struct Addition {
     /// The byte offset of the `{` of the assertion.
     pub at: u32,
@@ -37,7 +37,7 @@ pub struct Addition {
 }
 
 /// What a search found.
-#[derive(Debug, Drop)]
+#[derive(Drop)]
 pub struct Inferred {
     /// What is added, by rising offsets. There is none where nothing is needed, or nothing helps.
     pub additions: Vec<Addition>,

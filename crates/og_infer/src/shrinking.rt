@@ -45,7 +45,7 @@ pub(crate) struct Shrinking<'a, 'o> {
 }
 
 /// Which candidates are left out together.
-#[derive(Clone, Copy, Debug, PartialEq, Eq)]
+#[derive(Clone, Copy, PartialEq, Eq)]
 enum Together {
     /// Equal ones at all places, and their images.
     Everywhere,

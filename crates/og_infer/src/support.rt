@@ -9,7 +9,7 @@ use std::alloc::{AllocError, Global};
 const MOST_ALONE: usize = 4;
 
 /// What is to be proved: that an obligation gives a candidate, or what it claims.
-#[derive(Clone, Copy, Debug)]
+#[derive(Clone, Copy)]
 pub(crate) struct Owed {
     /// Which obligation.
     pub(crate) obligation: usize,

@@ -77,13 +77,21 @@ impl Bits {
 
     /// Whether each number is in the other set too.
     pub(crate) fn is_within(&self, other: &Bits) -> bool {
-        let mut pairs = self.words.iter().zip(&other.words);
-        pairs.all(|(word, all)| *word & !*all == 0)
+        for (word, all) in self.words.iter().zip(&other.words) {
+            if *word & !*all != 0 {
+                return false;
+            }
+        }
+        true
     }
 
     /// Whether the sets have a number in common.
     pub(crate) fn meets(&self, other: &Bits) -> bool {
-        let mut pairs = self.words.iter().zip(&other.words);
-        pairs.any(|(word, all)| *word & *all != 0)
+        for (word, all) in self.words.iter().zip(&other.words) {
+            if *word & *all != 0 {
+                return true;
+            }
+        }
+        false
     }
 }

@@ -85,6 +85,26 @@ fn cost_of_clause(universe: &Universe, clause: &[u32]) -> u32 {
     cost.saturating_sub(2)
 }
 
+// Whether a literal of the clause is true of the values, whose mask is given.
+fn is_clause_true(universe: &Universe, clause: &[u32], values: &[i64], mask: &Bits) -> bool {
+    for literal in clause {
+        if universe.is_true(*literal, values, mask) {
+            return true;
+        }
+    }
+    false
+}
+
+// Whether the variable occurs in the clause.
+fn clause_mentions(universe: &Universe, clause: &[u32], variable: u32) -> bool {
+    for literal in clause {
+        if mentions(universe.literals.terms(*literal), variable) {
+            return true;
+        }
+    }
+    false
+}
+
 // Whether the two are equal.
 fn are_same(first: &Inequality, second: &Inequality) -> bool {
     first.constant == second.constant && first.is_parallel(second)
@@ -257,9 +277,7 @@ impl Candidate {
         match self {
             Candidate::False => false,
             Candidate::Equation(equation) => value_at(equation, values) == Some(0),
-            Candidate::Clause(clause) => clause
-                .iter()
-                .any(|literal| universe.is_true(*literal, values, mask)),
+            Candidate::Clause(clause) => is_clause_true(universe, clause, values, mask),
             Candidate::Under { literal, equation } => {
                 !mask.has(*literal) || value_at(equation, values) == Some(0)
             }
@@ -272,9 +290,7 @@ impl Candidate {
         match self {
             Candidate::False => false,
             Candidate::Equation(equation) => mentions(&equation.terms, variable),
-            Candidate::Clause(clause) => clause
-                .iter()
-                .any(|literal| mentions(literals.terms(*literal), variable)),
+            Candidate::Clause(clause) => clause_mentions(universe, clause, variable),
             Candidate::Under { literal, equation } => {
                 mentions(literals.terms(*literal), variable) || mentions(&equation.terms, variable)
             }

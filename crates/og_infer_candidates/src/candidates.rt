@@ -62,7 +62,34 @@ fn all_extents(alloc: Global, sums: &[Sum]) -> Result<Vec<Extent>, AllocError> {
 
 // Whether one of the literals is in the set.
 fn any_of(literals: &[u32], mask: &Bits) -> bool {
-    literals.iter().any(|literal| mask.has(*literal))
+    for literal in literals {
+        if mask.has(*literal) {
+            return true;
+        }
+    }
+    false
+}
+
+// Whether each of the literals is one of these.
+fn are_among(literals: &[u32], clause: &[u32]) -> bool {
+    for literal in literals {
+        if !clause.contains(literal) {
+            return false;
+        }
+    }
+    true
+}
+
+// How many of the bounds, which rise, are below the value.
+fn count_below(bounds: &[i64], value: i128) -> usize {
+    let mut count = 0usize;
+    for bound in bounds {
+        if i128::from(*bound) >= value {
+            break;
+        }
+        count = count.saturating_add(1);
+    }
+    count
 }
 
 impl Extent {
@@ -72,11 +99,7 @@ impl Extent {
             Some(bound) => value <= i128::from(*bound),
             None => true,
         };
-        let last = self
-            .below
-            .checked_sub(1)
-            .and_then(|last| sum.bounds.get(last));
-        let is_above = match last {
+        let is_above = match sum.bounds.get(self.below.wrapping_sub(1)) {
             Some(bound) => i128::from(*bound) <= value,
             None => true,
         };
@@ -88,12 +111,8 @@ impl Extent {
         if self.has(sum, value) {
             return self;
         }
-        let least = sum
-            .bounds
-            .partition_point(|bound| i128::from(*bound) < value);
-        let most = sum
-            .bounds
-            .partition_point(|bound| i128::from(*bound) <= value);
+        let least = count_below(&sum.bounds, value);
+        let most = count_below(&sum.bounds, value.saturating_add(1));
         Extent {
             above: self.above.max(least),
             below: self.below.min(most),
@@ -135,20 +154,37 @@ impl Candidates {
         states: &[Vec<i64>],
     ) -> Result<Candidates, AllocError> {
         let mut candidates = Candidates::new(alloc, universe)?;
-        let mut masks = Vec::new(alloc);
+        let masks = candidates.admit_all(universe, states)?;
+        candidates.make_triples(universe, &masks)?;
+        Ok(candidates)
+    }
+
+    // Weakens the candidates by these states. Gives their masks.
+    fn admit_all(
+        &mut self,
+        universe: &Universe,
+        states: &[Vec<i64>],
+    ) -> Result<Vec<Bits>, AllocError> {
+        let mut masks = Vec::new(self.alloc);
         for values in states {
-            let mask = universe.mask(alloc, values)?;
-            let _ = candidates.admit(universe, values, &mask)?;
+            let mask = universe.mask(self.alloc, values)?;
+            let _ = self.admit(universe, values, &mask)?;
             masks.push(mask)?;
         }
+        Ok(masks)
+    }
+
+    // Makes the clauses of three literals that are true of the states with these masks, if there
+    // may be some.
+    fn make_triples(&mut self, universe: &Universe, masks: &[Bits]) -> Result<(), AllocError> {
         if universe.most_triples() > 0 {
             let ground = Ground {
                 universe,
-                pairs: &candidates.pairs,
+                pairs: &self.pairs,
             };
-            candidates.triples = ground.triples(alloc, &masks)?;
+            self.triples = ground.triples(self.alloc, masks)?;
         }
-        Ok(candidates)
+        Ok(())
     }
 
     /// How often they changed.
@@ -261,8 +297,22 @@ impl Candidates {
 
     // Whether no clause of two literals is false.
     fn admits_pairs(&self, universe: &Universe, mask: &Bits) -> bool {
-        let mut rows = (0..universe.literals.clausal).zip(&self.pairs);
-        rows.all(|(literal, row)| mask.has(literal) || row.is_within(mask))
+        for (literal, row) in (0..universe.literals.clausal).zip(&self.pairs) {
+            if !mask.has(literal) && !row.is_within(mask) {
+                return false;
+            }
+        }
+        true
+    }
+
+    // Whether no clause of three literals is false.
+    fn admits_triples(&self, mask: &Bits) -> bool {
+        for triple in &self.triples {
+            if !triple.is_true(mask) {
+                return false;
+            }
+        }
+        true
     }
 
     // Whether no bound is exceeded.
@@ -281,21 +331,29 @@ impl Candidates {
     // Whether no clause of the text is false.
     fn admits_texts(&self, universe: &Universe, mask: &Bits) -> bool {
         let texts = &universe.literals.texts;
-        let mut all = (0..count(texts)).zip(texts);
-        all.all(|(number, text)| !self.texts.has(number) || any_of(text, mask))
+        for (number, text) in (0..count(texts)).zip(texts) {
+            if self.texts.has(number) && !any_of(text, mask) {
+                return false;
+            }
+        }
+        true
     }
 
     // Whether the equations under each flag that is true are.
     fn admits_under(&self, universe: &Universe, values: &[i64], mask: &Bits) -> bool {
-        let mut hulls = universe.flags.iter().zip(&self.under);
-        hulls.all(|(flag, hull)| !mask.has(*flag) || hull.admits(values))
+        for (flag, hull) in universe.flags.iter().zip(&self.under) {
+            if mask.has(*flag) && !hull.admits(values) {
+                return false;
+            }
+        }
+        true
     }
 
     /// Whether all candidates are true of the values, whose mask is given.
     pub fn admits(&self, universe: &Universe, values: &[i64], mask: &Bits) -> bool {
         self.hull.admits(values)
             && self.admits_pairs(universe, mask)
-            && self.triples.iter().all(|triple| triple.is_true(mask))
+            && self.admits_triples(mask)
             && self.admits_bounds(universe, values)
             && self.admits_texts(universe, mask)
             && self.admits_under(universe, values, mask)
@@ -324,18 +382,25 @@ impl Candidates {
 
     /// Whether a clause of one or two of these literals was true of all states.
     pub(crate) fn has_part(&self, clause: &[u32]) -> bool {
-        clause.iter().any(|literal| {
-            matches!(self.pairs.get(*literal as usize), Some(row) if any_of(clause, row))
-        })
+        for literal in clause {
+            if let Some(row) = self.pairs.get(*literal as usize) {
+                if any_of(clause, row) {
+                    return true;
+                }
+            }
+        }
+        false
     }
 
     // Whether a clause of the text with no other literals was true of all states.
     fn has_text(&self, universe: &Universe, clause: &[u32]) -> bool {
         let texts = &universe.literals.texts;
-        let mut all = (0..count(texts)).zip(texts);
-        all.any(|(number, text)| {
-            self.texts.has(number) && text.iter().all(|literal| clause.contains(literal))
-        })
+        for (number, text) in (0..count(texts)).zip(texts) {
+            if self.texts.has(number) && are_among(text, clause) {
+                return true;
+            }
+        }
+        false
     }
 
     // Whether it is one of three literals that was true of all states.
@@ -356,6 +421,16 @@ impl Candidates {
         }
     }
 
+    // The equations under this flag.
+    fn hull_under(&self, universe: &Universe, literal: u32) -> Option<&Hull> {
+        for (flag, hull) in universe.flags.iter().zip(&self.under) {
+            if *flag == literal {
+                return Some(hull);
+            }
+        }
+        None
+    }
+
     /// Whether the candidate was true of all states that were admitted, as far as these candidates
     /// say.
     ///
@@ -372,13 +447,10 @@ impl Candidates {
             Candidate::False => Ok(!self.hull.is_begun),
             Candidate::Equation(equation) => self.hull.implies(alloc, equation),
             Candidate::Clause(clause) => Ok(self.has_clause(universe, clause)),
-            Candidate::Under { literal, equation } => {
-                let mut flags = universe.flags.iter().zip(&self.under);
-                match flags.find(|(flag, _)| **flag == *literal) {
-                    Some((_, hull)) => hull.implies(alloc, equation),
-                    None => Ok(false),
-                }
-            }
+            Candidate::Under { literal, equation } => match self.hull_under(universe, *literal) {
+                Some(hull) => hull.implies(alloc, equation),
+                None => Ok(false),
+            },
         }
     }
 }

@@ -30,9 +30,17 @@ pub(crate) fn value_at(form: &Inequality, values: &[i64]) -> Option<i128> {
 }
 
 fn is_large(form: &Inequality) -> bool {
-    let mut terms = form.terms.iter();
+    for term in &form.terms {
+        if term.coefficient.unsigned_abs() > LARGEST {
+            return true;
+        }
+    }
     form.constant.unsigned_abs() > LARGEST
-        || terms.any(|term| term.coefficient.unsigned_abs() > LARGEST)
+}
+
+// Whether something is left of the equation.
+fn has_terms(form: &Inequality) -> bool {
+    !form.terms.is_empty()
 }
 
 /// The same equation without a common divisor, with a first coefficient above 0; none where nothing
@@ -51,17 +59,27 @@ pub(crate) fn tidied(alloc: Global, form: Inequality) -> Result<Option<Inequalit
     Ok(Some(form))
 }
 
+// Whether m times the first term is k times the second one.
+fn are_equal_times(x: Term, m: i128, y: Term, k: i128) -> bool {
+    let product = k.checked_mul(y.coefficient);
+    x.var == y.var && product.is_some() && product == m.checked_mul(x.coefficient)
+}
+
 // Whether the one sum is a multiple of the other.
 fn are_multiples(a: &[Term], b: &[Term]) -> bool {
     let (Some(first), Some(second)) = (a.first(), b.first()) else {
         return false;
     };
     let (m, k) = (second.coefficient, first.coefficient);
-    a.len() == b.len()
-        && a.iter().zip(b).all(|(x, y)| {
-            let product = k.checked_mul(y.coefficient);
-            x.var == y.var && product.is_some() && product == m.checked_mul(x.coefficient)
-        })
+    if a.len() != b.len() {
+        return false;
+    }
+    for i in 0..a.len() {
+        if !are_equal_times(a[i], m, b[i], k) {
+            return false;
+        }
+    }
+    true
 }
 
 // The first one less as much of the second that a number that is m in the first and k in the second
@@ -149,8 +167,12 @@ impl Hull {
 
     /// Whether all equations are true of the values. Without a state nothing is.
     pub(crate) fn admits(&self, values: &[i64]) -> bool {
-        let mut rows = self.rows.iter();
-        self.is_begun && rows.all(|row| value_at(row, values) == Some(0))
+        for row in &self.rows {
+            if value_at(row, values) != Some(0) {
+                return false;
+            }
+        }
+        self.is_begun
     }
 
     // Each variable has its value.
@@ -186,7 +208,7 @@ impl Hull {
         for row in self.rows.iter_mut() {
             missed.mend(alloc, row, values, room)?;
         }
-        self.rows.retain(|row| !row.terms.is_empty());
+        self.rows.retain(has_terms);
         Ok(())
     }
 
@@ -227,20 +249,47 @@ impl Hull {
 
     // Whether an equation says which value the variable has.
     fn fixes(&self, variable: u32) -> bool {
-        self.rows.iter().any(|row| row.terms.len() == 1 && mentions(&row.terms, variable))
+        for row in &self.rows {
+            if row.terms.len() == 1 && mentions(&row.terms, variable) {
+                return true;
+            }
+        }
+        false
+    }
+
+    // Whether the equations say which values the variables of the sum have.
+    fn fixes_all(&self, terms: &[Term]) -> bool {
+        for term in terms {
+            if !self.fixes(term.var) {
+                return false;
+            }
+        }
+        true
+    }
+
+    // Whether one of the equations says something of a multiple of the sum alone.
+    fn says_multiple(&self, terms: &[Term]) -> bool {
+        for row in &self.rows {
+            if are_multiples(&row.terms, terms) {
+                return true;
+            }
+        }
+        false
     }
 
     /// Whether the equations say which value the sum has, or one of them says something of a
     /// multiple of it alone.
     pub(crate) fn says(&self, terms: &[Term]) -> bool {
-        terms.iter().all(|term| self.fixes(term.var))
-            || self.rows.iter().any(|row| are_multiples(&row.terms, terms))
+        self.fixes_all(terms) || self.says_multiple(terms)
     }
 
     /// Whether the variable is the first one of an equation.
     pub(crate) fn leads(&self, variable: u32) -> bool {
-        self.rows.iter().any(
-            |row| matches!(row.terms.first(), Some(first) if first.var == variable),
-        )
+        for row in &self.rows {
+            if matches!(row.terms.first(), Some(first) if first.var == variable) {
+                return true;
+            }
+        }
+        false
     }
 }

@@ -7,13 +7,12 @@ use std::cmp::Ordering;
 
 /// The order of clauses: by their length, and then by their greatest literals.
 pub(crate) fn clause_order(first: &[u32], second: &[u32]) -> Ordering {
-    let length = first.len().cmp(&second.len());
-    if length != Ordering::Equal {
-        return length;
+    if first.len() != second.len() {
+        return first.len().cmp(&second.len());
     }
-    for (a, b) in first.iter().rev().zip(second.iter().rev()) {
-        if a != b {
-            return a.cmp(b);
+    for i in (0..first.len()).rev() {
+        if first[i] != second[i] {
+            return first[i].cmp(&second[i]);
         }
     }
     Ordering::Equal

@@ -2,13 +2,14 @@
 
 use crate::bits::Bits;
 use crate::candidate::Candidate;
-use crate::candidates::Candidates;
+use crate::candidates::{Candidates, Extent};
 use crate::order::clause_order;
 use crate::triples::{Triple, in_order, is_among};
 use crate::universe::Universe;
-use og_infer_literals::Relation;
+use og_infer_literals::{Relation, Sum};
 use og_search_rows::Inequality;
 use std::alloc::{AllocError, Global};
+use std::cmp::Ordering;
 
 /// The greatest coefficient, in magnitude, of an equation that is a candidate.
 const COEFFICIENT_LIMIT: u128 = 1_000;
@@ -24,9 +25,12 @@ const CONSTANT_LIMIT: u128 = 1 << 40;
 
 // Whether no coefficient is beyond the limit, and the constant is no larger than it may be.
 fn fits(form: &Inequality, limit: u128) -> bool {
-    let mut terms = form.terms.iter();
+    for term in &form.terms {
+        if term.coefficient.unsigned_abs() > limit {
+            return false;
+        }
+    }
     form.constant.unsigned_abs() < CONSTANT_LIMIT
-        && terms.all(|term| term.coefficient.unsigned_abs() <= limit)
 }
 
 // Whether a clause with a literal that implies the first one, in its place, is among these, which
@@ -41,9 +45,20 @@ fn is_weaker_triple(
     let Some(sum) = universe.literals.sum(first) else {
         return false;
     };
-    sum.literals.iter().any(|other| {
-        universe.implies(*other, first) && is_among(rising, Triple::of(*other, second, third))
-    })
+    for other in &sum.literals {
+        if universe.implies(*other, first) && is_among(rising, Triple::of(*other, second, third)) {
+            return true;
+        }
+    }
+    false
+}
+
+// Whether that is so for one of its literals.
+fn is_weaker(universe: &Universe, rising: &[Triple], triple: Triple) -> bool {
+    let (a, b, c) = triple.literals();
+    is_weaker_triple(universe, rising, a, b, c)
+        || is_weaker_triple(universe, rising, b, a, c)
+        || is_weaker_triple(universe, rising, c, a, b)
 }
 
 impl Candidates {
@@ -127,14 +142,7 @@ impl Candidates {
     ) -> Result<(), AllocError> {
         for (sum, extent) in universe.literals.sums.iter().zip(&self.extents) {
             if !sum.bounds.is_empty() && !self.hull.says(&sum.terms) {
-                if extent.above < sum.bounds.len() {
-                    let literal = sum.bound_literal(extent.above, Relation::AtMost);
-                    put_single(alloc, literal, clauses)?;
-                }
-                if let Some(place) = extent.below.checked_sub(1) {
-                    let literal = sum.bound_literal(place, Relation::AtLeast);
-                    put_single(alloc, literal, clauses)?;
-                }
+                put_bounds_of(alloc, sum, *extent, clauses)?;
             }
         }
         Ok(())
@@ -198,11 +206,8 @@ impl Candidates {
     ) -> Result<(), AllocError> {
         let rising = in_order(alloc, &self.triples)?;
         for triple in &rising {
-            let (a, b, c) = triple.literals();
-            let is_weaker = is_weaker_triple(universe, &rising, a, b, c)
-                || is_weaker_triple(universe, &rising, b, a, c)
-                || is_weaker_triple(universe, &rising, c, a, b);
-            if !is_weaker {
+            if !is_weaker(universe, &rising, *triple) {
+                let (a, b, c) = triple.literals();
                 clauses.push(vec![in alloc; a, b, c]?)?;
             }
         }
@@ -224,6 +229,15 @@ impl Candidates {
         Ok(())
     }
 
+    // Whether no equation without a flag and no clause says what this one does under a flag, and it
+    // is small enough.
+    fn is_new(&self, universe: &Universe, row: &Inequality) -> bool {
+        let is_led = matches!(row.terms.first(), Some(first) if self.hull.leads(first.var));
+        let is_clause = row.terms.len() == 1 && universe.has_small(&row.terms);
+        let is_short = row.terms.len() <= FLAGGED_TERMS;
+        !is_led && !is_clause && is_short && fits(row, FLAGGED_LIMIT)
+    }
+
     // Adds the equations under a flag that no equation without it and no clause says.
     fn put_rows(
         &self,
@@ -234,10 +248,7 @@ impl Candidates {
     ) -> Result<(), AllocError> {
         let own = universe.literals.terms(literal);
         for row in rows {
-            let is_led = matches!(row.terms.first(), Some(first) if self.hull.leads(first.var));
-            let is_clause = row.terms.len() == 1 && universe.has_small(&row.terms);
-            let is_new = !is_led && !is_clause && row.terms.as_slice() != own;
-            if is_new && row.terms.len() <= FLAGGED_TERMS && fits(row, FLAGGED_LIMIT) {
+            if row.terms.as_slice() != own && self.is_new(universe, row) {
                 let equation = row.copy()?;
                 out.push(Candidate::Under { literal, equation })?;
             }
@@ -262,7 +273,7 @@ impl Candidates {
         self.put_singles(alloc, universe, &singles, &mut clauses)?;
         self.put_bounds(alloc, universe, &mut clauses)?;
         self.put_texts(alloc, universe, &mut clauses)?;
-        clauses.sort_unstable_by(|first, second| clause_order(first, second));
+        clauses.sort_unstable_by(order_of);
         Ok(clauses)
     }
 
@@ -283,12 +294,40 @@ impl Candidates {
             return Ok(out);
         }
         self.put_equations(&mut out)?;
-        for clause in self.clauses(alloc, universe)? {
-            out.push(Candidate::Clause(clause))?;
-        }
+        put_clauses(self.clauses(alloc, universe)?, &mut out)?;
         self.put_under(universe, &mut out)?;
         Ok(out)
     }
+}
+
+// Adds the clauses.
+fn put_clauses(clauses: Vec<Vec<u32>>, out: &mut Vec<Candidate>) -> Result<(), AllocError> {
+    for clause in clauses {
+        out.push(Candidate::Clause(clause))?;
+    }
+    Ok(())
+}
+
+// Adds the tightest bounds of a sum.
+fn put_bounds_of(
+    alloc: Global,
+    sum: &Sum,
+    extent: Extent,
+    clauses: &mut Vec<Vec<u32>>,
+) -> Result<(), AllocError> {
+    if extent.above < sum.bounds.len() {
+        let literal = sum.bound_literal(extent.above, Relation::AtMost);
+        put_single(alloc, literal, clauses)?;
+    }
+    match extent.below.checked_sub(1) {
+        Some(place) => put_single(alloc, sum.bound_literal(place, Relation::AtLeast), clauses),
+        None => Ok(()),
+    }
+}
+
+// The order of two clauses.
+fn order_of(first: &Vec<u32>, second: &Vec<u32>) -> Ordering {
+    clause_order(first, second)
 }
 
 // Adds the clause of a literal, if there is one.

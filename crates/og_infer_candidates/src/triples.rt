@@ -3,12 +3,13 @@
 use crate::bits::Bits;
 use crate::universe::Universe;
 use std::alloc::{AllocError, Global};
+use std::cmp::Ordering;
 
 /// How many states, at most, the clauses are made of; those that others refute go.
 const MOST_STATES: usize = 200;
 
 /// Three literals, rising.
-#[derive(Clone, Copy, Debug, PartialEq, Eq)]
+#[derive(Clone, Copy, PartialEq, Eq)]
 pub(crate) struct Triple {
     low: u32,
     middle: u32,
@@ -29,6 +30,16 @@ impl Triple {
         mask.has(self.low) || mask.has(self.middle) || mask.has(self.high)
     }
 
+    // One of the literals is true in each of these states.
+    fn is_true_of_all(self, states: &[Bits]) -> bool {
+        for mask in states {
+            if !self.is_true(mask) {
+                return false;
+            }
+        }
+        true
+    }
+
     /// The literals, rising.
     pub(crate) fn literals(self) -> (u32, u32, u32) {
         (self.low, self.middle, self.high)
@@ -46,10 +57,15 @@ pub(crate) fn is_among(rising: &[Triple], wanted: Triple) -> bool {
     rising.get(place) == Some(&wanted)
 }
 
+// The order of two of them.
+fn order_of(first: &Triple, second: &Triple) -> Ordering {
+    first.key().cmp(&second.key())
+}
+
 /// The same in rising order.
 pub(crate) fn in_order(alloc: Global, triples: &[Triple]) -> Result<Vec<Triple>, AllocError> {
     let mut rising = Vec::from_slice(alloc, triples)?;
-    rising.sort_unstable_by(|first, second| first.key().cmp(&second.key()));
+    rising.sort_unstable_by(order_of);
     Ok(rising)
 }
 
@@ -136,7 +152,7 @@ impl Ground<'_> {
     pub(crate) fn triples(self, alloc: Global, states: &[Bits]) -> Result<Vec<Triple>, AllocError> {
         let first = states.get(..states.len().min(MOST_STATES)).unwrap_or(&[]);
         let mut triples = self.of_states(alloc, first)?;
-        triples.retain(|triple| states.iter().all(|mask| triple.is_true(mask)));
+        triples.retain(|triple| triple.is_true_of_all(states));
         Ok(triples)
     }
 

@@ -44,6 +44,19 @@ fn allows_several(literals: &Literals, sum: &Sum) -> bool {
     }
 }
 
+impl Relatives {
+    // Notes how another literal of the sum stands to the own one, which may stand in a clause with
+    // other values of the sum where it is one of many.
+    fn relate(&mut self, other: u32, known: Comparison, own: Comparison, is_value: bool) {
+        if !is_value || known.relation != Relation::Equal {
+            self.partners.remove(other);
+        }
+        if known.implies(own) {
+            self.stronger.add(other);
+        }
+    }
+}
+
 // How a literal stands to the others of its sum, where all these may stand in a clause with others.
 fn relatives_of(
     alloc: Global,
@@ -51,23 +64,21 @@ fn relatives_of(
     all: &Bits,
     literal: u32,
 ) -> Result<Relatives, AllocError> {
-    let mut partners = all.copy()?;
-    let mut stronger = Bits::none(alloc, literals.clausal)?;
+    let partners = all.copy()?;
+    let stronger = Bits::none(alloc, literals.clausal)?;
     let (Some(sum), Some(own)) = (literals.sum(literal), literals.comparison(literal)) else {
         return Ok(Relatives { partners, stronger });
     };
     let is_value = own.relation == Relation::Equal && allows_several(literals, sum);
-    for other in sum.literals.iter().filter(|other| **other != literal) {
-        if let Some(known) = literals.comparison(*other) {
-            if !is_value || known.relation != Relation::Equal {
-                partners.remove(*other);
-            }
-            if known.implies(own) {
-                stronger.add(*other);
+    let mut relatives = Relatives { partners, stronger };
+    for other in &sum.literals {
+        if *other != literal {
+            if let Some(known) = literals.comparison(*other) {
+                relatives.relate(*other, known, own, is_value);
             }
         }
     }
-    Ok(Relatives { partners, stronger })
+    Ok(relatives)
 }
 
 // How each literal of clauses stands to the others.
@@ -210,9 +221,12 @@ impl Universe {
 
     /// Whether one of these variables has a few values alone.
     pub(crate) fn has_small(&self, terms: &[Term]) -> bool {
-        let sizes = &self.literals.sizes;
-        terms.iter().any(|term| {
-            matches!(sizes.get(term.var as usize), Some(size) if *size > 1 && *size <= SMALL)
-        })
+        for term in terms {
+            let size = self.literals.sizes.get(term.var as usize);
+            if matches!(size, Some(size) if *size > 1 && *size <= SMALL) {
+                return true;
+            }
+        }
+        false
     }
 }

@@ -70,11 +70,21 @@ fn put_side(
     put_constant(text, constant, is_alone)
 }
 
+// Whether a coefficient is below 0.
+fn has_below(terms: &[Term]) -> bool {
+    for term in terms {
+        if term.coefficient < 0 {
+            return true;
+        }
+    }
+    false
+}
+
 // How a comparison of a sum is written: without minus signs where the other side can take them, and
 // with the lesser side first where it is a bound from below of one variable or of a difference.
 fn layout_of(terms: &[Term], comparison: Comparison) -> Layout {
     let Comparison { relation, bound } = comparison;
-    let has_below = terms.iter().any(|term| term.coefficient < 0);
+    let has_below = has_below(terms);
     match relation {
         Relation::Equal => Layout::Above(b" = ", bound),
         Relation::NotEqual => Layout::Above(b" <> ", bound),
@@ -108,21 +118,41 @@ fn put_comparison(
 
 // Whether the term has another sign than all others.
 fn stands_alone(terms: &[Term], term: Term) -> bool {
-    terms.iter().all(|other| other.var == term.var
-        || (other.coefficient > 0) != (term.coefficient > 0))
+    let is_above = term.coefficient > 0;
+    for other in terms {
+        if other.var != term.var && (other.coefficient > 0) == is_above {
+            return false;
+        }
+    }
+    true
+}
+
+// Whether a variable stands on the other side than those with coefficients above 0, or than the
+// others.
+fn has_other_side(terms: &[Term], is_above: bool) -> bool {
+    for term in terms {
+        if (term.coefficient > 0) != is_above {
+            return true;
+        }
+    }
+    false
 }
 
 // Whether the variables with coefficients above 0 are on the left of the equation, and whether one
 // variable stands alone there: one without a coefficient that has another sign than all others, if
 // there is one.
 fn left_side(terms: &[Term]) -> (bool, bool) {
-    let mut all = terms.iter();
-    let single = all.find(|term| term.coefficient.unsigned_abs() == 1);
-    let mut others = terms.iter();
-    let alone = others.find(|term| term.coefficient.unsigned_abs() == 1
-        && stands_alone(terms, **term));
-    match alone.or(single).or(terms.first()) {
-        Some(term) => (term.coefficient > 0, alone.is_some()),
+    let mut single = None;
+    for term in terms {
+        if term.coefficient.unsigned_abs() == 1 {
+            if stands_alone(terms, *term) {
+                return (term.coefficient > 0, true);
+            }
+            single = single.or(Some(term));
+        }
+    }
+    match single.or(terms.first()) {
+        Some(term) => (term.coefficient > 0, false),
         None => (true, true),
     }
 }
@@ -139,7 +169,7 @@ fn put_equation(
     } else {
         equation.constant
     };
-    let has_right = terms.iter().any(|term| (term.coefficient > 0) != is_above);
+    let has_right = has_other_side(terms, is_above);
     let is_moved = right < 0 && has_right && !is_alone;
     let left = if is_moved { right.wrapping_neg() } else { 0 };
     put_side(text, names, terms, is_above, left)?;

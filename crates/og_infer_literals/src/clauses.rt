@@ -1,6 +1,7 @@
 //! The clauses of a text: those of its tests and guards, of their negations, and of its assertions.
 
 use crate::atom::Atom;
+use crate::room::count;
 use crate::sums::mentions;
 use crate::text::{Assignment, Text};
 use og_infer_places::{Place, Places, Step};
@@ -11,7 +12,7 @@ use std::alloc::{AllocError, Global};
 const MOST_CLAUSES: usize = 300;
 
 /// The most different atoms in them.
-const MOST_ATOMS: usize = 4_000;
+const MOST_ATOMS: u32 = 4_000;
 
 /// The most clauses of a product.
 const MOST_IN_PRODUCT: usize = 8;
@@ -105,17 +106,35 @@ impl Clauses {
         Ok(clauses)
     }
 
-    // The number of an atom; none where there is no room.
-    fn number(&mut self, atom: Atom) -> Result<Option<u32>, AllocError> {
-        let place = self.atoms.iter().position(|known| known.is_same(&atom));
-        let next = self.atoms.len();
-        if place.is_none() {
-            if next >= MOST_ATOMS {
-                return Ok(None);
+    // The number of an atom; none where it has none.
+    fn find(&self, atom: &Atom) -> Option<u32> {
+        for (number, known) in (0..u32::MAX).zip(&self.atoms) {
+            if known.is_same(atom) {
+                return Some(number);
             }
-            self.atoms.push(atom)?;
         }
-        Ok(u32::try_from(place.unwrap_or(next)).ok())
+        None
+    }
+
+    // The number of an atom, which is added where it has none; none where there is no room.
+    fn number(&mut self, atom: Atom) -> Result<Option<u32>, AllocError> {
+        let place = self.find(&atom);
+        let next = count(&self.atoms);
+        if place.is_some() || next >= MOST_ATOMS {
+            return Ok(place);
+        }
+        self.atoms.push(atom)?;
+        Ok(Some(next))
+    }
+
+    // Whether the clause is among those so far.
+    fn has(&self, clause: &[u32]) -> bool {
+        for known in &self.clauses {
+            if known.as_slice() == clause {
+                return true;
+            }
+        }
+        false
     }
 
     // The clause of an atom, or of its negation; none where it says nothing.
@@ -133,30 +152,33 @@ impl Clauses {
         Ok(clauses)
     }
 
+    // The clauses of all these assertions, or of their negations, of which one is true or all are.
+    #[cycle(forms)]
+    fn normal_forms(
+        &mut self,
+        all: &[Assert],
+        yes: bool,
+        is_product: bool,
+    ) -> Result<Vec<Vec<u32>>, AllocError> {
+        let mut form = start(self.alloc, is_product)?;
+        for a in all {
+            let part = self.normal_form(a, yes)?;
+            form = joined(self.alloc, form, part, is_product)?;
+        }
+        Ok(form)
+    }
+
     // The clauses of an assertion, or of its negation, which are true together where it is; fewer
     // where they would be too many.
+    #[cycle(forms)]
     fn normal_form(&mut self, assertion: &Assert, yes: bool) -> Result<Vec<Vec<u32>>, AllocError> {
         match assertion {
             Assert::True => start(self.alloc, !yes),
             Assert::False => start(self.alloc, yes),
             Assert::Le(_) | Assert::Eq(_) | Assert::Ne(_) => self.single(assertion, yes),
             Assert::Not(a) => self.normal_form(a, !yes),
-            Assert::And(all) => {
-                let mut form = start(self.alloc, !yes)?;
-                for a in all {
-                    let part = self.normal_form(a, yes)?;
-                    form = joined(self.alloc, form, part, !yes)?;
-                }
-                Ok(form)
-            }
-            Assert::Or(all) => {
-                let mut form = start(self.alloc, yes)?;
-                for a in all {
-                    let part = self.normal_form(a, yes)?;
-                    form = joined(self.alloc, form, part, yes)?;
-                }
-                Ok(form)
-            }
+            Assert::And(all) => self.normal_forms(all, yes, !yes),
+            Assert::Or(all) => self.normal_forms(all, yes, yes),
             Assert::Imp(a, b) => {
                 let first = self.normal_form(a, !yes)?;
                 let second = self.normal_form(b, yes)?;
@@ -169,12 +191,8 @@ impl Clauses {
     fn add_clause(&mut self, mut clause: Vec<u32>) -> Result<(), AllocError> {
         clause.sort_unstable();
         clause.dedup();
-        let is_known = self
-            .clauses
-            .iter()
-            .any(|known| known.as_slice() == clause.as_slice());
         let fits = clause.len() >= 2 && clause.len() <= LONGEST;
-        if fits && !is_known && self.clauses.len() < MOST_CLAUSES {
+        if fits && !self.has(&clause) && self.clauses.len() < MOST_CLAUSES {
             self.clauses.push(clause)?;
         }
         Ok(())

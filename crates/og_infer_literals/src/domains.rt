@@ -2,6 +2,7 @@
 
 use crate::text::Text;
 use og_infer_places::Samples;
+use og_search_rows::Term;
 use std::alloc::{AllocError, Global};
 use std::collections::BTreeSet;
 
@@ -90,27 +91,37 @@ fn add_states(domains: &mut [Domain], states: &[Vec<i64>]) -> Result<(), AllocEr
 
 // Whether the variable has not the same value in all states.
 fn varies(states: &[Vec<i64>], variable: usize) -> bool {
-    match states.first() {
-        Some(first) => {
-            let value = first.get(variable);
-            states.iter().any(|state| state.get(variable) != value)
+    let Some(first) = states.first() else {
+        return false;
+    };
+    for state in states {
+        if state.get(variable) != first.get(variable) {
+            return true;
         }
-        None => false,
     }
+    false
 }
 
 fn is_marked(marks: &[bool], variable: u32) -> bool {
     matches!(marks.get(variable as usize), Some(true))
 }
 
+// Whether one of the variables is marked.
+fn some_marked(marks: &[bool], terms: &[Term]) -> bool {
+    for term in terms {
+        if is_marked(marks, term.var) {
+            return true;
+        }
+    }
+    false
+}
+
 // Marks the variables that are assigned from marked ones. Whether there were some.
 fn spread(text: &Text, marks: &mut [bool]) -> bool {
     let mut changed = false;
     for assignment in &text.assignments {
-        let mut sources = assignment.value.terms.iter();
-        if !is_marked(marks, assignment.variable)
-            && sources.any(|source| is_marked(marks, source.var))
-        {
+        let is_new = !is_marked(marks, assignment.variable);
+        if is_new && some_marked(marks, &assignment.value.terms) {
             if let Some(mark) = marks.get_mut(assignment.variable as usize) {
                 *mark = true;
                 changed = true;

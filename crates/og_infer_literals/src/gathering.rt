@@ -8,7 +8,7 @@ use crate::study::Study;
 use crate::table::Table;
 use crate::text::Assignment;
 use og_search_rows::Term;
-use std::alloc::AllocError;
+use std::alloc::{AllocError, Global};
 use std::collections::BTreeSet;
 
 /// The most atoms that are renamed by copies.
@@ -188,17 +188,43 @@ fn bound_variables(study: &Study, table: &mut Table) -> Result<(), AllocError> {
     Ok(())
 }
 
+// The bound and its neighbors.
+fn around(alloc: Global, bound: i64) -> Result<BTreeSet<i64>, AllocError> {
+    let mut bounds = BTreeSet::new(alloc);
+    bounds.insert(bound.saturating_sub(1))?;
+    bounds.insert(bound)?;
+    bounds.insert(bound.saturating_add(1))?;
+    Ok(bounds)
+}
+
 // Adds bounds of the sums of the text.
 fn bound_forms(study: &Study, table: &mut Table) -> Result<(), AllocError> {
     for form in &study.text.forms {
         if form.terms.len() >= 2 {
-            let bound = form.comparison.bound;
-            let mut bounds = BTreeSet::new(study.alloc);
-            bounds.insert(bound.saturating_sub(1))?;
-            bounds.insert(bound)?;
-            bounds.insert(bound.saturating_add(1))?;
+            let bounds = around(study.alloc, form.comparison.bound)?;
             table.add_bounds(study, &form.terms, &bounds, FREE)?;
         }
+    }
+    Ok(())
+}
+
+// Adds these bounds of the difference and the sum of two variables.
+fn bound_pair(
+    study: &Study,
+    table: &mut Table,
+    pair: (u32, u32),
+    bounds: &BTreeSet<i64>,
+) -> Result<(), AllocError> {
+    table.add_bounds(study, &both(pair, -1), bounds, FREE_OF_TWO)?;
+    table.add_bounds(study, &both(pair, 1), bounds, FREE_OF_TWO)
+}
+
+// Adds bounds of sums and differences of two variables.
+fn bound_pairs(study: &Study, table: &mut Table) -> Result<(), AllocError> {
+    let few = study.few()?;
+    let domains = &study.domains;
+    for pair in &bounded_pairs(study.alloc, &study.direct, domains, study.variables)? {
+        bound_pair(study, table, *pair, &few)?;
     }
     Ok(())
 }
@@ -207,11 +233,5 @@ fn bound_forms(study: &Study, table: &mut Table) -> Result<(), AllocError> {
 pub(crate) fn add_bounds(study: &Study, table: &mut Table) -> Result<(), AllocError> {
     bound_variables(study, table)?;
     bound_forms(study, table)?;
-    let few = study.few()?;
-    let domains = &study.domains;
-    for pair in &bounded_pairs(study.alloc, &study.direct, domains, study.variables)? {
-        table.add_bounds(study, &both(*pair, -1), &few, FREE_OF_TWO)?;
-        table.add_bounds(study, &both(*pair, 1), &few, FREE_OF_TWO)?;
-    }
-    Ok(())
+    bound_pairs(study, table)
 }

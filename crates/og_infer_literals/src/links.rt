@@ -67,6 +67,17 @@ fn put_later(
     Ok(())
 }
 
+// How many variables have many values.
+fn count_wide(domains: &[Domain]) -> usize {
+    let mut count = 0usize;
+    for domain in domains {
+        if domain.size() > FEW {
+            count = count.saturating_add(1);
+        }
+    }
+    count
+}
+
 /// The pairs whose sums and differences are bounded: where there are many variables with many
 /// values, those among these that are compared with each other, else all of which one has more than
 /// two values.
@@ -76,7 +87,7 @@ pub(crate) fn bounded_pairs(
     domains: &[Domain],
     variables: u32,
 ) -> Result<Vec<(u32, u32)>, AllocError> {
-    if domains.iter().filter(|domain| domain.size() > FEW).count() > MOST_WIDE {
+    if count_wide(domains) > MOST_WIDE {
         return compared_pairs(alloc, direct, domains);
     }
     let mut pairs = Vec::new(alloc);

@@ -8,7 +8,7 @@ use crate::gathering::{add_bounds, add_literals};
 use crate::room::{Room, count};
 use crate::study::Study;
 use crate::sums::sum_at;
-use crate::table::{Literal, Sum, Table};
+use crate::table::{Literal, Sum, Table, sum_with};
 use og_infer_places::{Places, Samples};
 use og_search_rows::Term;
 use std::alloc::{AllocError, Global};
@@ -100,6 +100,19 @@ fn add_texts(
     Ok(texts)
 }
 
+// Adds all literals. Gives the clauses of the text, and how many literals clauses are made of.
+fn fill(
+    places: &Places,
+    study: &Study,
+    table: &mut Table,
+) -> Result<(Vec<Vec<u32>>, u32), AllocError> {
+    add_literals(study, table)?;
+    let texts = add_texts(places, study, table)?;
+    let clausal = count(&table.literals);
+    add_bounds(study, table)?;
+    Ok((texts, clausal))
+}
+
 // How many values each variable has.
 fn sizes(study: &Study) -> Result<Vec<usize>, AllocError> {
     let mut sizes = Vec::with_capacity(study.alloc, study.domains.len())?;
@@ -123,18 +136,21 @@ impl Literals {
         room: Room,
     ) -> Result<Literals, AllocError> {
         let study = Study::of(alloc, places, samples, room)?;
-        let mut table = Table::new(alloc, room);
-        add_literals(&study, &mut table)?;
-        let texts = add_texts(places, &study, &mut table)?;
-        let clausal = count(&table.literals);
-        add_bounds(&study, &mut table)?;
+        Literals::of_study(places, &study, room)
+    }
+
+    // Those of the outline of which this is known.
+    fn of_study(places: &Places, study: &Study, room: Room) -> Result<Literals, AllocError> {
+        let mut table = Table::new(study.alloc, room);
+        let (texts, clausal) = fill(places, study, &mut table)?;
+        let sizes = sizes(study)?;
         let Table { sums, literals, .. } = table;
         Ok(Literals {
             sums,
             literals,
             clausal,
             texts,
-            sizes: sizes(&study)?,
+            sizes,
         })
     }
 
@@ -189,13 +205,16 @@ impl Literals {
 
     /// The literal of an atom, where there is one: of one that stands alone a bound, if it may.
     pub fn find(&self, atom: &Atom, may_be_bound: bool) -> Option<u32> {
-        let terms = atom.terms.as_slice();
-        let sum = self.sums.iter().find(|sum| sum.terms.as_slice() == terms)?;
+        let sum = sum_with(&self.sums, &atom.terms)?;
         let Comparison { relation, bound } = atom.comparison;
         if may_be_bound && !sum.bounds.is_empty() && atom.comparison.is_limit() {
             return sum.bound_literal(sum.bound_place(bound)?, relation);
         }
-        let mut literals = sum.literals.iter().copied();
-        literals.find(|literal| self.comparison(*literal) == Some(atom.comparison))
+        for literal in &sum.literals {
+            if self.comparison(*literal) == Some(atom.comparison) {
+                return Some(*literal);
+            }
+        }
+        None
     }
 }

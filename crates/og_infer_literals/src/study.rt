@@ -96,22 +96,30 @@ impl<'a> Study<'a> {
         room: Room,
     ) -> Result<Study<'a>, AllocError> {
         let outline = places.outline();
-        let text = Text::of(alloc, places)?;
-        let places = count(places.as_slice());
-        let variables = count(outline.names());
-        let constants = constants(alloc, &text, outline.aux_values())?;
-        Ok(Study {
+        let mut study = Study {
             alloc,
             samples,
-            places,
+            places: count(places.as_slice()),
             states: room.states,
-            variables,
-            domains: domains(alloc, &text, samples, places, variables)?,
-            direct: direct_pairs(alloc, &text.forms)?,
-            near: neighbors(alloc, &constants)?,
-            constants,
-            text,
-        })
+            variables: count(outline.names()),
+            text: Text::of(alloc, places)?,
+            domains: Vec::new(alloc),
+            direct: Vec::new(alloc),
+            constants: BTreeSet::new(alloc),
+            near: BTreeSet::new(alloc),
+        };
+        study.read_text(outline.aux_values())?;
+        Ok(study)
+    }
+
+    // Finds what the text says, where these are the initial values of the auxiliaries.
+    fn read_text(&mut self, initial: &[i64]) -> Result<(), AllocError> {
+        let (alloc, text) = (self.alloc, &self.text);
+        self.constants = constants(alloc, text, initial)?;
+        self.domains = domains(alloc, text, self.samples, self.places, self.variables)?;
+        self.direct = direct_pairs(alloc, &text.forms)?;
+        self.near = neighbors(alloc, &self.constants)?;
+        Ok(())
     }
 
     /// The first states that were seen at a place.
@@ -144,10 +152,13 @@ impl<'a> Study<'a> {
 
     // Whether an input stands in the sum.
     fn has_input(&self, terms: &[Term]) -> bool {
-        terms.iter().any(|term| {
+        for term in terms {
             let domain = self.domains.get(term.var as usize);
-            matches!(domain, Some(domain) if domain.is_input)
-        })
+            if matches!(domain, Some(domain) if domain.is_input) {
+                return true;
+            }
+        }
+        false
     }
 
     // The least and the greatest values of the sum at each place.
@@ -162,6 +173,14 @@ impl<'a> Study<'a> {
         Ok(all)
     }
 
+    // Whether one of the ends of a sum without inputs is kept that is not near a constant.
+    fn is_wanted(&self, end: i64, all: &BTreeSet<i64>, free: usize) -> bool {
+        all.len() <= free
+            || end.unsigned_abs() <= NEAR_ZERO
+            || matches!(all.first(), Some(first) if *first == end)
+            || matches!(all.last(), Some(last) if *last == end)
+    }
+
     /// The bounds of a sum that the states give: the least and greatest values at each place, of a
     /// sum with inputs those near constants. Where they are more than this many, the outermost, those
     /// near constants and those near 0.
@@ -172,13 +191,9 @@ impl<'a> Study<'a> {
     ) -> Result<BTreeSet<i64>, AllocError> {
         let all = self.all_ends(terms)?;
         let is_input = self.has_input(terms);
-        let (first, last) = (all.first().copied(), all.last().copied());
         let mut kept = BTreeSet::new(self.alloc);
         for end in &all {
-            let is_near = self.near.contains(end);
-            let is_outermost = Some(*end) == first || Some(*end) == last;
-            let is_wanted = is_near || is_outermost || end.unsigned_abs() <= NEAR_ZERO;
-            if is_near || !is_input && (is_wanted || all.len() <= free) {
+            if self.near.contains(end) || !is_input && self.is_wanted(*end, &all, free) {
                 kept.insert(*end)?;
             }
         }

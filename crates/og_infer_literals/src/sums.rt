@@ -25,7 +25,12 @@ pub fn sum_at(terms: &[Term], values: &[i64]) -> Option<i128> {
 
 /// Whether the variable stands in the sum.
 pub fn mentions(terms: &[Term], variable: u32) -> bool {
-    terms.iter().any(|term| term.var == variable)
+    for term in terms {
+        if term.var == variable {
+            return true;
+        }
+    }
+    false
 }
 
 /// Whether the first coefficient is below 0.

@@ -46,6 +46,16 @@ impl Sum {
     }
 }
 
+/// The sum with these terms.
+pub(crate) fn sum_with<'s>(sums: &'s [Sum], terms: &[Term]) -> Option<&'s Sum> {
+    for sum in sums {
+        if sum.terms.as_slice() == terms {
+            return Some(sum);
+        }
+    }
+    None
+}
+
 /// The sums and literals so far.
 #[derive(Drop)]
 pub(crate) struct Table {
@@ -65,11 +75,21 @@ impl Table {
         }
     }
 
+    // The number of a sum.
+    fn number(&self, terms: &[Term]) -> Option<u32> {
+        for (number, sum) in (0..u32::MAX).zip(&self.sums) {
+            if sum.terms.as_slice() == terms {
+                return Some(number);
+            }
+        }
+        None
+    }
+
     // The number of a sum, which is added if there is room.
     fn put(&mut self, terms: &[Term]) -> Result<Option<u32>, AllocError> {
-        let known = |sum: &Sum| sum.terms.as_slice() == terms;
-        if let Some(place) = self.sums.iter().position(known) {
-            return Ok(u32::try_from(place).ok());
+        let known = self.number(terms);
+        if known.is_some() {
+            return Ok(known);
         }
         let next = count(&self.sums);
         if u64::from(next) >= self.room.sums {
@@ -93,10 +113,13 @@ impl Table {
 
     /// The literal of an atom.
     pub(crate) fn find(&self, atom: &Atom) -> Option<u32> {
-        let terms = atom.terms.as_slice();
-        let sum = self.sums.iter().find(|sum| sum.terms.as_slice() == terms)?;
-        let mut literals = sum.literals.iter().copied();
-        literals.find(|literal| self.is_of(*literal, atom.comparison))
+        let sum = sum_with(&self.sums, &atom.terms)?;
+        for literal in &sum.literals {
+            if self.is_of(*literal, atom.comparison) {
+                return Some(*literal);
+            }
+        }
+        None
     }
 
     /// Adds the literal of an atom to those of which clauses are made, if there is room.
@@ -149,6 +172,45 @@ impl Table {
         Ok(())
     }
 
+    // Whether the sum has bounds that stand alone.
+    fn has_bounds(&self, sum: u32) -> bool {
+        match self.sums.get(sum as usize) {
+            Some(own) => !own.bounds.is_empty(),
+            None => false,
+        }
+    }
+
+    // Adds the literals of these bounds of a sum. Gives all of them, rising.
+    fn add_all(
+        &mut self,
+        sum: u32,
+        bounds: &BTreeSet<i64>,
+        wanted: &BTreeSet<i64>,
+    ) -> Result<Vec<i64>, AllocError> {
+        let mut rising = Vec::new(self.alloc);
+        for bound in bounds.union(wanted) {
+            self.add_bound(sum, *bound)?;
+            rising.push(*bound)?;
+        }
+        Ok(rising)
+    }
+
+    // Gives a sum these bounds that stand alone.
+    fn set_bounds(
+        &mut self,
+        sum: u32,
+        bounds: &BTreeSet<i64>,
+        wanted: &BTreeSet<i64>,
+    ) -> Result<(), AllocError> {
+        let first = count(&self.literals);
+        let rising = self.add_all(sum, bounds, wanted)?;
+        if let Some(own) = self.sums.get_mut(sum as usize) {
+            own.bounds = rising;
+            own.first = first;
+        }
+        Ok(())
+    }
+
     /// Adds these bounds of a sum, with its bounds that stand in clauses and as many as this more
     /// from the states, unless it has some. No literal of clauses may be added later.
     pub(crate) fn add_bounds(
@@ -161,22 +223,11 @@ impl Table {
         let Some(sum) = self.put(terms)? else {
             return Ok(());
         };
-        let has_some = matches!(self.sums.get(sum as usize), Some(own) if !own.bounds.is_empty());
-        if has_some {
+        if self.has_bounds(sum) {
             return Ok(());
         }
         let mut bounds = study.extremes(terms, free)?;
         self.put_limits(sum, &mut bounds)?;
-        let first = count(&self.literals);
-        let mut rising = Vec::new(self.alloc);
-        for bound in bounds.union(wanted) {
-            self.add_bound(sum, *bound)?;
-            rising.push(*bound)?;
-        }
-        if let Some(own) = self.sums.get_mut(sum as usize) {
-            own.bounds = rising;
-            own.first = first;
-        }
-        Ok(())
+        self.set_bounds(sum, &bounds, wanted)
     }
 }

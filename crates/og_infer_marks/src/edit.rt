@@ -6,7 +6,7 @@ ghost use Rattle.og_infer_marks.specs.Edits.{edited};
 use std::alloc::{AllocError, Global};
 
 /// Bytes of a text, and what stands in their place afterwards.
-#[derive(Debug, Drop)]
+#[derive(Drop)]
 pub struct Edit {
     /// The byte offset of the first byte that is replaced.
     pub at: u32,

@@ -8,21 +8,21 @@ use og_text::{Token, TokenKind};
 use std::alloc::{AllocError, Global};
 
 // An assignment of a number to an auxiliary, which goes by its number.
-#[derive(Clone, Copy, Debug)]
+#[derive(Clone, Copy)]
 struct Mark {
     variable: usize,
     value: u32,
 }
 
 // The assignments of the action at a place.
-#[derive(Debug, Drop)]
+#[derive(Drop)]
 struct Marked {
     place: u32,
     marks: Vec<Mark>,
 }
 
 /// Auxiliaries, and which actions set them to what.
-#[derive(Debug, Drop)]
+#[derive(Drop)]
 pub struct Marks {
     names: Vec<String>,
     // The number of the first auxiliary of each process.

@@ -3,7 +3,7 @@
 use std::alloc::{AllocError, Global};
 
 /// How a process tells where it stands.
-#[derive(Clone, Copy, Debug, PartialEq, Eq)]
+#[derive(Clone, Copy, PartialEq, Eq)]
 pub enum Style {
     /// One auxiliary of each process, `at1`, which each action sets to its value.
     Counter,
@@ -12,7 +12,7 @@ pub enum Style {
 }
 
 /// Which actions of each process set an auxiliary, and to what.
-#[derive(Debug, Drop)]
+#[derive(Drop)]
 pub struct Plan {
     /// How they tell where the process stands.
     pub style: Style,

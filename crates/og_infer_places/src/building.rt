@@ -1,13 +1,13 @@
 //! How the places of a part of a program are found: in the order of the text, each step once the
 //! places after it are numbered.
 
-use crate::place::{Place, Step};
+use crate::place::{Place, Step, number_of};
 use og_subst::Action;
 use og_typed::{Assert, Item, Part, Seq, Stmt};
 use std::alloc::{AllocError, Global};
 
 /// The first place of a part, and the last one.
-#[derive(Clone, Copy, Debug)]
+#[derive(Clone, Copy)]
 pub(crate) struct Region {
     pub(crate) first: u32,
     pub(crate) last: u32,
@@ -15,7 +15,7 @@ pub(crate) struct Region {
 
 // The number that the next place gets.
 fn next_number(places: &[Place]) -> Result<u32, AllocError> {
-    u32::try_from(places.len()).map_err(|_| AllocError)
+    number_of(places.len())
 }
 
 // One place more, whose number is returned.
@@ -161,7 +161,7 @@ pub(crate) fn add_processes<'a>(
 ) -> Result<Vec<Region>, AllocError> {
     let mut regions = Vec::with_capacity(alloc, processes.len())?;
     for seq in processes {
-        let number = u32::try_from(regions.len()).map_err(|_| AllocError)?;
+        let number = number_of(regions.len())?;
         regions.push(add_part(places, Part::Process(number), seq)?)?;
     }
     Ok(regions)

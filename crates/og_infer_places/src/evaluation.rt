@@ -28,7 +28,19 @@ fn value_of(form: &Form, values: &[i64]) -> Option<i128> {
     None
 }
 
+// Whether one of the assertions has this truth, where each number that is looked at fits 128 bits.
+#[cycle(truth)]
+fn some_is(all: &[Assert], values: &[i64], truth: bool) -> Option<bool> {
+    for a in all {
+        if truth_of(a, values)? == truth {
+            return Some(true);
+        }
+    }
+    Some(false)
+}
+
 // The truth of an assertion, where each number that is looked at fits 128 bits.
+#[cycle(truth)]
 fn truth_of(assertion: &Assert, values: &[i64]) -> Option<bool> {
     match assertion {
         Assert::True => Some(true),
@@ -37,22 +49,8 @@ fn truth_of(assertion: &Assert, values: &[i64]) -> Option<bool> {
         Assert::Eq(form) => Some(value_of(form, values)? == 0),
         Assert::Ne(form) => Some(value_of(form, values)? != 0),
         Assert::Not(a) => Some(!truth_of(a, values)?),
-        Assert::And(all) => {
-            for a in all {
-                if !truth_of(a, values)? {
-                    return Some(false);
-                }
-            }
-            Some(true)
-        }
-        Assert::Or(all) => {
-            for a in all {
-                if truth_of(a, values)? {
-                    return Some(true);
-                }
-            }
-            Some(false)
-        }
+        Assert::And(all) => Some(!some_is(all, values, false)?),
+        Assert::Or(all) => some_is(all, values, true),
         Assert::Imp(a, b) => Some(!truth_of(a, values)? || truth_of(b, values)?),
     }
 }

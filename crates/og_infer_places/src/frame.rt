@@ -7,7 +7,7 @@ use std::alloc::{AllocError, Global};
 
 /// What questions need of an outline: its assertions, the initial values of its auxiliaries, and how
 /// many variables it has. Threads may share it.
-#[derive(Debug, Drop)]
+#[derive(Drop)]
 pub struct Frame<'a> {
     authors: Vec<&'a Assert>,
     pub(crate) pre: &'a Assert,

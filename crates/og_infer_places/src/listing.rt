@@ -1,7 +1,7 @@
 //! All obligations of an outline.
 
 use crate::obligation::{Claim, Obligation};
-use crate::place::{Place, Step};
+use crate::place::{Place, Step, number_of};
 use crate::places::Places;
 use og_subst::Action;
 use og_typed::{Assert, Basic, Part};
@@ -16,17 +16,22 @@ struct Move<'a> {
     action: Action<'a>,
 }
 
+// Whether one of these assigns a variable.
+fn some_assigns(body: &[Basic]) -> bool {
+    for basic in body {
+        if matches!(basic, Basic::Assign(..)) {
+            return true;
+        }
+    }
+    false
+}
+
 // Whether the action assigns a variable.
 fn assigns_some(action: &Action) -> bool {
     match action {
         Action::Assign(..) => true,
-        Action::Await(body) => body.iter().any(|basic| matches!(basic, Basic::Assign(..))),
+        Action::Await(body) => some_assigns(body),
     }
-}
-
-// The number of the place that stands here among all.
-fn number_of(index: usize) -> Result<u32, AllocError> {
-    u32::try_from(index).map_err(|_| AllocError)
 }
 
 // The action at the place, if it is one of a process and assigns a variable.

@@ -5,7 +5,7 @@ use og_typed::Assert;
 use std::alloc::{AllocError, Global};
 
 /// What an obligation claims.
-#[derive(Clone, Copy, Debug, PartialEq, Eq)]
+#[derive(Clone, Copy, PartialEq, Eq)]
 pub enum Claim {
     /// The assertion of this place, after the action if there is one.
     Holds(u32),
@@ -18,7 +18,7 @@ pub enum Claim {
 }
 
 /// What must hold in each state of `i64` values.
-#[derive(Debug, Drop)]
+#[derive(Drop)]
 pub struct Obligation<'a> {
     /// The places whose assertions are true before.
     pub places: Vec<u32>,

@@ -2,9 +2,10 @@
 
 use og_subst::Action;
 use og_typed::{Assert, Note, Part};
+use std::alloc::AllocError;
 
 /// What the program does next at a place. Places go by their numbers.
-#[derive(Clone, Copy, Debug)]
+#[derive(Clone, Copy)]
 pub enum Step<'a> {
     /// Nothing: the last assertion of its part.
     End,
@@ -27,7 +28,7 @@ pub enum Step<'a> {
 }
 
 /// The place of an assertion.
-#[derive(Clone, Copy, Debug)]
+#[derive(Clone, Copy)]
 pub struct Place<'a> {
     /// The part of the program that stands there.
     pub part: Part,
@@ -38,6 +39,18 @@ pub struct Place<'a> {
     /// Whether the program may rest there, and other processes act meanwhile: not at the end of a
     /// branch or of a body, which a step only passes.
     pub is_shared: bool,
+}
+
+/// The number of the place, or of the process, that stands behind this many.
+///
+/// # Errors
+///
+/// There are more than 4294967295.
+pub(crate) fn number_of(count: usize) -> Result<u32, AllocError> {
+    match u32::try_from(count) {
+        Ok(number) => Ok(number),
+        Err(_) => Err(AllocError),
+    }
 }
 
 impl Place<'_> {

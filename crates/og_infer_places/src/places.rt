@@ -8,7 +8,7 @@ use std::alloc::{AllocError, Global};
 
 /// The places of an outline, in the order of the text, numbered from 0. The pre- and postcondition
 /// are not among them. All readers take no memory.
-#[derive(Debug, Drop)]
+#[derive(Drop)]
 pub struct Places<'a> {
     outline: &'a Outline,
     places: Vec<Place<'a>>,

@@ -4,14 +4,14 @@ use crate::obligation::Obligation;
 use og_typed::Assert;
 
 /// What is taken at a place besides the author's assertion.
-#[derive(Clone, Copy, Debug)]
+#[derive(Clone, Copy)]
 pub struct Taken<'q> {
     pub place: u32,
     pub assertion: &'q Assert,
 }
 
 /// What is asked of an obligation.
-#[derive(Clone, Copy, Debug)]
+#[derive(Clone, Copy)]
 pub enum Goal<'q> {
     /// This assertion, after the action if there is one.
     Holds(&'q Assert),
@@ -20,7 +20,7 @@ pub enum Goal<'q> {
 }
 
 /// Whether an obligation gives a goal with what is taken.
-#[derive(Clone, Copy, Debug)]
+#[derive(Clone, Copy)]
 pub struct Question<'q, 'a> {
     pub obligation: &'q Obligation<'a>,
     /// What is taken at the places of the obligation; of other places it is left out.
@@ -29,7 +29,7 @@ pub struct Question<'q, 'a> {
 }
 
 /// The answer to a question.
-#[derive(Debug, Drop)]
+#[derive(Drop)]
 pub enum Answer {
     /// It does.
     True,

@@ -166,13 +166,9 @@ impl<'a> Seeker<'a> {
         Ok(hypotheses)
     }
 
-    // A state in which all this is so, where a search finds one, and there may be one more.
-    fn search(&mut self, chosen: &[(u32, i64)]) -> Result<Option<Vec<i64>>, AllocError> {
-        let Some(left) = self.left.checked_sub(1) else {
-            return Ok(None);
-        };
-        self.left = left;
-        let condition = Condition {
+    // That the program never begins so.
+    fn condition(&self, chosen: &[(u32, i64)]) -> Result<Condition<'_>, AllocError> {
+        Ok(Condition {
             kind: Kind::Start,
             at: 0,
             action_at: None,
@@ -180,7 +176,16 @@ impl<'a> Seeker<'a> {
             hypotheses: self.hypotheses(chosen)?,
             goal: og_cond::Goal::Never,
             action: None,
+        })
+    }
+
+    // A state in which all this is so, where a search finds one, and there may be one more.
+    fn search(&mut self, chosen: &[(u32, i64)]) -> Result<Option<Vec<i64>>, AllocError> {
+        let Some(left) = self.left.checked_sub(1) else {
+            return Ok(None);
         };
+        self.left = left;
+        let condition = self.condition(chosen)?;
         match examine(self.alloc, &condition, BUDGET)? {
             Verdict::False(state) => Ok(Some(Vec::from_slice(self.alloc, state.as_slice())?)),
             Verdict::True(_) | Verdict::Open => Ok(None),
@@ -297,6 +302,18 @@ impl<'a> Seeker<'a> {
         }
         Ok(draft.values)
     }
+
+    // Different starts, at most this many, as ranges.
+    fn starts(&mut self, base: &[i64], count: u32) -> Result<Vec<Vec<Range>>, AllocError> {
+        let free = self.free_variables(base)?;
+        let most = if free.is_empty() { count.min(1) } else { count };
+        let mut found = IndexSet::new(self.alloc);
+        for number in 0..most {
+            let start = self.start(number, base, &free)?;
+            found.insert(start)?;
+        }
+        ranges_of(self.alloc, self.outline, found.as_slice())
+    }
 }
 
 // The variable at this place, where they are counted from that of this number on.
@@ -354,15 +371,8 @@ pub fn starts(
     count: u32,
 ) -> Result<Vec<Vec<Range>>, AllocError> {
     let mut seeker = Seeker::new(alloc, outline, given)?;
-    let Some(base) = seeker.base()? else {
-        return Ok(Vec::new(alloc));
-    };
-    let free = seeker.free_variables(&base)?;
-    let most = if free.is_empty() { count.min(1) } else { count };
-    let mut found = IndexSet::new(alloc);
-    for number in 0..most {
-        let start = seeker.start(number, &base, &free)?;
-        found.insert(start)?;
+    match seeker.base()? {
+        Some(base) => seeker.starts(&base, count),
+        None => Ok(Vec::new(alloc)),
     }
-    ranges_of(alloc, outline, found.as_slice())
 }

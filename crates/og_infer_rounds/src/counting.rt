@@ -15,7 +15,7 @@ pub(crate) fn price(steps: u64) -> u64 {
 }
 
 /// The questions that are left, of which some are kept for later.
-#[derive(Clone, Copy, Debug)]
+#[derive(Clone, Copy)]
 pub struct Questions {
     given: u64,
     left: u64,

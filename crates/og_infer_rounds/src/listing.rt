@@ -14,7 +14,7 @@ const PLAIN: u32 = 20;
 const FOREIGN: u32 = 30;
 
 /// A candidate of a place.
-#[derive(Clone, Copy, Debug, PartialEq, Eq)]
+#[derive(Clone, Copy, PartialEq, Eq)]
 pub struct Spot {
     pub place: u32,
     /// Where it stands in the list of the place.
@@ -22,7 +22,7 @@ pub struct Spot {
 }
 
 /// What may be done with a candidate.
-#[derive(Clone, Copy, Debug, PartialEq, Eq)]
+#[derive(Clone, Copy, PartialEq, Eq)]
 pub enum Role {
     /// It may be taken.
     Offered,
@@ -101,7 +101,7 @@ impl Listed {
 }
 
 /// A candidate that may be taken, and its weight.
-#[derive(Clone, Copy, Debug)]
+#[derive(Clone, Copy)]
 pub(crate) struct Pick {
     pub(crate) spot: Spot,
     pub(crate) weight: u32,

@@ -9,7 +9,7 @@ use og_typed::Assert;
 use std::alloc::{AllocError, Global};
 
 /// What a duty has to show.
-#[derive(Clone, Copy, Debug, PartialEq, Eq)]
+#[derive(Clone, Copy, PartialEq, Eq)]
 pub enum Owing {
     /// What the obligation claims.
     Claim,
@@ -18,7 +18,7 @@ pub enum Owing {
 }
 
 /// What one obligation has to show.
-#[derive(Clone, Copy, Debug)]
+#[derive(Clone, Copy)]
 pub struct Duty {
     /// Which obligation.
     pub obligation: usize,

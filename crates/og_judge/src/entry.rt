@@ -7,7 +7,7 @@ use og_cond::Kind;
 use og_pool::Status;
 
 /// A condition and what was found of it.
-#[derive(Clone, Copy, Debug)]
+#[derive(Clone, Copy)]
 pub struct Entry {
     /// What it asks.
     pub kind: Kind,

@@ -5,7 +5,7 @@ use og_template::{Special, WordKind};
 use og_text::TokenKind;
 
 /// What a part is to the layout.
-#[derive(Clone, Copy, Debug, Drop, PartialEq, Eq)]
+#[derive(Clone, Copy, Drop, PartialEq, Eq)]
 pub(crate) enum Class {
     Comment,
     Name,

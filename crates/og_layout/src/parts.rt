@@ -12,7 +12,7 @@ use og_text::LexError;
 use std::alloc::{AllocError, Global};
 
 /// What a part of a text is.
-#[derive(Debug, Drop)]
+#[derive(Drop)]
 pub enum PartKind {
     /// A comment, without blanks, tabs and carriage returns at its end.
     Comment,
@@ -21,7 +21,7 @@ pub enum PartKind {
 }
 
 /// A part of a text, and where it stands. Offsets count bytes from 0.
-#[derive(Debug, Drop)]
+#[derive(Drop)]
 pub struct Part {
     /// What it is.
     pub kind: PartKind,

@@ -3,7 +3,7 @@
 use crate::class::Class;
 
 /// The white space in front of a part.
-#[derive(Clone, Copy, Debug, Drop, PartialEq, Eq)]
+#[derive(Clone, Copy, Drop, PartialEq, Eq)]
 pub(crate) enum Gap {
     None,
     Blank,
@@ -14,7 +14,7 @@ pub(crate) enum Gap {
 }
 
 /// A part of the text with the white space in front of it.
-#[derive(Clone, Copy, Debug, Drop)]
+#[derive(Clone, Copy, Drop)]
 pub(crate) struct Spaced {
     pub(crate) class: Class,
     /// The offset of the first byte.

@@ -12,7 +12,7 @@ use std::marker::Model;
 /// Forms that stand for variables. A variable that the map doesn't name stands for itself.
 ///
 /// Contracts see the list of the named variables with their forms.
-#[derive(Debug, Drop)]
+#[derive(Drop)]
 pub struct Map {
     entries: Vec<(u32, Form)>,
 }

@@ -6,7 +6,7 @@ ghost use Rattle.og_linear.specs.Linear.{put, IsProper};
 use std::marker::Model;
 
 /// The values of the variables, by number. Contracts see the list of the values, each an `i64`.
-#[derive(Debug, Drop)]
+#[derive(Drop)]
 pub struct State {
     values: Vec<i64>,
 }

@@ -8,7 +8,7 @@ use og_text::Span;
 use std::alloc::{AllocError, Global};
 
 /// How much a diagnostic weighs.
-#[derive(Clone, Copy, Debug, Drop, PartialEq, Eq)]
+#[derive(Clone, Copy, Drop, PartialEq, Eq)]
 pub enum Severity {
     /// The text is refused, or a condition is false.
     Error,
@@ -19,7 +19,7 @@ pub enum Severity {
 }
 
 /// Another place that a diagnostic speaks of.
-#[derive(Debug, Drop)]
+#[derive(Drop)]
 pub struct Related {
     /// The bytes there.
     pub span: Span,
@@ -28,7 +28,7 @@ pub struct Related {
 }
 
 /// What is said of some bytes of a text.
-#[derive(Debug, Drop)]
+#[derive(Drop)]
 pub struct Diagnostic {
     /// The bytes.
     pub span: Span,

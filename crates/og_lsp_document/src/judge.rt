@@ -1,6 +1,6 @@
 //! From a text to what is wrong with it.
 
-ghost use Rattle.std.specs.Prelude.{◌≡◌, ◌≤◌, ◌<◌, length, map, IfOk, IfErr};
+ghost use Rattle.std.specs.Prelude.{◌≡◌, ◌≤◌, ◌<◌, ◌^◌, length, map, IfOk, IfErr};
 ghost use Rattle.og_cond.specs.Conditions.{conditions as conditions_of};
 ghost use Rattle.og_cond.specs.Limits.{condition_limit};
 ghost use Rattle.og_cond.specs.Seen.{seen};
@@ -10,7 +10,10 @@ ghost use Rattle.og_report_text.specs.declared.fault.InputFault.TheVariants as i
 ghost use Rattle.og_template_outline.specs.Faults.{place_of_fault};
 ghost use Rattle.og_template_outline.specs.Meaning.{IsMeaning};
 ghost use Rattle.og_typed.specs.Refused.{IsSourceFault};
-ghost use Rattle.og_lsp_diagnostics.specs.Extents.{LiesIn};
+ghost use Rattle.og_lsp_diagnostics.specs.Extents.{LiesIn, AreSaidIn};
+ghost use Rattle.og_lsp_diagnostics.specs.Remarked.{AreOfRemarks};
+ghost use Rattle.og_lsp_document.specs.Parts.{AreParts, AreIn, asked};
+ghost use Rattle.og_lsp_document.specs.Stepping.{AreStatements, AreStatementsIn};
 ghost use Rattle.og_lsp_document.specs.Judged.{IsAlone, IsOnly, IsFound, IsAsked, IsJudgement, IsWithin, summary_at};
 ghost use Rattle.og_lsp_diagnostics.specs.Refusals.{IsPlaced, IsOfSource, IsOfTemplate};
 ghost use Rattle.og_lsp_diagnostics.specs.Said.{text_of, rows_of, IsSheet};
@@ -18,7 +21,7 @@ ghost use Rattle.og_lsp_document.specs.declared.fault.JudgeError.TheVariants.{Me
 
 use crate::diagnosing::diagnoses_of;
 use crate::fault::JudgeError;
-use crate::judged::{Judgement, Summary};
+use crate::judged::{Judgement, PartCount, StatementCount, Summary};
 use crate::parts::parts_of;
 use crate::stepping::statements_of;
 use og_command_notes::remarks;
@@ -30,7 +33,7 @@ use og_pool::Gate;
 use og_report_prove::{Diagnosis, Page, Totals, is_safe, is_unblocked};
 use og_report_text::{InputFault, Origins, Places, Subject};
 use og_template_outline::{ExpandFault, Meaning, MeaningError, Takes, read_text};
-use og_typed::SourceFault;
+use og_typed::{Outline, SourceFault};
 use std::alloc::{AllocError, Global};
 use std::sync::Wait;
 use std::thread::Threads;
@@ -82,6 +85,46 @@ fn summary_of(teller: &Teller, cobegin_at: u32, diagnoses: &[Diagnosis]) -> Summ
     }
 }
 
+// What is said of what an outline claims of no run.
+fn remarks_of(
+    teller: &Teller,
+    outline: &Outline,
+    budget: Budget,
+) -> Result<Vec<Diagnostic>, AllocError>
+    requires { IsSheet teller.now.page }
+    ensures are { IfOk result (λ v.
+        AreOfRemarks (text_of teller.now.page) (rows_of teller.now.page) outline.now v.items) }
+    ensures within { IfOk result (λ v. AreSaidIn (text_of teller.now.page) v.items) }
+{
+    let claims = remarks(teller.alloc, outline, budget)?;
+    let said = teller.of_remarks(claims)?;
+    Ok(said)
+}
+
+// The counts of its parts, and those of its statements.
+fn counts_of(
+    teller: &Teller,
+    outline: &Outline,
+    conditions: &[Condition],
+    diagnoses: &[Diagnosis],
+) -> Result<(Vec<PartCount>, Vec<StatementCount>), AllocError>
+    requires sheet { IsSheet teller.now.page }
+    requires each { length diagnoses.now ≡ length conditions.now }
+    requires few { length diagnoses.now < 2 ^ 32 }
+    ensures parts { IfOk result (λ counts. AreParts (text_of teller.now.page)
+        (asked (rows_of teller.now.page) (map seen conditions.now) diagnoses.now) counts.0.items) }
+    ensures parts_lie { IfOk result (λ counts. AreIn (text_of teller.now.page) counts.0.items) }
+    ensures statements { IfOk result (λ counts. AreStatements (text_of teller.now.page)
+        (rows_of teller.now.page) outline.now (map seen conditions.now) diagnoses.now
+        counts.1.items) }
+    ensures statements_lie { IfOk result (λ counts.
+        AreStatementsIn (text_of teller.now.page) counts.1.items) }
+{
+    let parts = parts_of(teller, conditions, diagnoses)?;
+    let statements = statements_of(teller, outline, conditions, diagnoses)?;
+    Ok((parts, statements))
+}
+
 // What is said of an outline in its texts by the findings on its conditions.
 fn told(
     alloc: Global,
@@ -109,10 +152,9 @@ fn told(
     };
     let teller = Teller { alloc, page };
     let diagnostics = diagnostics_of(&teller, conditions, diagnoses)?;
-    let claims = remarks(alloc, subject.outline, budget)?;
-    let remarks = teller.of_remarks(claims)?;
-    let parts = parts_of(&teller, conditions, diagnoses)?;
-    let statements = statements_of(&teller, subject.outline, conditions, diagnoses)?;
+    let remarks = remarks_of(&teller, subject.outline, budget)?;
+    let counts = counts_of(&teller, subject.outline, conditions, diagnoses)?;
+    let (parts, statements) = counts;
     let summary = summary_of(&teller, subject.outline.cobegin_at(), diagnoses);
     Ok(Judgement {
         diagnostics,

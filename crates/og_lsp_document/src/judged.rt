@@ -4,7 +4,7 @@ use og_lsp_diagnostics::Diagnostic;
 use og_text::Span;
 
 /// What is found of the conditions of an outline.
-#[derive(Clone, Copy, Debug, Drop, PartialEq, Eq)]
+#[derive(Clone, Copy, Drop, PartialEq, Eq)]
 pub struct Summary {
     /// The `cobegin` of the text.
     pub cobegin: Span,
@@ -18,7 +18,7 @@ pub struct Summary {
 }
 
 /// What is found of the conditions that are asked at a note, a statement or `cobegin`.
-#[derive(Clone, Copy, Debug, Drop, PartialEq, Eq)]
+#[derive(Clone, Copy, Drop, PartialEq, Eq)]
 pub struct PartCount {
     /// The bytes there.
     pub span: Span,
@@ -28,7 +28,7 @@ pub struct PartCount {
 }
 
 /// What is found of a statement.
-#[derive(Clone, Copy, Debug, Drop, PartialEq, Eq)]
+#[derive(Clone, Copy, Drop, PartialEq, Eq)]
 pub struct StatementCount {
     /// Its bytes, as far as the next note.
     pub span: Span,
@@ -42,7 +42,7 @@ pub struct StatementCount {
 }
 
 /// What is found of a text.
-#[derive(Debug, Drop)]
+#[derive(Drop)]
 pub struct Judgement {
     /// What is wrong with it.
     pub diagnostics: Vec<Diagnostic>,

@@ -15,7 +15,7 @@ use std::sync::Wait;
 use std::thread::Threads;
 
 /// An open document.
-#[derive(Debug, Drop)]
+#[derive(Drop)]
 pub struct Document {
     /// The name that the client has for it.
     pub uri: String,

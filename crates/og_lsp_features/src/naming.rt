@@ -20,7 +20,7 @@ use std::alloc::{AllocError, Global};
 const NO_NAME: Refusal = Refusal::Refused(ErrorCode::RequestFailed, "no name stands there");
 
 /// What is asked of a name.
-#[derive(Clone, Copy, Debug, PartialEq, Eq)]
+#[derive(Clone, Copy, PartialEq, Eq)]
 pub enum Asked {
     /// Where it is declared.
     Definition,

@@ -9,7 +9,7 @@ use og_lsp_message::ErrorCode;
 use std::alloc::{AllocError, AllocFailed};
 
 /// Why a request has no result.
-#[derive(Clone, Copy, Debug, PartialEq, Eq)]
+#[derive(Clone, Copy, PartialEq, Eq)]
 pub enum Refusal {
     /// An allocation was refused.
     Memory,

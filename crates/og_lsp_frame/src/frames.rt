@@ -11,7 +11,7 @@ use std::alloc::{AllocError, Global};
 use std::marker::Model;
 
 /// What has come of a stream and is in no message yet. Contracts see it as these bytes.
-#[derive(Debug, Drop)]
+#[derive(Drop)]
 pub struct Frames {
     held: Vec<u8>,
 }

@@ -4,7 +4,7 @@ ghost use Rattle.std.specs.Prelude.{◌≡◌};
 ghost use Rattle.og_lsp_message.specs.Answers.{number_of};
 
 /// Why a call has no result.
-#[derive(Clone, Copy, Debug, Drop, PartialEq, Eq)]
+#[derive(Clone, Copy, Drop, PartialEq, Eq)]
 pub enum ErrorCode {
     /// The body is no JSON.
     ParseError,

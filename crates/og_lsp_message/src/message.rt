@@ -26,7 +26,7 @@ pub enum MessageError {
 }
 
 /// What a message is.
-#[derive(Clone, Copy, Debug, Drop, PartialEq, Eq)]
+#[derive(Clone, Copy, Drop, PartialEq, Eq)]
 pub enum Kind {
     /// A call that has to be answered; it has an id.
     Request,

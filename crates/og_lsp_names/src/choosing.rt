@@ -16,7 +16,7 @@ use og_text::{LexError, Token, TokenKind, lex};
 use std::alloc::{AllocError, Global};
 
 /// What a word is that may be written.
-#[derive(Clone, Copy, Debug, Drop, PartialEq, Eq)]
+#[derive(Clone, Copy, Drop, PartialEq, Eq)]
 pub enum ChoiceKind {
     Keyword,
     /// A name that is declared so.
@@ -24,7 +24,7 @@ pub enum ChoiceKind {
 }
 
 /// A word that may be written.
-#[derive(Debug, Drop)]
+#[derive(Drop)]
 pub struct Choice {
     pub kind: ChoiceKind,
     /// Its bytes.

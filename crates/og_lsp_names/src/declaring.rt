@@ -6,7 +6,7 @@ use og_text::{Span, TokenKind};
 use std::alloc::{AllocError, Global};
 
 /// What is declared.
-#[derive(Clone, Copy, Debug, Drop, PartialEq, Eq)]
+#[derive(Clone, Copy, Drop, PartialEq, Eq)]
 pub enum SymbolKind {
     Variable,
     Auxiliary,
@@ -18,7 +18,7 @@ pub enum SymbolKind {
 }
 
 /// What is declared, and where.
-#[derive(Clone, Copy, Debug, Drop, PartialEq, Eq)]
+#[derive(Clone, Copy, Drop, PartialEq, Eq)]
 pub struct Symbol {
     pub kind: SymbolKind,
     /// Its name, or the first word of a process.

@@ -89,7 +89,7 @@ pub fn spans_of(alloc: Global, all: &[Word], name: &[u8]) -> Result<Vec<Span>, A
 }
 
 /// Why a name cannot be given.
-#[derive(Clone, Copy, Debug, Drop, PartialEq, Eq)]
+#[derive(Clone, Copy, Drop, PartialEq, Eq)]
 pub enum NameFault {
     /// It is no name.
     NoName,

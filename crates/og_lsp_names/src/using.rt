@@ -6,7 +6,7 @@ use og_template::{Special, Word, WordKind};
 use og_text::{Span, TokenKind};
 
 /// What a name at a place would be used for.
-#[derive(Clone, Copy, Debug, Drop, PartialEq, Eq)]
+#[derive(Clone, Copy, Drop, PartialEq, Eq)]
 pub(crate) enum Use {
     /// To declare something, or bind a name.
     Declared,

@@ -4,7 +4,7 @@ use og_text::Span;
 use std::alloc::{AllocError, Global};
 
 /// A text in the place of some bytes.
-#[derive(Debug, Drop)]
+#[derive(Drop)]
 pub struct Repair {
     /// The bytes that are replaced.
     pub span: Span,

@@ -7,7 +7,7 @@ use std::alloc::{AllocError, Global};
 pub const DOCUMENTS_MOST: usize = 100;
 
 /// The open documents, in the order in which they were opened.
-#[derive(Debug, Drop)]
+#[derive(Drop)]
 pub(crate) struct Documents {
     pub(crate) all: Vec<Document>,
 }

@@ -10,7 +10,7 @@ use og_lsp_frame::{FrameFault, InputError};
 use std::alloc::AllocError;
 
 /// How a session with an editor ends.
-#[derive(Clone, Copy, Debug, PartialEq, Eq)]
+#[derive(Clone, Copy, PartialEq, Eq)]
 pub enum SessionEnd {
     /// The client said `exit`, after `shutdown` or not.
     Exited { after_shutdown: bool },

@@ -20,7 +20,7 @@ use std::sync::Wait;
 use std::thread::Threads;
 
 /// What the server is at.
-#[derive(Clone, Copy, Debug, Drop, PartialEq, Eq)]
+#[derive(Clone, Copy, Drop, PartialEq, Eq)]
 pub enum Phase {
     /// It waits for `initialize`.
     Fresh,
@@ -31,7 +31,7 @@ pub enum Phase {
 }
 
 /// Whether a session goes on.
-#[derive(Clone, Copy, Debug, Drop, PartialEq, Eq)]
+#[derive(Clone, Copy, Drop, PartialEq, Eq)]
 pub enum Flow {
     /// It goes on.
     GoesOn,

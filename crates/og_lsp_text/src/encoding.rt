@@ -4,7 +4,7 @@ ghost use Rattle.std.specs.Prelude.{◌≡◌, ◌≤◌};
 ghost use Rattle.og_lsp_text.specs.Positions.{unit, name_of};
 
 /// The units in which a position counts within its line.
-#[derive(Clone, Copy, Debug, Drop, PartialEq, Eq)]
+#[derive(Clone, Copy, Drop, PartialEq, Eq)]
 pub enum Encoding {
     /// Bytes.
     Utf8,

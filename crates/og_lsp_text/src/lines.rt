@@ -16,7 +16,7 @@ use std::marker::Model;
 pub const TEXT_LIMIT: usize = 16_777_216;
 
 /// A text with where its lines begin. Contracts see it as the text, whose bytes may be any.
-#[derive(Debug, Drop)]
+#[derive(Drop)]
 pub struct Lines<'a> {
     text: &'a [u8],
     // The place behind each byte that ends a line, in order.

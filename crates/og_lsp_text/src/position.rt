@@ -1,7 +1,7 @@
 //! Positions and ranges.
 
 /// A place of a text as the protocol has it.
-#[derive(Clone, Copy, Debug, Drop, PartialEq, Eq)]
+#[derive(Clone, Copy, Drop, PartialEq, Eq)]
 pub struct Position {
     /// The line, counted from 0.
     pub line: u32,
@@ -10,7 +10,7 @@ pub struct Position {
 }
 
 /// What stands between two positions.
-#[derive(Clone, Copy, Debug, Drop, PartialEq, Eq)]
+#[derive(Clone, Copy, Drop, PartialEq, Eq)]
 pub struct Range {
     /// In front of the first character.
     pub start: Position,

@@ -6,7 +6,7 @@ ghost use Rattle.og_parse.specs.declared.refusal.Refusal.TheVariants.{Memory};
 use std::alloc::{AllocError, AllocFailed};
 
 /// The fault at a token.
-#[derive(Clone, Copy, Debug, Drop, PartialEq, Eq)]
+#[derive(Clone, Copy, Drop, PartialEq, Eq)]
 pub enum FaultKind {
     /// No list of the grammar goes on with the token.
     Expected,
@@ -15,7 +15,7 @@ pub enum FaultKind {
 }
 
 /// Why a part was not read.
-#[derive(Clone, Copy, Debug, Drop, PartialEq, Eq)]
+#[derive(Clone, Copy, Drop, PartialEq, Eq)]
 pub enum Refusal {
     /// Memory ran out.
     Memory,

@@ -19,7 +19,7 @@ pub trait Gate: Sync {
 }
 
 /// A gate that does nothing.
-#[derive(Clone, Copy, Debug, Drop)]
+#[derive(Clone, Copy, Drop)]
 pub struct OpenGate;
 
 impl Gate for OpenGate {

@@ -3,7 +3,7 @@
 use og_cert::ReplayFault;
 
 /// The status of a condition. Condition and certificate determine it.
-#[derive(Clone, Copy, Debug, PartialEq, Eq)]
+#[derive(Clone, Copy, PartialEq, Eq)]
 pub enum Status {
     /// It has no certificate.
     Missing,

@@ -1,7 +1,7 @@
 //! How the program ends.
 
 /// How the program ends.
-#[derive(Clone, Copy, Debug, PartialEq, Eq)]
+#[derive(Clone, Copy, PartialEq, Eq)]
 pub struct Ended {
     /// The status.
     pub status: u8,

@@ -10,7 +10,7 @@ use std::alloc::{AllocError, AllocFailed};
 use std::io::{Error, ErrorKind};
 
 /// Why a file was not read.
-#[derive(Clone, Copy, Debug, PartialEq, Eq)]
+#[derive(Clone, Copy, PartialEq, Eq)]
 pub enum Why {
     /// There is none of this name.
     Missing,
@@ -47,7 +47,7 @@ impl Why {
 }
 
 /// Why a job cannot be done.
-#[derive(Clone, Copy, Debug, PartialEq, Eq)]
+#[derive(Clone, Copy, PartialEq, Eq)]
 pub enum Fault<'a> {
     /// The file of this name was not read; `-` is standard input.
     NotRead(&'a str, Why),

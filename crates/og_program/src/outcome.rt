@@ -6,7 +6,7 @@ use og_report_text::Answer;
 use std::alloc::AllocError;
 
 /// An answer, and what goes to standard error beside it.
-#[derive(Debug, Drop)]
+#[derive(Drop)]
 pub struct Report {
     /// What is printed, and the status.
     pub answer: Answer,
@@ -15,7 +15,7 @@ pub struct Report {
 }
 
 /// Certificates that were found, and what goes to standard error beside them.
-#[derive(Debug, Drop)]
+#[derive(Drop)]
 pub struct Certificates {
     /// The certificates, of which nothing is written yet.
     pub found: FoundCertificates,
@@ -25,7 +25,7 @@ pub struct Certificates {
 
 /// A word that gives no variable a value or a range, or a schedule or numbers of conditions that
 /// are no list of numbers, or a list with a number that no condition has.
-#[derive(Debug, Drop)]
+#[derive(Drop)]
 pub struct BadValue<'a> {
     /// The word.
     pub word: &'a str,
@@ -34,7 +34,7 @@ pub struct BadValue<'a> {
 }
 
 /// The outcome of a job.
-#[derive(Debug, Drop)]
+#[derive(Drop)]
 pub enum Outcome<'a> {
     /// An answer.
     Report(Report),

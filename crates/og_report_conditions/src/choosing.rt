@@ -16,7 +16,7 @@ use og_typed::{Outline, Source};
 use std::alloc::{AllocError, Global};
 
 /// The answer to a request for the conditions of a source.
-#[derive(Debug, Drop)]
+#[derive(Drop)]
 pub enum Reply<'a> {
     /// The listing, of which nothing is written yet.
     Listing(Listing),

@@ -1,7 +1,7 @@
 //! How conditions are listed.
 
 /// How conditions are listed.
-#[derive(Clone, Copy, Debug, PartialEq, Eq)]
+#[derive(Clone, Copy, PartialEq, Eq)]
 pub enum Form {
     /// Each with its facts.
     Facts,

@@ -20,7 +20,7 @@ use std::marker::Model;
 
 /// The listing of an outline's conditions, of which there are at most 4,000,000. Contracts see it
 /// as its text, of which no more is in memory than is written at a time.
-#[derive(Debug, Drop)]
+#[derive(Drop)]
 pub struct Listing {
     form: Form,
     // The numbers that are asked for; all, where none are given.

@@ -5,7 +5,7 @@ use og_cond::{Condition, Kind};
 use og_typed::{Index, Outline, Part, Stmt};
 
 /// Who a condition speaks of.
-#[derive(Clone, Copy, Debug, PartialEq, Eq)]
+#[derive(Clone, Copy, PartialEq, Eq)]
 pub struct Actors {
     /// Who makes the step.
     pub actor: Option<Part>,

@@ -4,7 +4,7 @@ use og_subst::Values;
 use og_typed::{Assert, Note, NoteSite, StatementSite};
 
 /// A test or a guard with its truth.
-#[derive(Clone, Copy, Debug)]
+#[derive(Clone, Copy)]
 pub struct Test<'a> {
     pub site: StatementSite<'a>,
     pub holds: bool,
@@ -12,7 +12,7 @@ pub struct Test<'a> {
 
 /// Where a process stands that has no step. The assertion there is true, but perhaps not where a
 /// run gets stuck.
-#[derive(Clone, Copy, Debug)]
+#[derive(Clone, Copy)]
 pub enum Stand<'a> {
     /// Before an await whose guard is false.
     Waits(StatementSite<'a>),
@@ -21,7 +21,7 @@ pub enum Stand<'a> {
 }
 
 /// What makes the condition false.
-#[derive(Debug, Drop)]
+#[derive(Drop)]
 pub enum Fault<'a> {
     /// These conjuncts of an assertion are false, after the action if there is one.
     False(&'a Note, Vec<&'a Assert>),
@@ -32,7 +32,7 @@ pub enum Fault<'a> {
 }
 
 /// Why a condition is false in a state.
-#[derive(Debug, Drop)]
+#[derive(Drop)]
 pub struct Explanation<'a> {
     /// The assertions among the hypotheses, which are true.
     pub known: Vec<&'a Note>,

@@ -5,7 +5,7 @@ use og_subst::Values;
 use og_typed::{Assert, Item, Note};
 
 /// What a step did.
-#[derive(Debug, Drop)]
+#[derive(Drop)]
 pub enum Effect {
     /// Its test came out so.
     Tested(bool),
@@ -14,7 +14,7 @@ pub enum Effect {
 }
 
 /// A step of a run.
-#[derive(Debug, Drop)]
+#[derive(Drop)]
 pub struct Row<'a> {
     /// The number of the process.
     pub process: u32,
@@ -26,7 +26,7 @@ pub struct Row<'a> {
 
 /// The violation at the end of a run. Processes have their numbers from 0; the main process has the
 /// number after the last.
-#[derive(Debug, Drop)]
+#[derive(Drop)]
 pub enum Fault<'a> {
     /// The assertion at which this process stands is false: these conjuncts of it are.
     Assertion(u32, &'a Note, Vec<&'a Assert>),
@@ -40,7 +40,7 @@ pub enum Fault<'a> {
 }
 
 /// A condition of the outline that is false.
-#[derive(Clone, Copy, Debug)]
+#[derive(Clone, Copy)]
 pub struct Blame {
     /// Its number, counted from 1.
     pub number: usize,
@@ -53,7 +53,7 @@ pub struct Blame {
 }
 
 /// The finding at the end of a run.
-#[derive(Debug, Drop)]
+#[derive(Drop)]
 pub struct Finding<'a> {
     /// The state at the start.
     pub start: Values,

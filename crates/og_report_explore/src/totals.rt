@@ -10,7 +10,7 @@ use og_text::Name;
 use std::alloc::AllocError;
 
 /// What an exploration says of the runs from its starts.
-#[derive(Clone, Copy, Debug, PartialEq, Eq)]
+#[derive(Clone, Copy, PartialEq, Eq)]
 pub enum Found {
     /// All was explored, and nothing was found.
     Yes,
@@ -21,7 +21,7 @@ pub enum Found {
 }
 
 /// What was explored.
-#[derive(Debug, Drop)]
+#[derive(Drop)]
 pub struct Totals {
     /// How many starts there were.
     pub starts: u64,

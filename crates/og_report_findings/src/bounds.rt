@@ -53,7 +53,7 @@ fn with_number(alloc: Global, numbers: &[i128], number: i128) -> Result<Vec<i128
 }
 
 // The numbers that a variable is assigned, rising; `None` where it is assigned anything else.
-#[derive(Debug, Drop)]
+#[derive(Drop)]
 struct Numbers {
     list: Option<Vec<i128>>,
 }

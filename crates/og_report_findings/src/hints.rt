@@ -72,7 +72,7 @@ fn put_hint(
 }
 
 /// The numbers that an outline assigns to each of its variables. Contracts see it as the outline.
-#[derive(Debug, Drop)]
+#[derive(Drop)]
 pub struct Hints<'a> {
     outline: &'a Outline,
     table: Vec<Option<Vec<i128>>>,

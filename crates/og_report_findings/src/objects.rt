@@ -1,8 +1,10 @@
 //! The report of all conditions of an outline, as JSON.
 
 ghost use Rattle.std.specs.Prelude.{◌≡◌, ◌<◌, ◌≤◌, ◌^◌, ◌∷◌, ◌++◌, [], length, map, true, IfOk, OnOk};
-ghost use Rattle.serde_json.specs.View.{view};
+ghost use Rattle.serde_json.specs.Data.{array};
+ghost use Rattle.serde_json.specs.View.{view, items_of};
 ghost use Rattle.og_cond.specs.Seen.{seen};
+ghost use Rattle.og_report_prove.specs.Json.{totals_data};
 ghost use Rattle.og_report_prove.specs.Report.{is_unblocked};
 ghost use Rattle.og_report_findings.specs.Says.{SaysNeverStuck};
 ghost use Rattle.og_report_findings.specs.Exact.{IsExactReport};
@@ -76,6 +78,29 @@ fn with_explored(
     }
 }
 
+// The totals, and those that are not proved.
+fn with_totals(
+    alloc: Global,
+    outline: &Outline,
+    origins: &Origins,
+    findings: Findings,
+) -> Result<Value, AllocError>
+    requires places { origins.now.places.now ≡ origins.now.source.now }
+    requires short { length origins.now.source.now ≤ 2 ^ 20 }
+    requires each { length findings.diagnoses.now ≡ length findings.conditions.now }
+    requires run { length findings.runs.now ≡ length findings.conditions.now }
+    requires few { length findings.diagnoses.now < 2 ^ 32 }
+    ensures { IfOk result (λ v. view v ≡ totals_data findings.entry.diagnoses.now
+        (array (items_of (map (entry_data outline.now origins.now.source.now findings.entry.explored)
+        (unproved_from 1 (map seen findings.entry.conditions.now) findings.entry.diagnoses.now
+        findings.entry.runs.now))))) }
+{
+    let unproved = findings.unproved(alloc)?;
+    let values = entry_values(alloc, outline, origins, findings.explored, &unproved)?;
+    let totals = totals_value(alloc, findings.diagnoses, list_value(values))?;
+    Ok(totals)
+}
+
 // The whole report.
 fn report_value(
     alloc: Global,
@@ -93,9 +118,7 @@ fn report_value(
         findings.entry.diagnoses.now findings.entry.runs.now) }
 {
     let (diagnoses, explored) = (findings.diagnoses, findings.explored);
-    let unproved = findings.unproved(alloc)?;
-    let values = entry_values(alloc, outline, origins, explored, &unproved)?;
-    let totals = totals_value(alloc, diagnoses, list_value(values))?;
+    let totals = with_totals(alloc, outline, origins, findings)?;
     let with_runs = with_explored(alloc, explored, findings.runs, totals)?;
     let words = Conclusion::of(diagnoses, explored).words();
     let verdict = Value::try_from_str(alloc, words)?;

@@ -1,6 +1,6 @@
 //! The order of the blocks.
 
-ghost use Rattle.std.specs.Prelude.{◌≡◌, filter, map, IfOk};
+ghost use Rattle.std.specs.Prelude.{◌≡◌, ◌++◌, [], ◌∷◌, if◌then◌else◌, filter, map, IfOk, OnOk};
 ghost use Rattle.og_report_findings.specs.Entries.{entry_of};
 ghost use Rattle.og_report_findings.specs.Order.{is_reached, is_never, is_open, in_order};
 
@@ -29,6 +29,21 @@ fn is_open(run: &Run) -> bool
     matches!(run, Run::Open)
 }
 
+// Adds an entry, if this is so.
+fn add_if<'e, 'c, 'd>(
+    chosen: &mut Vec<Entry<'e, 'c, 'd>>,
+    is: bool,
+    entry: Entry<'e, 'c, 'd>,
+) -> Result<(), AllocError>
+    ensures { OnOk result (chosen.new.items
+        ≡ chosen.old.items ++ (if is then entry.entry ∷ [] else [])) }
+{
+    if is {
+        chosen.push(entry)?;
+    }
+    Ok(())
+}
+
 // Those to which a run gets.
 fn reached<'e, 'c, 'd>(
     alloc: Global,
@@ -37,10 +52,9 @@ fn reached<'e, 'c, 'd>(
     ensures { IfOk result (λ v. v.items ≡ filter (λ e. is_reached e.run.now) entries.now) }
 {
     let mut chosen = Vec::new(alloc);
-    for entry in entries {
-        if is_reached(entry.run) {
-            chosen.push(*entry)?;
-        }
+    for index in 0..entries.len() {
+        let entry = entries[index];
+        add_if(&mut chosen, is_reached(entry.run), entry)?;
     }
     Ok(chosen)
 }
@@ -53,10 +67,9 @@ fn open<'e, 'c, 'd>(
     ensures { IfOk result (λ v. v.items ≡ filter (λ e. is_open e.run.now) entries.now) }
 {
     let mut chosen = Vec::new(alloc);
-    for entry in entries {
-        if is_open(entry.run) {
-            chosen.push(*entry)?;
-        }
+    for index in 0..entries.len() {
+        let entry = entries[index];
+        add_if(&mut chosen, is_open(entry.run), entry)?;
     }
     Ok(chosen)
 }
@@ -69,10 +82,9 @@ fn never<'e, 'c, 'd>(
     ensures { IfOk result (λ v. v.items ≡ filter (λ e. is_never e.run.now) entries.now) }
 {
     let mut chosen = Vec::new(alloc);
-    for entry in entries {
-        if is_never(entry.run) {
-            chosen.push(*entry)?;
-        }
+    for index in 0..entries.len() {
+        let entry = entries[index];
+        add_if(&mut chosen, is_never(entry.run), entry)?;
     }
     Ok(chosen)
 }

@@ -10,7 +10,7 @@ use serde_json::{Map, Value, put};
 use std::alloc::{AllocError, Global};
 
 /// Why a text is refused, and where.
-#[derive(Clone, Copy, Debug)]
+#[derive(Clone, Copy)]
 pub struct TextRefusal<'r> {
     /// The number of the refusal.
     pub number: u8,

@@ -6,7 +6,9 @@ ghost use Rattle.og_report_prove.specs.Report.{is_unblocked};
 ghost use Rattle.og_report_findings.specs.Says.{SaysNeverStuck};
 ghost use Rattle.og_report_findings.specs.Exact.{IsExactReport};
 ghost use Rattle.og_report_findings.specs.Told.{AreTold};
-ghost use Rattle.og_report_findings.specs.Causes.{item_of, groups_of};
+ghost use Rattle.og_report_findings.specs.Entries.{unproved_from};
+ghost use Rattle.og_report_findings.specs.Order.{in_order};
+ghost use Rattle.og_report_findings.specs.Causes.{item_of, groups_of, shown};
 ghost use Rattle.og_report_findings.specs.Suggested.{suggested, suggestion_lines};
 ghost use Rattle.og_report_findings.specs.Report.{run_part, false_text, item_text, group_text, each_text, groups_text, explored_part, end_text, report_text};
 
@@ -217,6 +219,46 @@ fn put_end(text: &mut Vec<u8>, findings: Findings) -> Result<(), AllocError>
     put_verdict(text, Conclusion::of(findings.diagnoses, findings.explored))
 }
 
+// Those of the conditions that are shown, in their order.
+fn items_of<'f, 'c, 'd>(
+    alloc: Global,
+    rows: Option<&Rows>,
+    findings: Findings<'f, 'c, 'd>,
+) -> Result<Vec<Item<'f, 'c, 'd>>, AllocError>
+    requires each { length findings.diagnoses.now ≡ length findings.conditions.now }
+    requires run { length findings.runs.now ≡ length findings.conditions.now }
+    requires few { length findings.diagnoses.now < 2 ^ 32 }
+    ensures { IfOk result (λ items. map item_of items.items
+        ≡ shown rows.entry (in_order (unproved_from 1 (map seen findings.entry.conditions.now)
+        findings.entry.diagnoses.now findings.entry.runs.now))) }
+{
+    let unproved = findings.unproved(alloc)?;
+    let ordered = in_order(alloc, &unproved)?;
+    let items = shown(alloc, rows, &ordered)?;
+    Ok(items)
+}
+
+// The blocks of these, and what stands behind them.
+fn text_with(
+    alloc: Global,
+    sheet: &Sheet,
+    findings: Findings,
+    items: &[Item],
+) -> Result<Vec<u8>, AllocError>
+    requires places { sheet.now.page.origins.now.places.now ≡ sheet.now.page.origins.now.source.now }
+    requires names { sheet.now.page.names.now ≡ sheet.now.hints.now.names }
+    ensures { IfOk result (λ text. text.items
+        ≡ groups_text sheet.now.hints.now sheet.now.explored sheet.now.advice.now
+        sheet.now.page.origins.now.source.now sheet.now.page.origins.now.rows
+        (map item_of items.now)
+        ++ end_text findings.entry.explored findings.entry.diagnoses.now findings.entry.runs.now) }
+{
+    let mut text = Vec::new(alloc);
+    sheet.put_groups(&mut text, items)?;
+    put_end(&mut text, findings)?;
+    Ok(text)
+}
+
 // The blocks, and what stands behind them.
 fn text_of(
     alloc: Global,
@@ -239,14 +281,10 @@ fn text_of(
         places: &places,
         rows,
     };
-    let unproved = findings.unproved(alloc)?;
-    let ordered = in_order(alloc, &unproved)?;
-    let items = shown(alloc, rows, &ordered)?;
+    let items = items_of(alloc, rows, findings)?;
     let hints = Hints::new(alloc, outline)?;
     let sheet = Sheet::new(&hints, &origins, findings);
-    let mut text = Vec::new(alloc);
-    sheet.put_groups(&mut text, &items)?;
-    put_end(&mut text, findings)?;
+    let text = text_with(alloc, &sheet, findings, &items)?;
     Ok(text)
 }
 

@@ -10,7 +10,7 @@ use og_typed::Assert;
 use std::alloc::AllocError;
 
 /// A conjunct for an assertion of the outline.
-#[derive(Clone, Copy, Debug)]
+#[derive(Clone, Copy)]
 pub struct Suggestion<'s> {
     /// The byte offset of the assertion, its `{`, in the outline's own text.
     pub at: u32,

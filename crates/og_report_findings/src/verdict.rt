@@ -10,7 +10,7 @@ use og_violation::Wrong;
 use std::alloc::AllocError;
 
 /// What the findings on all conditions of an outline come to.
-#[derive(Clone, Copy, Debug, PartialEq, Eq)]
+#[derive(Clone, Copy, PartialEq, Eq)]
 pub enum Conclusion {
     /// Every condition but the last is proved.
     Safe,

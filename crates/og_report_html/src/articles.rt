@@ -11,7 +11,7 @@ ghost use Rattle.og_report_html.specs.Findings.{finding_of};
 
 use crate::escapes::put_escaped;
 use crate::finding::Finding;
-use crate::links::put_twice;
+use crate::links::{put_between, put_twice};
 use crate::marks::{marked_place, shown_at};
 use crate::target::Target;
 use og_report_findings::{Entry, Hints};
@@ -93,9 +93,9 @@ fn put_article_start(text: &mut Vec<u8>, number: u128, finding: Finding) -> Resu
     ensures { OnOk result (text.new.items ≡ text.old.items ++ article_start number finding) }
 {
     put_number_between(text, b"<article id=c", number, b" class=")?;
-    finding.put_word(text)?;
+    text.extend_from_slice(finding.word())?;
     put_number_between(text, b"><h3>Condition ", number, b": ")?;
-    finding.put_word(text)?;
+    text.extend_from_slice(finding.word())?;
     text.extend_from_slice(b"</h3>\n<pre>")
 }
 
@@ -111,9 +111,7 @@ fn put_article_end(
         (links_text origins.now.source.now origins.now.rows (seen entry.entry.condition.now)
         entry.entry.diagnosis.now target.now)) }
 {
-    text.extend_from_slice(b"</pre>\n")?;
-    text.extend_from_slice(beneath)?;
-    text.extend_from_slice(b"<p>")?;
+    put_between(text, b"</pre>\n", beneath, b"<p>")?;
     put_links(text, origins, entry, target)?;
     text.extend_from_slice(b"</p></article>\n")
 }

@@ -9,7 +9,7 @@ use og_text::Span;
 use std::alloc::{AllocError, Global};
 
 /// An assertion in a text.
-#[derive(Debug, Drop)]
+#[derive(Drop)]
 pub(crate) struct Claim {
     /// The byte offset of its `{`.
     pub(crate) at: u32,

@@ -77,7 +77,7 @@ fn extended(conjunct: Option<Span>, at: u32) -> Span
 }
 
 /// How far an assertion was read.
-#[derive(Clone, Copy, Debug, PartialEq, Eq)]
+#[derive(Clone, Copy, PartialEq, Eq)]
 pub(crate) struct Cut {
     /// Within a comment.
     pub(crate) comment: bool,

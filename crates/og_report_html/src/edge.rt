@@ -22,7 +22,7 @@ use og_typed::Note;
 use std::alloc::{AllocError, Global};
 
 /// What begins or ends.
-#[derive(Clone, Copy, Debug, PartialEq, Eq)]
+#[derive(Clone, Copy, PartialEq, Eq)]
 pub(crate) enum Edge {
     /// What all assertions share begins.
     Shared,
@@ -35,7 +35,7 @@ pub(crate) enum Edge {
 }
 
 /// What begins or ends before the byte at an offset.
-#[derive(Clone, Copy, Debug, PartialEq, Eq)]
+#[derive(Clone, Copy, PartialEq, Eq)]
 pub(crate) struct Boundary {
     /// The byte offset.
     pub(crate) at: u32,

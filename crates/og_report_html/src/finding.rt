@@ -1,13 +1,12 @@
 //! The finding on a condition that is not proved.
 
-ghost use Rattle.std.specs.Prelude.{◌≡◌, ◌++◌, OnOk};
+ghost use Rattle.std.specs.Prelude.{◌≡◌};
 ghost use Rattle.og_report_html.specs.Findings.{finding_of, is_found, word, sign};
 
 use og_report_prove::Diagnosis;
-use std::alloc::AllocError;
 
 /// The finding on a condition that is not proved.
-#[derive(Clone, Copy, Debug, PartialEq, Eq, Drop)]
+#[derive(Clone, Copy, PartialEq, Eq, Drop)]
 pub(crate) enum Finding {
     /// It is false in a state.
     False,
@@ -37,23 +36,23 @@ impl Finding {
         }
     }
 
-    /// Adds the word for it.
-    pub(crate) fn put_word(self, text: &mut Vec<u8>) -> Result<(), AllocError>
-        ensures { OnOk result (text.new.items ≡ text.old.items ++ word self) }
+    /// The word for it.
+    pub(crate) fn word(self) -> &'static [u8]
+        ensures { result.now ≡ word self }
     {
         match self {
-            Finding::False => text.extend_from_slice(b"false"),
-            Finding::Open => text.extend_from_slice(b"open"),
+            Finding::False => b"false",
+            Finding::Open => b"open",
         }
     }
 
-    /// Adds the sign for it.
-    pub(crate) fn put_sign(self, text: &mut Vec<u8>) -> Result<(), AllocError>
-        ensures { OnOk result (text.new.items ≡ text.old.items ++ sign self) }
+    /// The sign for it.
+    pub(crate) fn sign(self) -> &'static [u8]
+        ensures { result.now ≡ sign self }
     {
         match self {
-            Finding::False => text.extend_from_slice(b"&#10007;"),
-            Finding::Open => text.extend_from_slice(b"?"),
+            Finding::False => b"&#10007;",
+            Finding::Open => b"?",
         }
     }
 }

@@ -5,6 +5,7 @@ ghost use Rattle.og_report_html.specs.Table.{each_text};
 ghost use Rattle.og_report_html.specs.Lanes.{gap, lane_head, numbered, main_head, head_row, wide_row, skipped_row, step_cell, lane_cells, sets_cell, step_row, end_row};
 
 use crate::escapes::put_escaped;
+use crate::links::put_between;
 use og_report_explore::{Row, put_did};
 use og_report_text::{put_number, put_number_between, put_quote};
 use og_text::Name;
@@ -81,13 +82,9 @@ pub(crate) fn put_wide(
 ) -> Result<(), AllocError>
     ensures { OnOk result (text.new.items ≡ text.old.items ++ wide_row class.now lanes line.now) }
 {
-    text.extend_from_slice(b"<tr class=")?;
-    text.extend_from_slice(class)?;
-    text.extend_from_slice(b"><td><td colspan=")?;
+    put_between(text, b"<tr class=", class, b"><td><td colspan=")?;
     put_number(text, lanes as u128 + 1)?;
-    text.extend_from_slice(b">")?;
-    text.extend_from_slice(line)?;
-    text.extend_from_slice(b"</tr>\n")
+    put_between(text, b">", line, b"</tr>\n")
 }
 
 /// Adds how many steps are not shown, if there are some.
@@ -98,8 +95,7 @@ pub(crate) fn put_skipped(text: &mut Vec<u8>, lanes: usize, count: usize) -> Res
         return Ok(());
     }
     let mut line = Vec::new(*text.allocator());
-    put_number(&mut line, count as u128)?;
-    line.extend_from_slice(b" steps")?;
+    put_number_between(&mut line, b"", count as u128, b" steps")?;
     put_wide(text, b"faint", lanes, &line)
 }
 
@@ -176,8 +172,11 @@ pub(crate) fn put_end(text: &mut Vec<u8>, lanes: usize, condition: u128) -> Resu
     ensures { OnOk result (text.new.items ≡ text.old.items ++ end_row lanes condition) }
 {
     let mut line = Vec::new(*text.allocator());
-    line.extend_from_slice(b"&#10007; condition ")?;
-    put_number(&mut line, condition)?;
-    line.extend_from_slice(b" is false here")?;
+    put_number_between(
+        &mut line,
+        b"&#10007; condition ",
+        condition,
+        b" is false here",
+    )?;
     put_wide(text, b"here", lanes, &line)
 }

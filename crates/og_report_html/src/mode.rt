@@ -4,7 +4,7 @@ ghost use Rattle.std.specs.Prelude.{◌≡◌, ◌<◌, ◌^◌, false};
 ghost use Rattle.og_report_html.specs.Source.{mode_from, next, is_assertion, is_comment, is_statement, begins, line_after, next_spot, first_spot};
 
 /// What a byte stands in.
-#[derive(Clone, Copy, Debug, PartialEq, Eq, Drop)]
+#[derive(Clone, Copy, PartialEq, Eq, Drop)]
 pub(crate) enum Mode {
     /// Nothing that is marked.
     Text,
@@ -113,7 +113,7 @@ impl Mode {
 }
 
 /// Where a byte stands.
-#[derive(Clone, Copy, Debug, PartialEq, Eq, Drop)]
+#[derive(Clone, Copy, PartialEq, Eq, Drop)]
 pub(crate) struct Spot {
     /// The line, counted from 1.
     pub(crate) line: u32,

@@ -7,7 +7,7 @@ ghost use Rattle.og_report_html.specs.Numbers.{number_link, number_where, number
 
 use crate::constants::{ALL_PROVED, BEFORE_BLOCKS};
 use crate::finding::Finding;
-use crate::links::put_twice;
+use crate::links::{put_between, put_twice};
 use og_report_prove::{Diagnosis, is_safe, is_unblocked};
 use std::alloc::AllocError;
 
@@ -56,10 +56,8 @@ fn put_numbers_line(
 ) -> Result<(), AllocError>
     ensures { OnOk result (text.new.items ≡ text.old.items ++ numbers_line finding diagnoses.now) }
 {
-    text.extend_from_slice(b"<p>")?;
-    finding.put_sign(text)?;
-    text.extend_from_slice(b" ")?;
-    finding.put_word(text)?;
+    put_between(text, b"<p>", finding.sign(), b" ")?;
+    text.extend_from_slice(finding.word())?;
     text.extend_from_slice(b":")?;
     put_number_links(text, finding, diagnoses)?;
     text.extend_from_slice(b"</p>\n")

@@ -9,7 +9,7 @@ use crate::charting::chart;
 use crate::escapes::{is_utf8, put_escaped};
 use og_report_prove::Diagnosis;
 use og_report_runs::{Explored, Run, count_reached, put_run_line};
-use og_report_text::put_number;
+use og_report_text::{put_number, put_number_between};
 use og_typed::Outline;
 use std::alloc::{AllocError, Global};
 
@@ -122,9 +122,12 @@ fn put_complete(text: &mut Vec<u8>, complete: bool) -> Result<(), AllocError>
 fn put_followed(text: &mut Vec<u8>, explored: Explored) -> Result<(), AllocError>
     ensures { OnOk result (text.new.items ≡ text.old.items ++ followed_text explored) }
 {
-    text.extend_from_slice(b"<p>Runs: starts: ")?;
-    put_number(text, u128::from(explored.starts))?;
-    text.extend_from_slice(b", moments: ")?;
+    put_number_between(
+        text,
+        b"<p>Runs: starts: ",
+        u128::from(explored.starts),
+        b", moments: ",
+    )?;
     put_number(text, u128::from(explored.moments))?;
     put_complete(text, explored.complete)
 }
@@ -139,8 +142,11 @@ pub fn about(alloc: Global, explored: Explored, runs: &[Run]) -> Result<Vec<u8>,
 {
     let mut text = Vec::new(alloc);
     put_followed(&mut text, explored)?;
-    text.extend_from_slice(b", reached: ")?;
-    put_number(&mut text, count_reached(runs) as u128)?;
-    text.extend_from_slice(b"</p>\n")?;
+    put_number_between(
+        &mut text,
+        b", reached: ",
+        count_reached(runs) as u128,
+        b"</p>\n",
+    )?;
     Ok(text)
 }

@@ -8,7 +8,7 @@ ghost use Rattle.og_report_html.specs.Source.{link_start, assertion_start, state
 use crate::constants::SHARED_WORD;
 use crate::edge::{Boundary, Edge};
 use crate::escapes::put_byte;
-use crate::links::put_twice;
+use crate::links::{put_between, put_twice};
 use crate::marks::{Mark, Marks};
 use crate::mode::{Mode, Spot};
 use og_report_text::put_number;
@@ -18,9 +18,7 @@ use std::alloc::AllocError;
 fn put_link(text: &mut Vec<u8>, class: &[u8], number: u128) -> Result<(), AllocError>
     ensures { OnOk result (text.new.items ≡ text.old.items ++ link_start class.now number) }
 {
-    text.extend_from_slice(b"<a class=")?;
-    text.extend_from_slice(class)?;
-    text.extend_from_slice(b" href=#c")?;
+    put_between(text, b"<a class=", class, b" href=#c")?;
     put_number(text, number)?;
     text.extend_from_slice(b">")
 }
@@ -119,9 +117,7 @@ fn put_line_start(text: &mut Vec<u8>, spot: Spot) -> Result<(), AllocError>
 fn put_fold(text: &mut Vec<u8>) -> Result<(), AllocError>
     ensures { OnOk result (text.new.items ≡ text.old.items ++ edge_text Edge.Shared) }
 {
-    text.extend_from_slice(b"<label for=shared>")?;
-    text.extend_from_slice(SHARED_WORD)?;
-    text.extend_from_slice(b"</label><u>")
+    put_between(text, b"<label for=shared>", SHARED_WORD, b"</label><u>")
 }
 
 // What begins or ends within an assertion.

@@ -7,13 +7,14 @@ ghost use Rattle.og_report_html.specs.Table.{disturbance_of, disturbances_from, 
 
 use crate::constants::{AFTER_TABLE, BEFORE_TABLE, MOST_PROCESSES};
 use crate::finding::Finding;
+use crate::links::put_between;
 use crate::target::{Interference, Target};
 use og_report_prove::Diagnosis;
-use og_report_text::put_number;
+use og_report_text::{put_number, put_number_between};
 use std::alloc::{AllocError, Global};
 
 /// A condition of interference that is not proved.
-#[derive(Clone, Copy, Debug, PartialEq, Eq, Drop)]
+#[derive(Clone, Copy, PartialEq, Eq, Drop)]
 pub(crate) struct Disturbance {
     /// The condition's number, from 1.
     pub(crate) number: u128,
@@ -22,7 +23,7 @@ pub(crate) struct Disturbance {
 }
 
 /// What of a process a condition of interference is about.
-#[derive(Clone, Copy, Debug, PartialEq, Eq)]
+#[derive(Clone, Copy, PartialEq, Eq)]
 pub(crate) enum Role {
     /// Its step.
     Actor,
@@ -128,13 +129,9 @@ fn put_count(
 ) -> Result<(), AllocError>
     ensures { OnOk result (text.new.items ≡ text.old.items ++ count_text finding first count) }
 {
-    text.extend_from_slice(b"<a class=")?;
-    finding.put_word(text)?;
-    text.extend_from_slice(b" href=#c")?;
+    put_between(text, b"<a class=", finding.word(), b" href=#c")?;
     put_number(text, first)?;
-    text.extend_from_slice(b">")?;
-    finding.put_sign(text)?;
-    text.extend_from_slice(b" ")?;
+    put_between(text, b">", finding.sign(), b" ")?;
     put_number(text, count as u128)?;
     text.extend_from_slice(b"</a> ")
 }
@@ -160,24 +157,41 @@ struct Disturbances<'a> {
     unknown: &'a [Disturbance],
 }
 
+// How many of these are on assertions of this process.
+fn put_share_on(
+    text: &mut Vec<u8>,
+    finding: Finding,
+    disturbances: &[Disturbance],
+    process: usize,
+) -> Result<(), AllocError>
+    ensures { OnOk result (text.new.items ≡ text.old.items
+        ++ share_text finding (filter (is_on process) disturbances.now)) }
+{
+    let those = those_of(*text.allocator(), disturbances, Role::Other, process)?;
+    put_share(text, finding, &those)
+}
+
 impl Disturbances<'_> {
     // Of steps of one process, those on assertions of another.
     fn put_cell(&self, text: &mut Vec<u8>, process: usize) -> Result<(), AllocError>
         ensures { OnOk result (text.new.items ≡ text.old.items
             ++ cell_text self.now.wrong.now self.now.unknown.now process) }
     {
-        let alloc = *text.allocator();
-        let wrong = those_of(alloc, self.wrong, Role::Other, process)?;
-        let unknown = those_of(alloc, self.unknown, Role::Other, process)?;
         text.extend_from_slice(b"<td>")?;
-        put_share(text, Finding::False, &wrong)?;
-        put_share(text, Finding::Open, &unknown)
+        put_share_on(text, Finding::False, self.wrong, process)?;
+        put_share_on(text, Finding::Open, self.unknown, process)
     }
 
-    // The row of a process.
-    fn put_row(&self, text: &mut Vec<u8>, count: usize, process: usize) -> Result<(), AllocError>
+    // The cells of those of steps of a process.
+    fn put_cells_of(
+        &self,
+        text: &mut Vec<u8>,
+        count: usize,
+        process: usize,
+    ) -> Result<(), AllocError>
         ensures { OnOk result (text.new.items ≡ text.old.items
-            ++ row_text count self.now.wrong.now self.now.unknown.now process) }
+            ++ cells_text (filter (is_by process) self.now.wrong.now)
+            (filter (is_by process) self.now.unknown.now) count) }
     {
         let alloc = *text.allocator();
         let wrong = those_of(alloc, self.wrong, Role::Actor, process)?;
@@ -186,10 +200,16 @@ impl Disturbances<'_> {
             wrong: &wrong,
             unknown: &unknown,
         };
-        text.extend_from_slice(b"<tr><th scope=row>")?;
-        put_number(text, process as u128 + 1)?;
-        text.extend_from_slice(b"</th>")?;
-        put_cells(text, disturbances, count)?;
+        put_cells(text, disturbances, count)
+    }
+
+    // The row of a process.
+    fn put_row(&self, text: &mut Vec<u8>, count: usize, process: usize) -> Result<(), AllocError>
+        ensures { OnOk result (text.new.items ≡ text.old.items
+            ++ row_text count self.now.wrong.now self.now.unknown.now process) }
+    {
+        put_number_between(text, b"<tr><th scope=row>", process as u128 + 1, b"</th>")?;
+        self.put_cells_of(text, count, process)?;
         text.extend_from_slice(b"</tr>\n")
     }
 }
@@ -238,9 +258,13 @@ fn put_column_heads(text: &mut Vec<u8>, count: usize) -> Result<(), AllocError>
 fn put_head(text: &mut Vec<u8>, count: usize) -> Result<(), AllocError>
     ensures { OnOk result (text.new.items ≡ text.old.items ++ head_rows count) }
 {
-    text.extend_from_slice(b"<tr><th rowspan=2>steps of<th colspan=")?;
-    put_number(text, count as u128)?;
-    text.extend_from_slice(b">assertions of process</tr>\n<tr>")?;
+    let steps_of = b"<tr><th rowspan=2>steps of<th colspan=";
+    put_number_between(
+        text,
+        steps_of,
+        count as u128,
+        b">assertions of process</tr>\n<tr>",
+    )?;
     put_column_heads(text, count)?;
     text.extend_from_slice(b"</tr>\n")
 }

@@ -11,7 +11,7 @@ use og_typed::{Index, Outline, Part};
 use std::alloc::{AllocError, Global};
 
 /// Whose step may make whose assertion false. Processes are counted from 0.
-#[derive(Clone, Copy, Debug, PartialEq, Eq, Drop)]
+#[derive(Clone, Copy, PartialEq, Eq, Drop)]
 pub struct Interference {
     /// The process whose step it is.
     pub actor: u32,
@@ -20,7 +20,7 @@ pub struct Interference {
 }
 
 /// Where the finding on a condition belongs.
-#[derive(Clone, Copy, Debug, PartialEq, Eq, Drop)]
+#[derive(Clone, Copy, PartialEq, Eq, Drop)]
 pub struct Target {
     /// The byte offset of the assertion to which the condition leads; of a range and of blocking
     /// the condition's own place.

@@ -3,6 +3,7 @@
 ghost use Rattle.std.specs.Prelude.{◌≡◌, ◌++◌, OnOk};
 ghost use Rattle.og_report_html.specs.Totals.{number_item, yes_item, answer_item, totals_items};
 
+use crate::links::put_between;
 use og_report_prove::{Diagnosis, Totals, is_safe, is_unblocked};
 use og_report_text::put_number;
 use std::alloc::AllocError;
@@ -10,9 +11,7 @@ use std::alloc::AllocError;
 fn put_number_item(text: &mut Vec<u8>, word: &[u8], number: usize) -> Result<(), AllocError>
     ensures { OnOk result (text.new.items ≡ text.old.items ++ number_item word.now number) }
 {
-    text.extend_from_slice(b"<li>")?;
-    text.extend_from_slice(word)?;
-    text.extend_from_slice(b" <b>")?;
+    put_between(text, b"<li>", word, b" <b>")?;
     put_number(text, number as u128)?;
     text.extend_from_slice(b"</b></li>\n")
 }

@@ -17,7 +17,7 @@ use std::alloc::AllocError;
 
 /// The report of a condition that is false in a state. A list has room for one for each condition,
 /// so all but the state stands elsewhere.
-#[derive(Debug, Drop)]
+#[derive(Drop)]
 pub struct Block<'a> {
     /// The state.
     pub values: Values,
@@ -25,7 +25,7 @@ pub struct Block<'a> {
 }
 
 /// The rest of the report beside the state.
-#[derive(Debug, Drop)]
+#[derive(Drop)]
 pub struct Details<'a> {
     pub kind: Kind,
     pub actors: Actors,

@@ -22,7 +22,7 @@ use og_typed::{Index, Note, Outline};
 use std::alloc::{AllocError, Global};
 
 /// The finding on a condition.
-#[derive(Debug, Drop)]
+#[derive(Drop)]
 pub enum Diagnosis<'a> {
     /// It is true in every state.
     Proved,
@@ -87,6 +87,58 @@ fn fault_numbers(alloc: Global, explanation: &Explanation) -> Result<Vec<usize>,
     }
 }
 
+// The variables whose values are printed.
+#[derive(Drop)]
+struct Printed {
+    focus: Vec<u32>,
+    state: Vec<u32>,
+    besides: Vec<u32>,
+    initial: Vec<u32>,
+    assigned: Vec<u32>,
+}
+
+// Those whose values are printed first, and then those of the others.
+fn state_of(
+    alloc: Global,
+    condition: &Condition,
+    focus: &Vars,
+) -> Result<(Vec<u32>, Vec<u32>), AllocError> {
+    let all = Vars::of_condition(alloc, condition)?;
+    all.shown_first(alloc, focus)
+}
+
+// Those of the false conjuncts, and then those of the state.
+fn focus_of(
+    alloc: Global,
+    condition: &Condition,
+    explanation: &Explanation,
+) -> Result<(Vec<u32>, (Vec<u32>, Vec<u32>)), AllocError> {
+    let mut focus = Vars::of_fault(alloc, condition, &explanation.fault)?;
+    let vars = focus.list(alloc)?;
+    focus.add_tests(explanation);
+    let state = state_of(alloc, condition, &focus)?;
+    Ok((vars, state))
+}
+
+// All of them.
+fn printed_of(
+    alloc: Global,
+    outline: &Outline,
+    condition: &Condition,
+    explanation: &Explanation,
+) -> Result<Printed, AllocError> {
+    let initial = initial(alloc, outline, explanation.starts)?;
+    let assigned = assigned(alloc, condition.variables, &condition.action)?;
+    let (focus, (state, besides)) = focus_of(alloc, condition, explanation)?;
+    Ok(Printed {
+        focus,
+        state,
+        besides,
+        initial,
+        assigned,
+    })
+}
+
 // The rest of the block of a condition, by what explains that it is false, and the numbers of the
 // false conjuncts.
 fn details_of<'a>(
@@ -101,18 +153,19 @@ fn details_of<'a>(
         × (d.value.explanation ≡ explanation.entry)
         × (d.value.conjuncts.items ≡ conjuncts.items)) }
 {
-    let mut focus = Vars::of_fault(alloc, condition, &explanation.fault)?;
-    let vars = focus.list(alloc)?;
-    focus.add_tests(&explanation);
-    let (state, besides) = Vars::of_condition(alloc, condition)?.shown_first(alloc, &focus)?;
-    let initial = initial(alloc, outline, explanation.starts)?;
-    let assigned = assigned(alloc, condition.variables, &condition.action)?;
+    let Printed {
+        focus,
+        state,
+        besides,
+        initial,
+        assigned,
+    } = printed_of(alloc, outline, condition, &explanation)?;
     let details = Details {
         kind: condition.kind,
         actors: Actors::of(outline, index, condition),
         explanation,
         conjuncts,
-        focus: vars,
+        focus,
         state,
         besides,
         initial,

@@ -9,7 +9,7 @@ use og_typed::{Assert, Basic, Item, Stmt};
 use std::alloc::{AllocError, Global};
 
 /// Some of the variables.
-#[derive(Debug, Drop)]
+#[derive(Drop)]
 pub(crate) struct Vars {
     count: u32,
     flags: Vec<bool>,

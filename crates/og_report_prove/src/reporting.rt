@@ -185,7 +185,7 @@ impl<'a> Diagnosis<'a> {
 }
 
 /// How many conditions are reported as proved, as false and as open.
-#[derive(Clone, Copy, Debug, PartialEq, Eq)]
+#[derive(Clone, Copy, PartialEq, Eq)]
 pub struct Totals {
     /// How many are proved.
     pub proved: usize,

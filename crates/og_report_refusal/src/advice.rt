@@ -16,7 +16,7 @@ use og_typed::{SourceFault, TypeFault};
 use std::alloc::{AllocError, Global};
 
 /// How a source and its certificates are named.
-#[derive(Clone, Copy, Debug, PartialEq, Eq)]
+#[derive(Clone, Copy, PartialEq, Eq)]
 pub struct Names<'a> {
     /// The source.
     pub source: &'a str,
@@ -63,7 +63,7 @@ fn template_hint(fault: &InputFault, source: &[u8]) -> Option<Hint> {
 }
 
 /// Why a text is refused, and what to write.
-#[derive(Debug, Drop)]
+#[derive(Drop)]
 pub struct Advice {
     /// Why.
     pub reason: Vec<u8>,

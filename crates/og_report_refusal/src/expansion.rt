@@ -65,7 +65,7 @@ fn undeclared(fault: &ExpandFault) -> Option<u32> {
 }
 
 /// A template of which nothing is printed.
-#[derive(Clone, Copy, Debug)]
+#[derive(Clone, Copy)]
 pub struct Refused<'r> {
     /// The name of the template.
     pub name: &'r str,

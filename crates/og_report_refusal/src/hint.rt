@@ -4,7 +4,7 @@ ghost use Rattle.std.specs.Prelude.{IsTrue};
 ghost use Rattle.og_report_refusal.specs.Advice.{is_one_line};
 
 /// Advice for what people write from other languages.
-#[derive(Clone, Copy, Debug, PartialEq, Eq)]
+#[derive(Clone, Copy, PartialEq, Eq)]
 pub(crate) enum Hint {
     WriteAssign,
     WriteEqual,

@@ -10,7 +10,7 @@ use og_typed::Outline;
 use std::alloc::{AllocError, Global};
 
 /// What the words of a command give to variables.
-#[derive(Clone, Copy, Debug, PartialEq, Eq)]
+#[derive(Clone, Copy, PartialEq, Eq)]
 pub enum Gives {
     /// `NAME=INT`: a value.
     Values,

@@ -16,7 +16,7 @@ use std::alloc::{AllocError, Global};
 const MOST_STEPS: usize = 40;
 
 /// How far an exploration went.
-#[derive(Clone, Copy, Debug)]
+#[derive(Clone, Copy)]
 pub struct Explored {
     /// How many starts there are among the moments.
     pub starts: u32,

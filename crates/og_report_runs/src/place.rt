@@ -3,7 +3,7 @@
 use og_typed::{NoteSite, StatementSite};
 
 /// Where processes stand at a moment at which a condition matters.
-#[derive(Clone, Copy, Debug)]
+#[derive(Clone, Copy)]
 pub enum Place<'a> {
     /// A process stands before this statement.
     Before(StatementSite<'a>),

@@ -11,7 +11,7 @@ use og_typed::SourceError;
 use std::alloc::{AllocError, Global};
 
 /// The printed text, and the status with which the program ends.
-#[derive(Debug, Drop)]
+#[derive(Drop)]
 pub struct Answer {
     /// The printed text.
     pub text: Vec<u8>,

@@ -8,7 +8,7 @@ use std::alloc::{AllocError, Global};
 use std::marker::Model;
 
 /// A line and a column, both counted from 1. A column counts bytes.
-#[derive(Clone, Copy, Debug, PartialEq, Eq)]
+#[derive(Clone, Copy, PartialEq, Eq)]
 pub struct Position {
     /// The line.
     pub line: u32,
@@ -17,7 +17,7 @@ pub struct Position {
 }
 
 /// A source, by whose line starts places are found fast. Contracts see it as the source.
-#[derive(Debug, Drop)]
+#[derive(Drop)]
 pub struct Places<'a> {
     source: &'a [u8],
     index: LineIndex<'a>,

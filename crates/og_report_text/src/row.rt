@@ -3,7 +3,7 @@
 use std::collections::BTreeMap;
 
 /// Where a note, a statement or `cobegin` of an expanded outline comes from.
-#[derive(Debug, Drop)]
+#[derive(Drop)]
 pub struct Row {
     /// The byte offset in the template.
     pub from: u32,

@@ -42,7 +42,7 @@ impl Access {
 
 /// The variables that other processes use and a step both reads and writes, reads alone, and writes
 /// alone.
-#[derive(Debug, Drop)]
+#[derive(Drop)]
 struct Accesses {
     both: Vec<u32>,
     reads: Vec<u32>,

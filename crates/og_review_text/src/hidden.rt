@@ -7,7 +7,7 @@ use og_report_text::{Places, put_position};
 use std::alloc::AllocError;
 
 /// Where a reader of a text is.
-#[derive(Clone, Copy, Debug, PartialEq, Eq)]
+#[derive(Clone, Copy, PartialEq, Eq)]
 pub(crate) enum Inside {
     /// In no comment.
     Code,

@@ -11,7 +11,7 @@ use og_typed::{Assert, Basic, Stmt};
 use std::alloc::{AllocError, Global};
 
 /// What machines have as one instruction.
-#[derive(Clone, Copy, Debug, PartialEq, Eq)]
+#[derive(Clone, Copy, PartialEq, Eq)]
 pub(crate) enum Idiom {
     FetchAndAdd,
     TestAndSet,

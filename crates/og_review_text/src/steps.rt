@@ -11,7 +11,7 @@ use og_typed::{Basic, Part, Stmt};
 use std::alloc::{AllocError, Global};
 
 /// How a step uses a variable that other processes use.
-#[derive(Clone, Copy, Debug, PartialEq, Eq)]
+#[derive(Clone, Copy, PartialEq, Eq)]
 pub(crate) enum Access {
     ReadsAndWrites,
     Reads,

@@ -9,7 +9,7 @@ use std::alloc::{AllocError, Global};
 
 /// A statement of a part of a program, for the step that it begins with: the assignment, the test,
 /// or the whole `await`.
-#[derive(Clone, Copy, Debug)]
+#[derive(Clone, Copy)]
 pub struct Step<'a> {
     pub part: Part,
     pub item: &'a Item,
@@ -17,7 +17,7 @@ pub struct Step<'a> {
 
 /// A place of a part of a program: an assertion, and the statement behind it, which the last
 /// assertion of a sequence lacks.
-#[derive(Clone, Copy, Debug)]
+#[derive(Clone, Copy)]
 pub struct Point<'a> {
     pub part: Part,
     pub note: &'a Note,
@@ -25,7 +25,7 @@ pub struct Point<'a> {
 }
 
 /// Places and steps, each in text order.
-#[derive(Debug, Drop)]
+#[derive(Drop)]
 pub struct Walk<'a> {
     pub points: Vec<Point<'a>>,
     pub steps: Vec<Step<'a>>,

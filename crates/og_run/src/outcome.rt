@@ -3,7 +3,7 @@
 use og_linear::State;
 
 /// How a run ends: the first that is true of its last moment, in this order.
-#[derive(Clone, Copy, Debug, Drop, PartialEq, Eq)]
+#[derive(Clone, Copy, Drop, PartialEq, Eq)]
 pub enum Finish {
     /// No process has anything left to do.
     Finished,
@@ -17,7 +17,7 @@ pub enum Finish {
 }
 
 /// What a run came to.
-#[derive(Debug, Drop)]
+#[derive(Drop)]
 pub struct Outcome {
     /// How it ended.
     pub finish: Finish,

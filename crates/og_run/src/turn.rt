@@ -2,7 +2,7 @@
 
 /// What came of an act of a process: the first that applies, in this order. `Waits` and `Moved`
 /// come last in the order of the checks, and only `Moved` changes the history.
-#[derive(Clone, Copy, Debug, Drop, PartialEq, Eq)]
+#[derive(Clone, Copy, Drop, PartialEq, Eq)]
 pub enum RunTurn {
     /// A process overflows: a value of its next action is outside the range of `i64`. From then on
     /// every turn is this one.

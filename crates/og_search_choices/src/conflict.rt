@@ -100,13 +100,23 @@ fn all_variables(open: &[Open]) -> Variables {
 // Whether a variable has coefficients of different signs in the two lists of terms: else their sum
 // is no greater, at its least, than what the two are by themselves.
 fn may_cancel(a: &[Term], b: &[Term]) -> bool {
-    a.iter().any(|x| has_opposite(b, *x))
+    for term in a {
+        if has_opposite(b, *term) {
+            return true;
+        }
+    }
+    false
 }
 
 // Whether the variable has a coefficient of the other sign among the terms.
 fn has_opposite(terms: &[Term], own: Term) -> bool {
     let is_above = own.coefficient > 0;
-    terms.iter().any(|term| term.var == own.var && (term.coefficient > 0) != is_above)
+    for term in terms {
+        if term.var == own.var && (term.coefficient > 0) != is_above {
+            return true;
+        }
+    }
+    false
 }
 
 impl Facts<'_> {
@@ -119,13 +129,18 @@ impl Facts<'_> {
             let Some(number) = walk.step() else {
                 break;
             };
-            if let Some(fact) = self.own.get(number) {
-                if fact.is_at_odds(atom) {
-                    best = Some(self.better(best, fact.index));
-                }
-            }
+            best = self.better_by(best, number, atom);
         }
         best
+    }
+
+    // The better one of this place and that of the own fact with this number, where the inequality
+    // is at odds with it.
+    fn better_by(&self, best: Option<usize>, number: usize, atom: &Atom) -> Option<usize> {
+        match self.own.get(number) {
+            Some(fact) if fact.is_at_odds(atom) => Some(self.better(best, fact.index)),
+            _ => best,
+        }
     }
 
     // That place of the two that stands near, the first one where both do or neither.
@@ -237,19 +252,21 @@ impl Facts<'_> {
 
     // Whether an inequality of the part is at odds with the known facts.
     fn has_conflict(&self, part: &Part, reach: Reach) -> bool {
-        if part.atoms.iter().any(|atom| self.is_near_conflict(atom)) {
-            return true;
+        for atom in &part.atoms {
+            if self.is_near_conflict(atom) {
+                return true;
+            }
         }
         match reach {
             Reach::Near => false,
-            Reach::Rows => part.atoms.iter().any(|atom| self.row_cause(atom).is_some()),
+            Reach::Rows => self.conflict_with_row(part).is_some(),
         }
     }
 
     // Whether an inequality of the part is at odds with one that is assumed.
     fn is_denied(&self, part: &Part) -> bool {
         match self.assumed {
-            Some(assumed) => part.atoms.iter().any(|atom| assumed.is_at_odds(atom)),
+            Some(assumed) => assumed.contradicts(part),
             None => false,
         }
     }
@@ -323,6 +340,17 @@ impl Facts<'_> {
         }
     }
 
+    // Whether one of these choices with one of the variables has no way left.
+    fn shuts_some(&self, open: &[Open], variables: Variables) -> bool {
+        for one in open {
+            let may_shut = !one.is_taken && one.variables().may_meet(variables);
+            if may_shut && self.are_shut(one.parts, Reach::Near) {
+                return true;
+            }
+        }
+        false
+    }
+
     // Whether the facts of the part leave one of these choices no way, of which none has no way
     // without them.
     fn shuts_one(&self, part: &Part, open: &[Open]) -> bool {
@@ -336,12 +364,7 @@ impl Facts<'_> {
             near: self.near,
             assumed: Some(part),
         };
-        let mut open = open.iter();
-        open.any(|one| {
-            !one.is_taken
-                && one.variables().may_meet(part.variables)
-                && with.are_shut(one.parts, Reach::Near)
-        })
+        with.shuts_some(open, part.variables)
     }
 
     // Whether each of the parts is at odds with the known facts, or leaves one of these choices no
@@ -372,19 +395,24 @@ impl Facts<'_> {
         best
     }
 
-    // Whether all parts but one at most are at odds with the known facts.
-    fn has_one_open(&self, parts: &[Part]) -> bool {
-        self.open_parts(parts, 1).is_some()
+    // The first of these choices all of whose parts but one at most are at odds with the known
+    // facts.
+    fn single(&self, open: &[Open]) -> Option<usize> {
+        for (i, one) in open.iter().enumerate() {
+            if !one.is_taken && self.open_parts(one.parts, 1).is_some() {
+                return Some(i);
+            }
+        }
+        None
     }
 
     /// A choice each of whose parts is at odds with the known facts, or leaves one of the last
     /// choices no way, which stand from a place on; if there is one, and all parts but one of one
     /// of the last choices are at odds with the known facts, that one.
     pub fn denied(&self, open: &[Open], from: usize) -> Option<usize> {
-        let (first, last) = (open.get(..from)?, open.get(from..)?);
-        let shutting = self.shutting(first, last)?;
-        let mut single = last.iter();
-        match single.position(|one| !one.is_taken && self.has_one_open(one.parts)) {
+        let last = open.get(from..)?;
+        let shutting = self.shutting(open.get(..from)?, last)?;
+        match self.single(last) {
             Some(place) => Some(from.saturating_add(place)),
             None => Some(shutting),
         }

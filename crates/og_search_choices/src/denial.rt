@@ -19,7 +19,7 @@ const SMALL: usize = 24;
 /// its choices.
 #[cycle(denying)]
 pub fn is_denied(part: &Part, by: &Part) -> bool {
-    if part.atoms.iter().any(|atom| by.is_at_odds(atom)) {
+    if by.contradicts(part) {
         return true;
     }
     for choice in &part.choices {
@@ -43,8 +43,12 @@ fn are_denied(parts: &[Part], by: &Part) -> bool {
 
 /// The first choice of a part each of whose parts is at odds with the facts of the other one.
 pub fn denied_choice<'p>(part: &'p Part, by: &Part) -> Option<&'p Choice> {
-    let mut choices = part.choices.iter();
-    choices.find(|choice| are_denied(&choice.parts, by))
+    for choice in &part.choices {
+        if are_denied(&choice.parts, by) {
+            return Some(choice);
+        }
+    }
+    None
 }
 
 // Whether the two parts are at odds.
@@ -54,7 +58,12 @@ fn are_opposite(part: &Part, other: &Part) -> bool {
 
 // Whether each part of the choice is at odds with the facts of the other one.
 fn is_refuted(choice: &Choice, other: &Part) -> bool {
-    choice.parts.iter().all(|part| are_opposite(part, other))
+    for part in &choice.parts {
+        if !are_opposite(part, other) {
+            return false;
+        }
+    }
+    true
 }
 
 // A number that is the same for terms and those of the other sign.

@@ -61,7 +61,15 @@ fn is_same_atom(a: &Atom, b: &Atom) -> bool {
 }
 
 fn are_same_atoms(a: &[Atom], b: &[Atom]) -> bool {
-    a.len() == b.len() && a.iter().zip(b).all(|(x, y)| is_same_atom(x, y))
+    if a.len() != b.len() {
+        return false;
+    }
+    for i in 0..a.len() {
+        if !is_same_atom(&a[i], &b[i]) {
+            return false;
+        }
+    }
+    true
 }
 
 #[cycle(likeness)]
@@ -76,8 +84,8 @@ fn are_same_choices(a: &[Choice], b: &[Choice]) -> bool {
     if a.len() != b.len() {
         return false;
     }
-    for (x, y) in a.iter().zip(b) {
-        if x.index != y.index || !are_same_parts(&x.parts, &y.parts) {
+    for i in 0..a.len() {
+        if a[i].index != b[i].index || !are_same_parts(&a[i].parts, &b[i].parts) {
             return false;
         }
     }
@@ -89,8 +97,8 @@ fn are_same_parts(a: &[Part], b: &[Part]) -> bool {
     if a.len() != b.len() {
         return false;
     }
-    for (x, y) in a.iter().zip(b) {
-        if !is_same_part(x, y) {
+    for i in 0..a.len() {
+        if !is_same_part(&a[i], &b[i]) {
             return false;
         }
     }

@@ -183,9 +183,19 @@ fn narrower(first: Option<Candidate>, second: Candidate) -> Candidate {
     }
 }
 
+// Whether one of the inequalities has one variable.
+fn some_bounds(part: &Part) -> bool {
+    for atom in &part.atoms {
+        if atom.form.terms.len() == 1 {
+            return true;
+        }
+    }
+    false
+}
+
 // The bounds with those that the inequalities of one variable add, if they add some.
 fn bounds_with(part: &Part, bounds: &Bounds) -> Result<Option<Bounds>, AllocError> {
-    if !part.atoms.iter().any(|atom| atom.form.terms.len() == 1) {
+    if !some_bounds(part) {
         return Ok(None);
     }
     let mut own = bounds.copy()?;
@@ -200,8 +210,22 @@ fn bounds_with(part: &Part, bounds: &Bounds) -> Result<Option<Bounds>, AllocErro
 
 // Whether a variable of the inequality has no value left.
 fn is_emptied(atom: &Atom, bounds: &Bounds) -> bool {
-    let mut terms = atom.form.terms.iter();
-    terms.any(|term| bounds.is_empty_at(term.var))
+    for term in &atom.form.terms {
+        if bounds.is_empty_at(term.var) {
+            return true;
+        }
+    }
+    false
+}
+
+// Whether a variable of one of the inequalities has no value left.
+fn some_emptied(part: &Part, bounds: &Bounds) -> bool {
+    for atom in &part.atoms {
+        if is_emptied(atom, bounds) {
+            return true;
+        }
+    }
+    false
 }
 
 /// What a choice is looked at against: the rows and the choices of the path, and the bounds.
@@ -216,22 +240,28 @@ pub struct View<'v, 'a> {
 impl View<'_, '_> {
     // Whether a row is false within the bounds.
     fn some_excluded(&self, bounds: &Bounds) -> bool {
-        let mut base = self.base.iter();
-        base.any(|row| bounds.exclude(self.rows.form(*row)))
+        for row in self.base {
+            if bounds.exclude(self.rows.form(*row)) {
+                return true;
+            }
+        }
+        false
     }
 
     // Whether another open choice has no way left within the bounds.
     fn some_shut(&self, but: usize, bounds: &Bounds) -> bool {
-        let mut open = self.open.iter().enumerate();
-        open.any(|(i, one)| i != but && !one.is_taken && ways(one.parts, bounds, 1) == 0)
+        for (i, one) in self.open.iter().enumerate() {
+            if i != but && !one.is_taken && ways(one.parts, bounds, 1) == 0 {
+                return true;
+            }
+        }
+        false
     }
 
     // Whether these bounds leave each variable of the part a value, and each row and each other
     // choice a way.
     fn is_alive_within(&self, part: &Part, own: usize, bounds: &Bounds) -> bool {
-        !part.atoms.iter().any(|atom| is_emptied(atom, bounds))
-            && !self.some_excluded(bounds)
-            && !self.some_shut(own, bounds)
+        !some_emptied(part, bounds) && !self.some_excluded(bounds) && !self.some_shut(own, bounds)
     }
 
     // Whether the bounds, with those of the part, leave each row and each other choice a way.
@@ -318,6 +348,29 @@ fn weakest(parts: &[&Part], form: &Inequality) -> Option<i128> {
     Some(weakest)
 }
 
+// The inequality with these terms that each of these parts implies, where it is false of the
+// values.
+fn row_with(
+    alloc: Global,
+    parts: &[&Part],
+    form: &Inequality,
+    model: &Model,
+) -> Result<Option<Inequality>, AllocError> {
+    if form.terms.is_empty() || form.holds(model) {
+        return Ok(None);
+    }
+    let Some(constant) = weakest(parts, form) else {
+        return Ok(None);
+    };
+    let mut row = Inequality::number(alloc, constant);
+    row.terms.extend_from_slice(&form.terms)?;
+    if row.holds(model) {
+        Ok(None)
+    } else {
+        Ok(Some(row))
+    }
+}
+
 // An inequality that each part that has a way implies, and that is false of the values, where
 // several have one.
 fn common_row(
@@ -331,15 +384,9 @@ fn common_row(
         return Ok(None);
     };
     for atom in &first.atoms {
-        if atom.form.terms.is_empty() || atom.form.holds(model) {
-            continue;
-        }
-        if let Some(constant) = weakest(&left, &atom.form) {
-            let mut row = Inequality::number(alloc, constant);
-            row.terms.extend_from_slice(&atom.form.terms)?;
-            if !row.holds(model) {
-                return Ok(Some(row));
-            }
+        let row = row_with(alloc, &left, &atom.form, model)?;
+        if row.is_some() {
+            return Ok(row);
         }
     }
     Ok(None)

@@ -181,17 +181,42 @@ impl Part {
 
     /// Whether one of its inequalities is at odds with this one.
     pub(crate) fn is_at_odds(&self, atom: &Atom) -> bool {
-        self.atoms.iter().any(|own| own.is_at_odds(atom))
+        for own in &self.atoms {
+            if own.is_at_odds(atom) {
+                return true;
+            }
+        }
+        false
+    }
+
+    /// Whether one of its inequalities is at odds with one of the other's.
+    pub(crate) fn contradicts(&self, other: &Part) -> bool {
+        for atom in &other.atoms {
+            if self.is_at_odds(atom) {
+                return true;
+            }
+        }
+        false
     }
 
     /// Whether some inequality is false within the bounds.
     pub fn is_barred(&self, bounds: &Bounds) -> bool {
-        self.atoms.iter().any(|atom| bounds.exclude(&atom.form))
+        for atom in &self.atoms {
+            if bounds.exclude(&atom.form) {
+                return true;
+            }
+        }
+        false
     }
 
     // Whether each inequality is true by the known facts.
     fn atoms_follow(&self, known: Known) -> bool {
-        self.atoms.iter().all(|atom| known.implies(&atom.form))
+        for atom in &self.atoms {
+            if !known.implies(&atom.form) {
+                return false;
+            }
+        }
+        true
     }
 }
 

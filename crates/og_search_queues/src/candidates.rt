@@ -4,7 +4,7 @@ use crate::narrowing::{Own, Source, Stage, fact_of};
 use crate::queue::Var;
 use og_search_choices::{Open, Part, View};
 use og_search_pigeons::{PARTS_LIMIT, hidden, orders};
-use og_search_rows::{Bounds, Place};
+use og_search_rows::{Bounds, Place, Term};
 use std::alloc::{AllocError, Global};
 
 /// Two variables, the one that is less in the first part first, of which a part of a choice says
@@ -95,7 +95,12 @@ pub(crate) fn hidden_pairs(alloc: Global, open: &[Open]) -> Result<Vec<Hidden>, 
 }
 
 fn is_number(pairs: &[Hidden], var: Var) -> bool {
-    pairs.iter().any(|pair| pair.has(var))
+    for pair in pairs {
+        if pair.has(var) {
+            return true;
+        }
+    }
+    false
 }
 
 // The number and the counter of which the choice with these parts says that they differ, and the
@@ -121,16 +126,18 @@ fn apart_in<'a>(pairs: &[Hidden], part: &'a Part) -> Option<(Var, Var, usize, us
 
 // The parts that are not false within the bounds, where these are two.
 fn two_left(parts: &[Part], bounds: &Bounds) -> Option<(usize, usize)> {
-    let mut left = parts
-        .iter()
-        .enumerate()
-        .filter(|(_, part)| !part.is_barred(bounds));
-    let (first, _) = left.next()?;
-    let (second, _) = left.next()?;
-    match left.next() {
-        None => Some((first, second)),
-        Some(_) => None,
+    let mut first = None;
+    let mut second = None;
+    for (number, part) in parts.iter().enumerate() {
+        if !part.is_barred(bounds) {
+            match (first, second) {
+                (None, _) => first = Some(number),
+                (_, None) => second = Some(number),
+                _ => return None,
+            }
+        }
     }
+    Some((first?, second?))
 }
 
 // The candidate with this number that may be through, where it waits in the one part and is through
@@ -197,6 +204,16 @@ fn candidate_of<'a>(
     }
 }
 
+// Whether the candidate has another number than these, and their counter.
+fn is_other(found: &[Candidate], next: &Candidate) -> bool {
+    for old in found {
+        if old.number == next.number || old.counter != next.counter {
+            return false;
+        }
+    }
+    true
+}
+
 /// The candidates, each number once, all with the counter of the first one.
 pub(crate) fn candidates<'a>(
     alloc: Global,
@@ -206,14 +223,22 @@ pub(crate) fn candidates<'a>(
     let mut found: Vec<Candidate<'a>> = Vec::new(alloc);
     for one in view.open {
         if let Some(next) = candidate_of(pairs, *one, view.bounds, found.len()) {
-            let is_other = found.iter().all(|old| old.number != next.number
-                && old.counter == next.counter);
-            if is_other {
+            if is_other(&found, &next) {
                 found.push(next)?;
             }
         }
     }
     Ok(found)
+}
+
+// The first variable with the coefficient -1.
+fn subtracted(terms: &[Term]) -> Option<Var> {
+    for term in terms {
+        if term.coefficient == -1 {
+            return Some(term.var);
+        }
+    }
+    None
 }
 
 // The end of which the part says that the number is less, and the place of the fact, where it also
@@ -223,8 +248,7 @@ fn end_in(part: &Part, number: Var, counter: Var) -> Option<(Var, usize)> {
     for atom in &part.atoms {
         let form = &atom.form;
         if form.terms.len() == 2 && form.constant == 1 && form.coefficient(number) == 1 {
-            let other = form.terms.iter().find(|term| term.coefficient == -1)?;
-            return Some((other.var, atom.index));
+            return Some((subtracted(&form.terms)?, atom.index));
         }
     }
     None

@@ -5,6 +5,7 @@ use crate::missed::Missed;
 use crate::narrowing::{Ground, Held, Narrowing, Own, Source, Stage, fact_of};
 use crate::queue::{Distinct, Entry, OpenEntry, State, Var};
 use og_search_choices::Part;
+use og_search_rows::Place;
 use std::alloc::{AllocError, Global};
 
 /// A number, and the part in which its entry waits, if the facts of that are not on the path.
@@ -50,6 +51,15 @@ fn held<'a>(
         held.push(Held { entry, stage, part })?;
     }
     Ok(held)
+}
+
+// The rest of the choice that hides that two numbers differ, where these facts are known.
+fn difference(ground: &mut Ground, pair: Hidden, held: &[Held]) -> Result<Narrowing, Missed> {
+    let open = ground.view.open;
+    match open.get(pair.choice) {
+        Some(one) => ground.narrowing(Source::Path(one.place), one.parts, &[pair.left], held),
+        None => Err(Missed::Fact),
+    }
 }
 
 impl<'a, 'h> Maker<'a, 'h> {
@@ -164,6 +174,24 @@ impl<'a, 'h> Maker<'a, 'h> {
         ground.narrowing(apart.choice, apart.parts, &[apart.left], &ranged)
     }
 
+    // Both.
+    fn narrowings(
+        &self,
+        ground: &mut Ground,
+        candidate: Candidate,
+        range: Range,
+    ) -> Result<(Narrowing, Narrowing), Missed> {
+        let in_range = self.in_range(ground, candidate, range)?;
+        let above = self.above_counter(ground, candidate, range)?;
+        Ok((in_range, above))
+    }
+
+    // Adds a flag. Gives the fact that it is at least 0.
+    fn add_flag(&mut self, ground: &mut Ground, flag: Var) -> Result<Place, Missed> {
+        self.flags.push(flag)?;
+        ground.path_fact(&[(flag, -1)], 0)
+    }
+
     // The entry of a candidate, whose number has this range.
     fn entry(
         &mut self,
@@ -172,16 +200,14 @@ impl<'a, 'h> Maker<'a, 'h> {
         range: Range,
     ) -> Result<Entry, Missed> {
         let flagged = self.flagged(ground, candidate)?;
-        let in_range = self.in_range(ground, candidate, range)?;
-        let above = self.above_counter(ground, candidate, range)?;
-        self.flags.push(flagged.flag)?;
-        let flag_low = ground.path_fact(&[(flagged.flag, -1)], 0)?;
+        let (range_left, above) = self.narrowings(ground, candidate, range)?;
+        let flag_low = self.add_flag(ground, flagged.flag)?;
         Ok(Entry {
             number: candidate.number,
             state: flagged.state,
             flag_low,
             flag_high: flagged.high,
-            range: in_range,
+            range: range_left,
             high: range.high,
             above,
         })
@@ -189,23 +215,38 @@ impl<'a, 'h> Maker<'a, 'h> {
 
     // The choice that hides that the two numbers differ.
     fn hidden(&self, number: Var, other: Var) -> Result<Hidden, Missed> {
-        let mut pairs = self.hidden.iter();
-        let pair = pairs.find(|pair| pair.is_of(number, other));
-        Ok(*pair.ok_or(Missed::Fact)?)
+        for pair in self.hidden {
+            if pair.is_of(number, other) {
+                return Ok(*pair);
+            }
+        }
+        Err(Missed::Fact)
     }
 
-    // The rest of that choice where the entry with this number and one before it wait.
-    fn pair(&self, ground: &mut Ground, own: Seen<'a>, other: usize) -> Result<Distinct, Missed> {
-        let before = *self.seen.get(other).ok_or(Missed::Fact)?;
-        let pair = self.hidden(own.number, before.number)?;
-        let open = *ground.view.open.get(pair.choice).ok_or(Missed::Fact)?;
+    // The facts that are known where the entry with this number and one before it wait.
+    fn held_by_both(
+        &self,
+        own: Seen<'a>,
+        before: Seen<'a>,
+        other: usize,
+    ) -> Result<Vec<Held<'a>>, AllocError> {
         let mut held = held(self.alloc, self.seen.len(), Stage::Waiting, own.part)?;
         if let Some(part) = before.part {
             let (entry, stage) = (other, Stage::Waiting);
             held.push(Held { entry, stage, part })?;
         }
+        Ok(held)
+    }
+
+    // The rest of that choice where the entry with this number and one before it wait.
+    fn pair(&self, ground: &mut Ground, own: Seen<'a>, other: usize) -> Result<Distinct, Missed> {
+        let Some(before) = self.seen.get(other) else {
+            return Err(Missed::Fact);
+        };
+        let pair = self.hidden(own.number, before.number)?;
+        let held = self.held_by_both(own, *before, other)?;
         Ok(Distinct {
-            narrowing: ground.narrowing(Source::Path(open.place), open.parts, &[pair.left], &held)?,
+            narrowing: difference(ground, pair, &held)?,
             is_less_first: pair.first == own.number,
         })
     }
@@ -219,6 +260,26 @@ impl<'a, 'h> Maker<'a, 'h> {
         Ok(pairs)
     }
 
+    // The range of a candidate's number, where that is less than the end.
+    fn range<'b>(
+        &self,
+        ground: &Ground<'_, 'b>,
+        candidate: Candidate,
+    ) -> Result<Range<'b>, Missed> {
+        match range_of(ground.view, candidate) {
+            Some(range) if range.end == self.end => Ok(range),
+            _ => Err(Missed::Fact),
+        }
+    }
+
+    // Adds what was made.
+    fn put(&mut self, own: Seen<'a>, entry: Entry, pairs: Vec<Distinct>) -> Result<(), Missed> {
+        self.entries.push(entry)?;
+        self.pairs.push(pairs)?;
+        self.seen.push(own)?;
+        Ok(())
+    }
+
     /// Makes the entry of a candidate.
     ///
     /// # Errors
@@ -229,19 +290,13 @@ impl<'a, 'h> Maker<'a, 'h> {
         ground: &mut Ground<'_, 'a>,
         candidate: Candidate<'a>,
     ) -> Result<(), Missed> {
-        let range = range_of(ground.view, candidate).ok_or(Missed::Fact)?;
-        if range.end != self.end {
-            return Err(Missed::Fact);
-        }
+        let range = self.range(ground, candidate)?;
         let own = Seen {
             number: candidate.number,
             part: candidate.waits(),
         };
         let pairs = self.pairs(ground, own)?;
         let entry = self.entry(ground, candidate, range)?;
-        self.entries.push(entry)?;
-        self.pairs.push(pairs)?;
-        self.seen.push(own)?;
-        Ok(())
+        self.put(own, entry, pairs)
     }
 }

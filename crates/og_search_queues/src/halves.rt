@@ -6,7 +6,7 @@
 //! that do not are not yet known apart. Once there are too many with such numbers, these alone are
 //! refuted; once there are too many others, each of these alone is taken to wait or to be through.
 
-use crate::queue::{Queue, State};
+use crate::queue::{Queue, State, Var};
 use crate::refuter::{Refuter, Standing, Values, WEIGHT, Waiting, levels_behind, lower};
 use crate::sets::{Course, Known, Listed, Sets};
 use og_search_choices::Open;
@@ -213,11 +213,8 @@ impl Refuter<'_, '_, '_> {
         self.refute_sets(level, sets, &mut Course::new(self.alloc))
     }
 
-    // Refutes the queue below this level.
-    fn refute(&mut self, level: u32) -> Result<Tree, Unrefuted> {
-        let queue = self.queue;
-        let half = queue.entries.len() / 2;
-        let middle = queue.least.saturating_add(half as i128).saturating_sub(1);
+    // Refutes all entries, where the counter is not above this value by the fact at this level.
+    fn refute_below(&mut self, level: u32, middle: i128) -> Result<Tree, Unrefuted> {
         let mut halves = Halves {
             middle,
             counter: assumed_at(level),
@@ -225,16 +222,32 @@ impl Refuter<'_, '_, '_> {
             high: Vec::new(self.alloc),
             low: Vec::new(self.alloc),
         };
-        let form = beyond(
-            self.alloc,
-            queue.counter,
-            Side::Lower,
-            middle.saturating_add(1),
-        )?;
-        let first = self.refute_halves(level, &mut halves)?;
+        self.refute_halves(level, &mut halves)
+    }
+
+    // Refutes the queue below this level.
+    fn refute(&mut self, level: u32) -> Result<Tree, Unrefuted> {
+        let queue = self.queue;
+        let half = queue.entries.len() / 2;
+        let middle = queue.least.saturating_add(half as i128).saturating_sub(1);
+        let least = middle.saturating_add(1);
+        let form = beyond(self.alloc, queue.counter, Side::Lower, least)?;
+        let first = self.refute_below(level, middle)?;
         let second = self.refute_above(level, middle)?;
         Ok(branch(self.alloc, level, form, first, second)?)
     }
+}
+
+// The proof where the variable is at most this value by the assumption at this level.
+fn with_most(
+    path: &mut Path,
+    level: u32,
+    var: Var,
+    most: i128,
+    proof: Proof,
+) -> Result<Proof, Unrefuted> {
+    let form = beyond(path.rows.alloc(), var, Side::Upper, most)?;
+    path.with_bound(form, level, proof)
 }
 
 impl Queue {
@@ -259,6 +272,14 @@ impl Queue {
         refuter.refute(lower(self.level, 3)?)
     }
 
+    // The same, with leaves whose size is taken from the room.
+    fn tree_within(&self, rows: &mut Rows, room: &mut u64) -> Result<Tree, Unrefuted> {
+        let mut leaves = Leaves::new(rows, *room);
+        let tree = self.tree(&mut leaves)?;
+        *room = leaves.room();
+        Ok(tree)
+    }
+
     /// Refutes the queue below its level, where these are the choices and the bounds with which it
     /// was found. Each 16 leaves cost a step of the budget of the rows; the size of the leaves is
     /// taken from the room.
@@ -273,16 +294,13 @@ impl Queue {
         bounds: &Bounds,
         room: &mut u64,
     ) -> Result<Proof, Unrefuted> {
-        let alloc = rows.alloc();
-        let mut leaves = Leaves::new(rows, *room);
-        let tree = self.tree(&mut leaves)?;
-        *room = leaves.room();
+        let (of_end, of_counter) = (lower(self.level, 1)?, lower(self.level, 2)?);
+        let tree = self.tree_within(rows, room)?;
         let used = self.used;
         let mut path = Path { rows, open, bounds };
-        let counter = beyond(alloc, self.counter, Side::Upper, self.most)?;
-        let proof = path.with_bound(counter, lower(self.level, 2)?, Proof { used, tree })?;
-        let end = self.most.saturating_add(1);
-        let end = beyond(alloc, self.end, Side::Upper, end)?;
-        path.with_bound(end, lower(self.level, 1)?, proof)
+        let proof = Proof { used, tree };
+        let proof = with_most(&mut path, of_counter, self.counter, self.most, proof)?;
+        let most = self.most.saturating_add(1);
+        with_most(&mut path, of_end, self.end, most, proof)
     }
 }

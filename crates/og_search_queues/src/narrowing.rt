@@ -72,8 +72,12 @@ pub(crate) struct Ground<'v, 'a> {
 
 // The place of the first inequality of the part that is at odds with this one.
 fn at_odds(part: &Part, atom: &Atom) -> Option<usize> {
-    let own = part.atoms.iter().find(|own| own.is_at_odds(atom))?;
-    Some(own.index)
+    for own in &part.atoms {
+        if own.is_at_odds(atom) {
+            return Some(own.index);
+        }
+    }
+    None
 }
 
 // Whether the inequality is false of all values.
@@ -230,14 +234,23 @@ impl Ground<'_, '_> {
 
 /// Whether the inequality has these terms, in any order, and this constant.
 pub(crate) fn is_of(form: &Inequality, terms: &[(u32, i128)], constant: i128) -> bool {
-    form.constant == constant
-        && form.terms.len() == terms.len()
-        && terms.iter().all(|(var, coefficient)| form.coefficient(*var) == *coefficient)
+    if form.constant != constant || form.terms.len() != terms.len() {
+        return false;
+    }
+    for (var, coefficient) in terms {
+        if form.coefficient(*var) != *coefficient {
+            return false;
+        }
+    }
+    true
 }
 
 /// The place of the fact of the part that has these terms and this constant.
 pub(crate) fn fact_of(part: &Part, terms: &[(u32, i128)], constant: i128) -> Option<usize> {
-    let mut atoms = part.atoms.iter();
-    let atom = atoms.find(|atom| is_of(&atom.form, terms, constant))?;
-    Some(atom.index)
+    for atom in &part.atoms {
+        if is_of(&atom.form, terms, constant) {
+            return Some(atom.index);
+        }
+    }
+    None
 }

@@ -52,12 +52,16 @@ struct Values {
 
 // Whether the inequality is that the counter is at least a sum of this many variables or more.
 fn is_count(form: &Inequality, counter: Var, fewest: usize) -> bool {
-    form.terms.len() > fewest
-        && form.terms.iter().all(|term| {
-            let coefficient = if term.var == counter { -1 } else { 1 };
-            term.coefficient == coefficient
-        })
-        && form.coefficient(counter) == -1
+    if form.terms.len() <= fewest {
+        return false;
+    }
+    for term in &form.terms {
+        let coefficient = if term.var == counter { -1 } else { 1 };
+        if term.coefficient != coefficient {
+            return false;
+        }
+    }
+    form.coefficient(counter) == -1
 }
 
 // The first fact on the path that says so.
@@ -107,17 +111,24 @@ fn others(
 
 // Whether the entries are as many as the values.
 fn is_full(entries: usize, values: Values) -> bool {
-    let wanted = values.most.checked_sub(values.least);
-    let wanted = wanted.and_then(|gap| gap.checked_add(1));
-    values.least >= 0 && wanted == Some(entries as i128)
+    match values.most.checked_sub(values.least) {
+        Some(gap) => values.least >= 0 && gap.checked_add(1) == Some(entries as i128),
+        None => false,
+    }
 }
 
-// The maker with the entries of all candidates.
-fn with_all<'a, 'h>(
+// The maker with the entries of all these candidates, whose numbers are less than the end, with the
+// choices that hide that two numbers differ.
+fn made<'a, 'h>(
     ground: &mut Ground<'_, 'a>,
     candidates: &[Candidate<'a>],
-    mut maker: Maker<'a, 'h>,
+    hidden: &'h [Hidden],
+    count: Count,
+    counter: Var,
+    end: Var,
 ) -> Result<Maker<'a, 'h>, Missed> {
+    let counted = counted(ground.alloc, count, counter)?;
+    let mut maker = Maker::new(ground.alloc, counted, end, hidden);
     for candidate in candidates {
         maker.add(ground, *candidate)?;
     }
@@ -130,22 +141,15 @@ fn most_of(view: View, end: Var) -> i128 {
     end.saturating_sub(1)
 }
 
-// The queue of these candidates, the first of which is this one, with the choices that hide that
-// two numbers differ.
-fn gathered<'a>(
-    ground: &mut Ground<'_, 'a>,
-    candidates: &[Candidate<'a>],
-    hidden: &[Hidden],
-    first: Candidate,
+// The queue of what was made, where the entries are as many as the values of the counter.
+fn finished(
+    ground: &mut Ground,
+    maker: Maker,
+    count: Count,
+    counter: Var,
+    end: Var,
     level: u32,
 ) -> Result<Queue, Missed> {
-    let counter = first.counter;
-    let end = range_of(ground.view, first).ok_or(Missed::Fact)?.end;
-    let count = count_of(ground.view, counter, candidates.len()).ok_or(Missed::Fact)?;
-    ground.note(count.place);
-    let counted = counted(ground.alloc, count, counter)?;
-    let maker = Maker::new(ground.alloc, counted, end, hidden);
-    let maker = with_all(ground, candidates, maker)?;
     let (others, least) = others(ground, count, counter, &maker.flags)?;
     let most = most_of(ground.view, end);
     if !is_full(maker.entries.len(), Values { least, most }) {
@@ -164,6 +168,23 @@ fn gathered<'a>(
         pairs: maker.pairs,
         used: ground.used,
     })
+}
+
+// The queue of these candidates, the first of which is this one, with the choices that hide that
+// two numbers differ.
+fn gathered<'a>(
+    ground: &mut Ground<'_, 'a>,
+    candidates: &[Candidate<'a>],
+    hidden: &[Hidden],
+    first: Candidate,
+    level: u32,
+) -> Result<Queue, Missed> {
+    let counter = first.counter;
+    let end = range_of(ground.view, first).ok_or(Missed::Fact)?.end;
+    let count = count_of(ground.view, counter, candidates.len()).ok_or(Missed::Fact)?;
+    ground.note(count.place);
+    let maker = made(ground, candidates, hidden, count, counter, end)?;
+    finished(ground, maker, count, counter, end, level)
 }
 
 // The queue, or the form that has to be above 0 before.

@@ -57,9 +57,10 @@ pub(crate) struct Refuter<'q, 'l, 'r> {
 
 /// The level this many below this one.
 pub(crate) fn lower(level: u32, more: usize) -> Result<u32, Unrefuted> {
-    let more = u32::try_from(more).ok();
-    let level = more.and_then(|more| level.checked_sub(more));
-    level.ok_or(Unrefuted::Levels)
+    let Ok(more) = u32::try_from(more) else {
+        return Err(Unrefuted::Levels);
+    };
+    level.checked_sub(more).ok_or(Unrefuted::Levels)
 }
 
 /// How many levels an entry takes behind its first one, where this many wait before it.

@@ -8,3 +8,5 @@ pub mod Tighter
 pub mod Trail
 pub mod Following
 pub mod VariableBits
+pub mod Products
+pub mod Cuts

@@ -7,7 +7,7 @@ ghost use Rattle.og_search_rows.specs.Errors.{as_add_error};
 use std::alloc::{AllocError, AllocFailed};
 
 /// Why a row is not made.
-#[derive(Clone, Copy, Debug)]
+#[derive(Clone, Copy)]
 pub enum RowError {
     /// An allocation was refused.
     Memory,
@@ -16,7 +16,7 @@ pub enum RowError {
 }
 
 /// What ends the work on rows.
-#[derive(Clone, Copy, Debug)]
+#[derive(Clone, Copy)]
 pub enum AddError {
     /// This row is a constant above 0, so the facts contradict each other.
     Contradiction(usize),

@@ -9,7 +9,7 @@ use crate::values::Values;
 use og_typed::{Points, Stmt};
 
 /// What came of a step.
-#[derive(Clone, Copy, Debug, Drop, PartialEq, Eq)]
+#[derive(Clone, Copy, Drop, PartialEq, Eq)]
 pub enum Turn {
     /// The process made its step.
     Moved,

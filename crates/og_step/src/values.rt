@@ -15,7 +15,7 @@ use std::alloc::{AllocError, Global};
 use std::marker::Model;
 
 /// A state, and a second one that equals it between two actions.
-#[derive(Debug, Drop)]
+#[derive(Drop)]
 pub(crate) struct Values {
     state: State,
     spare: State,

@@ -17,7 +17,7 @@ use og_typed::{Basic, Stmt};
 use std::alloc::Global;
 
 /// An assignment outside awaits, or a whole await; borrowed.
-#[derive(Clone, Copy, Debug)]
+#[derive(Clone, Copy)]
 pub enum Action<'a> {
     /// The variable gets the form's value.
     Assign(u32, &'a Form),

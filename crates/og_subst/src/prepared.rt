@@ -14,7 +14,7 @@ use std::alloc::Global;
 use std::marker::Model;
 
 /// The map of an action, and the form of each value that it assigns, in order.
-#[derive(Debug, Drop)]
+#[derive(Drop)]
 pub struct ActionMap {
     map: Map,
     values: Vec<Form>,

@@ -17,7 +17,7 @@ use std::alloc::{AllocError, Global};
 use std::marker::Model;
 
 /// A whole number for each variable. Contracts see it as the state.
-#[derive(Debug, Drop)]
+#[derive(Drop)]
 pub struct Values {
     numbers: Vec<i128>,
 }

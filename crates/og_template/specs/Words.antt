@@ -17,6 +17,17 @@ use Rattle.og_template.specs.declared.word.Word.{Word}
 use Rattle.og_template.specs.declared.mask.Mark.{Mark}
 use Rattle.og_template.specs.Mask.{masked, marks}
 
+-- the keyword of ranges and of what is repeated that a name is spelt like
+abbrev pub inner_keyword_of : List ℕ → Option Special
+inner_keyword_of name =
+    if bytes_eq name (codes "in") then Some specials.In
+    else (if bytes_eq name (codes "where") then Some specials.Where
+    else (if bytes_eq name (codes "all") then Some specials.All
+    else (if bytes_eq name (codes "some") then Some specials.Any
+    else (if bytes_eq name (codes "sum") then Some specials.Sum
+    else (if bytes_eq name (codes "mod") then Some specials.Mod
+    else None)))))
+
 -- the keyword of templates that a name is spelt like
 abbrev pub keyword_of : List ℕ → Option Special
 keyword_of name =
@@ -25,13 +36,7 @@ keyword_of name =
     else (if bytes_eq name (codes "let") then Some specials.Let
     else (if bytes_eq name (codes "process") then Some specials.Process
     else (if bytes_eq name (codes "for") then Some specials.For
-    else (if bytes_eq name (codes "in") then Some specials.In
-    else (if bytes_eq name (codes "where") then Some specials.Where
-    else (if bytes_eq name (codes "all") then Some specials.All
-    else (if bytes_eq name (codes "some") then Some specials.Any
-    else (if bytes_eq name (codes "sum") then Some specials.Sum
-    else (if bytes_eq name (codes "mod") then Some specials.Mod
-    else None))))))))))
+    else inner_keyword_of name))))
 
 abbrev pub kind_by : TokenKind → Option Special → WordKind
 kind_by kind None = kinds.Lexeme kind

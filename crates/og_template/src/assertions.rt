@@ -6,7 +6,7 @@ use crate::Special;
 use crate::binders::binder_to_colon;
 use crate::cursor::Cursor;
 use crate::limits::deeper;
-use crate::lists::{boxed, put};
+use crate::lists::{boxed, followed, put};
 use crate::sums::sum;
 use crate::tree::{Assertion, Binder, Conjunction, Disjunction, Factor, Note, Sum, TermKind, Unit};
 use og_parse::{FaultKind, Refusal, Sign};
@@ -103,16 +103,22 @@ fn group(depth: u32, cursor: &mut Cursor) -> Result<Unit, Refusal>
     ensures { length cursor.new ≤ length cursor.old }
 {
     let span = cursor.expect(&TokenKind::OpenParen)?;
-    let inner = boxed(cursor.alloc(), assertion(depth, cursor))?;
-    cursor.expect(&TokenKind::CloseParen)?;
-    Ok(Unit::Group(span, inner))
+    let inner = followed(assertion(depth, cursor), &TokenKind::CloseParen, cursor);
+    Ok(Unit::Group(span, boxed(cursor.alloc(), inner)?))
 }
 
-fn quantifier(all: bool, span: Span, binder: Binder, inner: Box<Unit>) -> Unit {
+// The quantifier over what was read.
+fn quantifier(
+    all: bool,
+    span: Span,
+    binder: Binder,
+    read: Result<Box<Unit>, Refusal>,
+) -> Result<Unit, Refusal> {
+    let inner = read?;
     if all {
-        return Unit::All(span, binder, inner);
+        return Ok(Unit::All(span, binder, inner));
     }
-    Unit::Any(span, binder, inner)
+    Ok(Unit::Any(span, binder, inner))
 }
 
 // What follows `all` or `some`.
@@ -123,8 +129,8 @@ fn quantified(depth: u32, all: bool, cursor: &mut Cursor) -> Result<Unit, Refusa
     let span = cursor.span();
     cursor.advance();
     let binder = binder_to_colon(depth, cursor)?;
-    let inner = boxed(cursor.alloc(), unit(depth, cursor))?;
-    Ok(quantifier(all, span, binder, inner))
+    let inner = boxed(cursor.alloc(), unit(depth, cursor));
+    quantifier(all, span, binder, inner)
 }
 
 // What `not`, `(`, `all` or `some` opens, where `depth` levels are left.
@@ -229,9 +235,7 @@ pub(crate) fn assertion(depth: u32, cursor: &mut Cursor) -> Result<Assertion, Re
 pub(crate) fn test(depth: u32, word: &TokenKind, cursor: &mut Cursor) -> Result<Assertion, Refusal>
     ensures { length cursor.new ≤ length cursor.old }
 {
-    let test = assertion(depth, cursor)?;
-    cursor.expect(word)?;
-    Ok(test)
+    followed(assertion(depth, cursor), word, cursor)
 }
 
 /// Reads an assertion in braces.

@@ -5,7 +5,7 @@ ghost use Rattle.std.specs.Prelude.{◌≤◌, length};
 use crate::Special;
 use crate::cursor::Cursor;
 use crate::exprs::expr;
-use crate::lists::{Listed, list};
+use crate::lists::{Listed, followed_by_special, list};
 use crate::tree::{Binder, Bounds, Test};
 use og_parse::{FaultKind, Refusal};
 use og_text::TokenKind;
@@ -15,8 +15,7 @@ pub(crate) fn bounds(depth: u32, cursor: &mut Cursor) -> Result<Bounds, Refusal>
     ensures { length cursor.new ≤ length cursor.old }
 {
     let span = cursor.span();
-    let low = expr(depth, cursor)?;
-    cursor.expect_special(Special::Dots)?;
+    let low = followed_by_special(expr(depth, cursor), Special::Dots, cursor)?;
     let high = expr(depth, cursor)?;
     Ok(Bounds { low, high, span })
 }
@@ -50,8 +49,7 @@ fn tests(depth: u32, cursor: &mut Cursor) -> Result<Vec<Test>, Refusal>
 pub(crate) fn binder(depth: u32, cursor: &mut Cursor) -> Result<Binder, Refusal>
     ensures { length cursor.new ≤ length cursor.old }
 {
-    let name = cursor.name()?;
-    cursor.expect_special(Special::In)?;
+    let name = followed_by_special(cursor.name(), Special::In, cursor)?;
     let range = bounds(depth, cursor)?;
     let tests = tests(depth, cursor)?;
     Ok(Binder { name, range, tests })
@@ -61,7 +59,5 @@ pub(crate) fn binder(depth: u32, cursor: &mut Cursor) -> Result<Binder, Refusal>
 pub(crate) fn binder_to_colon(depth: u32, cursor: &mut Cursor) -> Result<Binder, Refusal>
     ensures { length cursor.new ≤ length cursor.old }
 {
-    let binder = binder(depth, cursor)?;
-    cursor.expect_special(Special::Colon)?;
-    Ok(binder)
+    followed_by_special(binder(depth, cursor), Special::Colon, cursor)
 }

@@ -5,7 +5,7 @@ ghost use Rattle.std.specs.Prelude.{◌<◌, ◌≤◌, length, IfSome};
 use crate::Special;
 use crate::cursor::Cursor;
 use crate::limits::deeper;
-use crate::lists::{Listed, list, put};
+use crate::lists::{Listed, followed, followed_by_special, list, put};
 use crate::tree::{Expr, Link, Operator};
 use og_parse::Refusal;
 use og_text::{Span, TokenKind};
@@ -48,21 +48,32 @@ fn link(operator: Operator, span: Span, read: Result<Expr, Refusal>) -> Result<L
     })
 }
 
-// The operators from the left; an operand alone is itself.
-fn chain(alloc: Global, first: Expr, links: Vec<Link>) -> Result<Expr, AllocError> {
+// The operators that were read from the left; an operand alone is itself.
+fn chain(alloc: Global, first: Expr, read: Result<Vec<Link>, Refusal>) -> Result<Expr, Refusal> {
+    let links = read?;
     if links.is_empty() {
         return Ok(first);
     }
     Ok(Expr::Chain(Box::new(alloc, first)?, links))
 }
 
-// The expression after a `-`.
-fn negated(alloc: Global, operand: Expr, minus: u32, end: u32) -> Result<Expr, AllocError> {
-    let span = Span { start: minus, end };
+// The expression after the `-` at a place.
+fn negated(alloc: Global, operand: Expr, span: Span) -> Result<Expr, AllocError> {
     match operand {
         Expr::Number(n, _) => Ok(Expr::Negative(n, span)),
         operand => Ok(Expr::Minus(Box::new(alloc, operand)?, span)),
     }
+}
+
+// A number or a name.
+fn atom(cursor: &mut Cursor) -> Result<Expr, Refusal>
+    ensures { length cursor.new ≤ length cursor.old }
+{
+    let span = cursor.span();
+    if let Some(n) = cursor.number() {
+        return Ok(Expr::Number(n, span));
+    }
+    Ok(Expr::Name(cursor.name()?))
 }
 
 // What `(` opens, where `depth` levels are left.
@@ -72,9 +83,7 @@ fn group(depth: u32, cursor: &mut Cursor) -> Result<Expr, Refusal>
 {
     let depth = deeper(depth)?;
     cursor.expect(&TokenKind::OpenParen)?;
-    let inner = expr(depth, cursor)?;
-    cursor.expect(&TokenKind::CloseParen)?;
-    Ok(inner)
+    followed(expr(depth, cursor), &TokenKind::CloseParen, cursor)
 }
 
 #[cycle(expressions)]
@@ -84,11 +93,7 @@ fn operand(depth: u32, cursor: &mut Cursor) -> Result<Expr, Refusal>
     if cursor.is_at(&TokenKind::OpenParen) {
         return group(depth, cursor);
     }
-    let span = cursor.span();
-    if let Some(n) = cursor.number() {
-        return Ok(Expr::Number(n, span));
-    }
-    Ok(Expr::Name(cursor.name()?))
+    atom(cursor)
 }
 
 // The operators `*` and `mod` with their operands, as many as stand here.
@@ -110,8 +115,7 @@ fn product(depth: u32, cursor: &mut Cursor) -> Result<Expr, Refusal>
     ensures { length cursor.new ≤ length cursor.old }
 {
     let first = operand(depth, cursor)?;
-    let links = factors(depth, cursor)?;
-    Ok(chain(cursor.alloc(), first, links)?)
+    chain(cursor.alloc(), first, factors(depth, cursor))
 }
 
 // A product, with a `-` before it or without.
@@ -120,12 +124,11 @@ fn signed(depth: u32, cursor: &mut Cursor) -> Result<Expr, Refusal>
     ensures { length cursor.new ≤ length cursor.old }
 {
     let span = cursor.span();
-    let minus = cursor.eat(&TokenKind::Minus);
-    let first = product(depth, cursor)?;
-    if minus {
-        return Ok(negated(cursor.alloc(), first, span.start, span.end)?);
+    if !cursor.eat(&TokenKind::Minus) {
+        return product(depth, cursor);
     }
-    Ok(first)
+    let operand = product(depth, cursor)?;
+    Ok(negated(cursor.alloc(), operand, span)?)
 }
 
 // The operators `+` and `-` with their operands, as many as stand here.
@@ -148,8 +151,7 @@ pub(crate) fn expr(depth: u32, cursor: &mut Cursor) -> Result<Expr, Refusal>
     ensures { length cursor.new ≤ length cursor.old }
 {
     let first = signed(depth, cursor)?;
-    let links = terms(depth, cursor)?;
-    Ok(chain(cursor.alloc(), first, links)?)
+    chain(cursor.alloc(), first, terms(depth, cursor))
 }
 
 impl Listed for Expr {
@@ -162,16 +164,13 @@ impl Listed for Expr {
 pub(crate) fn arguments(depth: u32, cursor: &mut Cursor) -> Result<Vec<Expr>, Refusal>
     ensures { length cursor.new ≤ length cursor.old }
 {
-    let all = list(depth, &TokenKind::Comma, cursor)?;
-    cursor.expect(&TokenKind::CloseParen)?;
-    Ok(all)
+    let all = list(depth, &TokenKind::Comma, cursor);
+    followed(all, &TokenKind::CloseParen, cursor)
 }
 
 /// Reads an expression and the `]` after it.
 pub(crate) fn bracketed(depth: u32, cursor: &mut Cursor) -> Result<Expr, Refusal>
     ensures { length cursor.new ≤ length cursor.old }
 {
-    let value = expr(depth, cursor)?;
-    cursor.expect_special(Special::CloseBracket)?;
-    Ok(value)
+    followed_by_special(expr(depth, cursor), Special::CloseBracket, cursor)
 }

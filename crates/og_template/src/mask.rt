@@ -9,7 +9,7 @@ use og_text::Span;
 use std::alloc::{AllocError, Global};
 
 /// Where a byte stands.
-#[derive(Clone, Copy, Debug, Drop, PartialEq, Eq)]
+#[derive(Clone, Copy, Drop, PartialEq, Eq)]
 pub enum Place {
     /// Outside of comments.
     Outside,
@@ -20,7 +20,7 @@ pub enum Place {
 }
 
 /// A mark and where it stands.
-#[derive(Clone, Copy, Debug, Drop, PartialEq, Eq)]
+#[derive(Clone, Copy, Drop, PartialEq, Eq)]
 pub struct Mark {
     pub special: Special,
     pub span: Span,

@@ -1,6 +1,6 @@
 //! Reading statements.
 
-ghost use Rattle.std.specs.Prelude.{◌<◌, ◌≤◌, length, OnOk};
+ghost use Rattle.std.specs.Prelude.{◌<◌, ◌≤◌, length, IsOk, OnOk};
 
 use crate::Special;
 use crate::assertions::{note, test};
@@ -8,11 +8,29 @@ use crate::binders::{binder, binder_to_colon};
 use crate::cursor::Cursor;
 use crate::exprs::bracketed;
 use crate::limits::Limits;
-use crate::lists::{Listed, list};
+use crate::lists::{Listed, followed, list, put};
 use crate::sums::sum;
-use crate::tree::{Assertion, Basic, Binder, Element, Sequence, Statement, Step};
+use crate::tree::{Assertion, Basic, Binder, Element, Expr, Note, Sequence, Statement, Step};
 use og_parse::{Refusal, begins_statement};
-use og_text::TokenKind;
+use og_text::{Span, TokenKind};
+
+// The index in brackets, if one stands here.
+fn index(depth: u32, cursor: &mut Cursor) -> Result<Option<Expr>, Refusal>
+    ensures { length cursor.new ≤ length cursor.old }
+{
+    if !cursor.eat_special(Special::OpenBracket) {
+        return Ok(None);
+    }
+    Ok(Some(bracketed(depth, cursor)?))
+}
+
+fn assignment(depth: u32, cursor: &mut Cursor) -> Result<Basic, Refusal>
+    ensures { length cursor.new ≤ length cursor.old }
+{
+    let name = cursor.name()?;
+    let index = followed(index(depth, cursor), &TokenKind::Assign, cursor)?;
+    Ok(Basic::Assign(name, index, sum(depth, cursor)?))
+}
 
 fn basic(depth: u32, cursor: &mut Cursor) -> Result<Basic, Refusal>
     ensures { length cursor.new ≤ length cursor.old }
@@ -20,13 +38,7 @@ fn basic(depth: u32, cursor: &mut Cursor) -> Result<Basic, Refusal>
     if cursor.eat(&TokenKind::Skip) {
         return Ok(Basic::Skip);
     }
-    let name = cursor.name()?;
-    let mut index = None;
-    if cursor.eat_special(Special::OpenBracket) {
-        index = Some(bracketed(depth, cursor)?);
-    }
-    cursor.expect(&TokenKind::Assign)?;
-    Ok(Basic::Assign(name, index, sum(depth, cursor)?))
+    assignment(depth, cursor)
 }
 
 // A statement of an await, alone or after `for`.
@@ -42,12 +54,19 @@ fn element(depth: u32, binder: Option<Binder>, cursor: &mut Cursor) -> Result<El
     })
 }
 
+// The binder behind `for`, if one stands here.
+fn element_binder(depth: u32, cursor: &mut Cursor) -> Result<Option<Binder>, Refusal>
+    ensures { length cursor.new ≤ length cursor.old }
+{
+    if !cursor.eat_special(Special::For) {
+        return Ok(None);
+    }
+    Ok(Some(binder_to_colon(depth, cursor)?))
+}
+
 impl Listed for Element {
     fn read(depth: u32, cursor: &mut Cursor) -> Result<Element, Refusal> {
-        let mut binder = None;
-        if cursor.eat_special(Special::For) {
-            binder = Some(binder_to_colon(depth, cursor)?);
-        }
+        let binder = element_binder(depth, cursor)?;
         element(depth, binder, cursor)
     }
 }
@@ -60,9 +79,8 @@ fn body(depth: u32, cursor: &mut Cursor) -> Result<Vec<Element>, Refusal>
         let alone = element(depth, None, cursor)?;
         return Ok(vec![in cursor.alloc(); alone]?);
     }
-    let all = list(depth, &TokenKind::Semicolon, cursor)?;
-    cursor.expect(&TokenKind::End)?;
-    Ok(all)
+    let all = list(depth, &TokenKind::Semicolon, cursor);
+    followed(all, &TokenKind::End, cursor)
 }
 
 fn await_statement(depth: u32, cursor: &mut Cursor) -> Result<Statement, Refusal>
@@ -101,9 +119,7 @@ fn block(limits: Limits, cursor: &mut Cursor) -> Result<Sequence, Refusal>
 pub(crate) fn rest_of_block(limits: Limits, cursor: &mut Cursor) -> Result<Sequence, Refusal>
     ensures { length cursor.new ≤ length cursor.old }
 {
-    let all = sequence(limits, cursor)?;
-    cursor.expect(&TokenKind::End)?;
-    Ok(all)
+    followed(sequence(limits, cursor), &TokenKind::End, cursor)
 }
 
 #[cycle(statements)]
@@ -153,6 +169,11 @@ fn statement(limits: Limits, cursor: &mut Cursor) -> Result<Statement, Refusal>
     Ok(Statement::Basic(basic(limits.depth, cursor)?))
 }
 
+// The steps that were read, for each value of a binder.
+fn repetition(binder: Binder, steps: Result<Vec<Step>, Refusal>) -> Result<Step, Refusal> {
+    Ok(Step::For(binder, steps?))
+}
+
 // The steps of each value of a binder.
 #[cycle(statements)]
 fn repeated(limits: Limits, cursor: &mut Cursor) -> Result<Step, Refusal>
@@ -161,11 +182,16 @@ fn repeated(limits: Limits, cursor: &mut Cursor) -> Result<Step, Refusal>
 {
     let within = limits.within()?;
     cursor.expect_special(Special::For)?;
-    let binder = binder(limits.depth, cursor)?;
-    cursor.expect(&TokenKind::Begin)?;
-    let steps = steps(within, cursor)?;
-    cursor.expect(&TokenKind::End)?;
-    Ok(Step::For(binder, steps))
+    let binder = followed(binder(limits.depth, cursor), &TokenKind::Begin, cursor)?;
+    let steps = followed(steps(within, cursor), &TokenKind::End, cursor);
+    repetition(binder, steps)
+}
+
+// A statement at a place, with the assertion that was read after it.
+fn step_of(statement: Statement, span: Span, after: Result<Note, Refusal>) -> Result<Step, Refusal>
+    ensures { OnOk result (IsOk after) }
+{
+    Ok(Step::Statement(statement, span, after?))
 }
 
 #[cycle(statements)]
@@ -178,8 +204,7 @@ fn step(limits: Limits, cursor: &mut Cursor) -> Result<Step, Refusal>
     }
     let span = cursor.span();
     let statement = statement(limits, cursor)?;
-    let after = note(limits.depth, cursor)?;
-    Ok(Step::Statement(statement, span, after))
+    step_of(statement, span, note(limits.depth, cursor))
 }
 
 // Whether the next word begins a step.
@@ -195,7 +220,7 @@ fn steps(limits: Limits, cursor: &mut Cursor) -> Result<Vec<Step>, Refusal>
     ensures { length cursor.new ≤ length cursor.old }
 {
     let mut all = Vec::new(cursor.alloc());
-    all.push(step(limits, cursor)?)?;
+    put(&mut all, step(limits, cursor))?;
     'more: while is_at_step(cursor) {
         all.push(step(limits, cursor)?)?;
     }

@@ -7,10 +7,20 @@ use crate::binders::binder_to_colon;
 use crate::cursor::Cursor;
 use crate::exprs::{arguments, bracketed};
 use crate::limits::deeper;
-use crate::lists::put;
-use crate::tree::{Factor, Sum, Term, TermKind};
-use og_parse::{Refusal, Sign};
+use crate::lists::{followed, put};
+use crate::tree::{Binder, Expr, Factor, Sum, Term, TermKind};
+use og_parse::{RawName, Refusal, Sign};
 use og_text::TokenKind;
+
+// The element of a family whose index was read.
+fn element(name: RawName, index: Result<Expr, Refusal>) -> Result<Factor, Refusal> {
+    Ok(Factor::Element(name, index?))
+}
+
+// The use of a named assertion whose arguments were read.
+fn usage(name: RawName, arguments: Result<Vec<Expr>, Refusal>) -> Result<Factor, Refusal> {
+    Ok(Factor::Use(name, arguments?))
+}
 
 // What begins with a name.
 fn named_factor(depth: u32, cursor: &mut Cursor) -> Result<Factor, Refusal>
@@ -18,10 +28,10 @@ fn named_factor(depth: u32, cursor: &mut Cursor) -> Result<Factor, Refusal>
 {
     let name = cursor.name()?;
     if cursor.eat_special(Special::OpenBracket) {
-        return Ok(Factor::Element(name, bracketed(depth, cursor)?));
+        return element(name, bracketed(depth, cursor));
     }
     if cursor.eat(&TokenKind::OpenParen) {
-        return Ok(Factor::Use(name, arguments(depth, cursor)?));
+        return usage(name, arguments(depth, cursor));
     }
     Ok(Factor::Name(name))
 }
@@ -38,13 +48,18 @@ fn factor(depth: u32, cursor: &mut Cursor) -> Result<Factor, Refusal>
     named_factor(depth, cursor)
 }
 
+// The product of a factor and another one that was read.
+fn multiplied(first: Factor, second: Result<Factor, Refusal>) -> Result<TermKind, Refusal> {
+    Ok(TermKind::Product(first, second?))
+}
+
 // One factor, or two with a `*` between them.
 fn product(depth: u32, cursor: &mut Cursor) -> Result<TermKind, Refusal>
     ensures { length cursor.new ≤ length cursor.old }
 {
     let first = factor(depth, cursor)?;
     if cursor.eat(&TokenKind::Star) {
-        return Ok(TermKind::Product(first, factor(depth, cursor)?));
+        return multiplied(first, factor(depth, cursor));
     }
     Ok(TermKind::Factor(first))
 }
@@ -55,13 +70,16 @@ fn summands(depth: u32, cursor: &mut Cursor) -> Result<Vec<Term>, Refusal>
     ensures { length cursor.new ≤ length cursor.old }
 {
     if cursor.eat(&TokenKind::OpenParen) {
-        let all = terms(depth, cursor)?;
-        cursor.expect(&TokenKind::CloseParen)?;
-        return Ok(all);
+        return followed(terms(depth, cursor), &TokenKind::CloseParen, cursor);
     }
     let mut all = Vec::new(cursor.alloc());
     put(&mut all, term(depth, Sign::Plus, cursor))?;
     Ok(all)
+}
+
+// The sum over a binder whose terms were read.
+fn total_of(binder: Binder, terms: Result<Vec<Term>, Refusal>) -> Result<TermKind, Refusal> {
+    Ok(TermKind::Total(binder, terms?))
 }
 
 // What `sum` opens, where `depth` levels are left.
@@ -72,7 +90,7 @@ fn total(depth: u32, cursor: &mut Cursor) -> Result<TermKind, Refusal>
     let depth = deeper(depth)?;
     cursor.expect_special(Special::Sum)?;
     let binder = binder_to_colon(depth, cursor)?;
-    Ok(TermKind::Total(binder, summands(depth, cursor)?))
+    total_of(binder, summands(depth, cursor))
 }
 
 #[cycle(sums)]

@@ -2,19 +2,19 @@
 
 ghost use Rattle.std.specs.Prelude.{◌≤◌, length};
 
-use crate::assertions::{assertion, note};
+use crate::assertions::{note, test};
 use crate::binders::{binder, bounds};
 use crate::cursor::Cursor;
 use crate::exprs::expr;
 use crate::fault::{FaultKind, TemplateError};
 use crate::limits::Limits;
-use crate::lists::{Listed, list, put};
+use crate::lists::{Listed, followed, followed_by_special, list, put};
 use crate::statements::{rest_of_block, sequence};
 use crate::tree::{
     Auxiliary, Binder, Bounds, Constant, Named, Note, Process, Sequence, Template, Variable,
 };
 use crate::{Special, Word};
-use og_parse::{FaultKind as Stop, Refusal};
+use og_parse::{FaultKind as Stop, RawName, Refusal};
 use og_text::{Span, TokenKind};
 use std::alloc::Global;
 
@@ -43,15 +43,12 @@ fn list_if<T: Listed>(found: bool, end: &TokenKind, cursor: &mut Cursor) -> Resu
     if !found {
         return Ok(Vec::new(cursor.alloc()));
     }
-    let all = list(LEVELS, &TokenKind::Comma, cursor)?;
-    cursor.expect(end)?;
-    Ok(all)
+    followed(list(LEVELS, &TokenKind::Comma, cursor), end, cursor)
 }
 
 impl Listed for Constant {
     fn read(depth: u32, cursor: &mut Cursor) -> Result<Constant, Refusal> {
-        let name = cursor.name()?;
-        cursor.expect(&TokenKind::Equal)?;
+        let name = followed(cursor.name(), &TokenKind::Equal, cursor)?;
         let value = expr(depth, cursor)?;
         Ok(Constant { name, value })
     }
@@ -64,8 +61,7 @@ fn family(depth: u32, cursor: &mut Cursor) -> Result<Option<Bounds>, Refusal>
     if !cursor.eat_special(Special::OpenBracket) {
         return Ok(None);
     }
-    let range = bounds(depth, cursor)?;
-    cursor.expect_special(Special::CloseBracket)?;
+    let range = followed_by_special(bounds(depth, cursor), Special::CloseBracket, cursor)?;
     Ok(Some(range))
 }
 
@@ -79,8 +75,8 @@ impl Listed for Variable {
 
 impl Listed for Auxiliary {
     fn read(depth: u32, cursor: &mut Cursor) -> Result<Auxiliary, Refusal> {
-        let declared = Variable::read(depth, cursor)?;
-        cursor.expect(&TokenKind::Equal)?;
+        let declared = Variable::read(depth, cursor);
+        let declared = followed(declared, &TokenKind::Equal, cursor)?;
         let value = expr(depth, cursor)?;
         Ok(Auxiliary {
             name: declared.name,
@@ -90,16 +86,22 @@ impl Listed for Auxiliary {
     }
 }
 
+// The parameters of a named assertion, and the `=` after them.
+fn parameters(cursor: &mut Cursor) -> Result<Vec<RawName>, Refusal>
+    ensures { length cursor.new ≤ length cursor.old }
+{
+    let found = cursor.eat(&TokenKind::OpenParen);
+    let all = list_if(found, &TokenKind::CloseParen, cursor);
+    followed(all, &TokenKind::Equal, cursor)
+}
+
 // A named assertion, behind its `let`.
 fn named(cursor: &mut Cursor) -> Result<Named, Refusal>
     ensures { length cursor.new ≤ length cursor.old }
 {
     let name = cursor.name()?;
-    let found = cursor.eat(&TokenKind::OpenParen);
-    let parameters = list_if(found, &TokenKind::CloseParen, cursor)?;
-    cursor.expect(&TokenKind::Equal)?;
-    let assertion = assertion(LEVELS, cursor)?;
-    cursor.expect(&TokenKind::Semicolon)?;
+    let parameters = parameters(cursor)?;
+    let assertion = test(LEVELS, &TokenKind::Semicolon, cursor)?;
     Ok(Named {
         name,
         parameters,
@@ -157,8 +159,8 @@ impl Listed for Process {
 
 fn middle(cursor: &mut Cursor) -> Result<Center, Refusal> {
     let cobegin = cursor.expect(&TokenKind::Cobegin)?;
-    let processes = list(LEVELS, &TokenKind::Parallel, cursor)?;
-    cursor.expect(&TokenKind::Coend)?;
+    let processes = list(LEVELS, &TokenKind::Parallel, cursor);
+    let processes = followed(processes, &TokenKind::Coend, cursor)?;
     Ok(Center { cobegin, processes })
 }
 
@@ -185,24 +187,30 @@ fn opening(cursor: &mut Cursor) -> Result<(Note, Option<Sequence>), Refusal> {
     Ok((pre, prologue))
 }
 
-// The statements and the assertion after the processes, up to the end.
-fn closing(cursor: &mut Cursor) -> Result<(Option<Sequence>, Note), Refusal> {
-    let epilogue = main_part(cursor)?;
-    let post = note(LEVELS, cursor)?;
+// What was read, if no word is left.
+fn at_end<T: Drop>(read: Result<T, Refusal>, cursor: &Cursor) -> Result<T, Refusal> {
+    let value = read?;
     if cursor.peek().is_some() {
         return Err(Refusal::Fault(Stop::Expected));
     }
+    Ok(value)
+}
+
+// The statements and the assertion after the processes, up to the end.
+fn closing(cursor: &mut Cursor) -> Result<(Option<Sequence>, Note), Refusal> {
+    let epilogue = main_part(cursor)?;
+    let post = at_end(note(LEVELS, cursor), cursor)?;
     Ok((epilogue, post))
 }
 
-fn template(cursor: &mut Cursor) -> Result<Template, Refusal> {
-    cursor.expect_special(Special::Template)?;
-    cursor.expect(&TokenKind::Semicolon)?;
-    let declared = declared(cursor)?;
-    let (pre, prologue) = opening(cursor)?;
-    let middle = middle(cursor)?;
-    let (epilogue, post) = closing(cursor)?;
-    Ok(Template {
+// A template of its parts.
+fn joined(
+    declared: Declarations,
+    (pre, prologue): (Note, Option<Sequence>),
+    middle: Center,
+    (epilogue, post): (Option<Sequence>, Note),
+) -> Template {
+    Template {
         constants: declared.constants,
         variables: declared.variables,
         auxiliaries: declared.auxiliaries,
@@ -213,7 +221,17 @@ fn template(cursor: &mut Cursor) -> Result<Template, Refusal> {
         processes: middle.processes,
         epilogue,
         post,
-    })
+    }
+}
+
+fn template(cursor: &mut Cursor) -> Result<Template, Refusal> {
+    cursor.expect_special(Special::Template)?;
+    cursor.expect(&TokenKind::Semicolon)?;
+    let declared = declared(cursor)?;
+    let opening = opening(cursor)?;
+    let middle = middle(cursor)?;
+    let closing = closing(cursor)?;
+    Ok(joined(declared, opening, middle, closing))
 }
 
 // The offset of the first word that is left, or of the end of the last word.

@@ -8,7 +8,7 @@ use crate::special::{Special, keyword};
 use og_text::{Span, Token, TokenKind};
 
 /// What a word is.
-#[derive(Debug, Drop)]
+#[derive(Drop)]
 pub enum WordKind {
     /// A word of outlines that is no keyword of templates.
     Lexeme(TokenKind),
@@ -17,7 +17,7 @@ pub enum WordKind {
 }
 
 /// A word and where it stands.
-#[derive(Debug, Drop)]
+#[derive(Drop)]
 pub struct Word {
     /// What the word is.
     pub kind: WordKind,

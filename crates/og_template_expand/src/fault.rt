@@ -9,7 +9,7 @@ use og_text::Span;
 use std::alloc::{AllocError, AllocFailed};
 
 /// Why an expansion stops.
-#[derive(Clone, Copy, Debug, Drop)]
+#[derive(Clone, Copy, Drop)]
 pub(crate) enum Stop {
     /// An allocation was refused.
     Memory,

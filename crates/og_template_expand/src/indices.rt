@@ -5,14 +5,14 @@ use crate::range::Range;
 use std::alloc::{AllocError, Global};
 
 /// A parameter or bound name, and the number that it stands for.
-#[derive(Debug, Drop)]
+#[derive(Drop)]
 pub struct Bound {
     pub name: Vec<u8>,
     pub value: i64,
 }
 
 /// An index that is not in its family's range, and the names in scope there.
-#[derive(Debug, Drop)]
+#[derive(Drop)]
 pub struct Outside {
     pub index: i64,
     /// The lowest index of the family.

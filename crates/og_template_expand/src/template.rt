@@ -24,7 +24,7 @@ use og_text::Span;
 use std::alloc::{AllocError, Global};
 
 /// The tree of an outline, with places of the template, and where it comes from.
-#[derive(Debug, Drop)]
+#[derive(Drop)]
 pub struct Expanded<'a> {
     /// The tree. Each span is the place of the word of the template that it comes from.
     pub raw: Raw,

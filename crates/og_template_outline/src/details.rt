@@ -9,7 +9,7 @@ use og_template_expand::{Binding, Outside, outside};
 use std::alloc::{AllocError, Global};
 
 /// What a name stands for.
-#[derive(Clone, Copy, Debug, Drop, PartialEq, Eq)]
+#[derive(Clone, Copy, Drop, PartialEq, Eq)]
 pub enum Kind {
     /// A number: a constant, a parameter or a bound name.
     Value,
@@ -22,7 +22,7 @@ pub enum Kind {
 }
 
 /// What a place takes.
-#[derive(Clone, Copy, Debug, Drop, PartialEq, Eq)]
+#[derive(Clone, Copy, Drop, PartialEq, Eq)]
 pub enum Wanted {
     /// A number, in an expression.
     Value,
@@ -52,7 +52,7 @@ impl Wanted {
 }
 
 /// What more is known of a fault of a name.
-#[derive(Clone, Copy, Debug, Drop, PartialEq, Eq)]
+#[derive(Clone, Copy, Drop, PartialEq, Eq)]
 pub enum NameDetail {
     /// Where the name was declared or bound before: a byte offset in the template.
     First(u32),
@@ -63,7 +63,7 @@ pub enum NameDetail {
 }
 
 /// What more is known of a fault of a template.
-#[derive(Debug, Drop)]
+#[derive(Drop)]
 pub enum Detail {
     /// Of the fault of a name.
     Name(NameDetail),

@@ -9,7 +9,7 @@ use og_typed::{SourceError, SourceFault, TypeError, TypeFault};
 use std::alloc::{AllocError, AllocFailed};
 
 /// The fault of a template or its outline.
-#[derive(Clone, Copy, Debug, Drop, PartialEq, Eq)]
+#[derive(Clone, Copy, Drop, PartialEq, Eq)]
 pub enum ExpandFault {
     /// The text is not cut into words.
     Words(LexFault),
@@ -74,7 +74,7 @@ pub(crate) enum ExpandError {
 }
 
 /// Why a text means no outline, with the words behind it.
-#[derive(Clone, Copy, Debug, Drop, PartialEq, Eq)]
+#[derive(Clone, Copy, Drop, PartialEq, Eq)]
 pub enum MeaningError<'a> {
     /// An allocation was refused.
     Memory,

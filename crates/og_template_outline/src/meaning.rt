@@ -16,7 +16,7 @@ use og_typed::{Outline, Source};
 use std::alloc::{AllocError, Global};
 
 /// An outline that a text means.
-#[derive(Debug, Drop)]
+#[derive(Drop)]
 pub enum Meaning {
     /// That of a source.
     Source(Outline),
@@ -49,7 +49,7 @@ impl Meaning {
 }
 
 /// What the words behind a text may give.
-#[derive(Clone, Copy, Debug, PartialEq, Eq)]
+#[derive(Clone, Copy, PartialEq, Eq)]
 pub enum Takes {
     /// Values of a template's constants.
     Constants,
@@ -58,7 +58,7 @@ pub enum Takes {
 }
 
 /// What a text means, and the words that give starts.
-#[derive(Debug, Drop)]
+#[derive(Drop)]
 pub struct Reading<'a> {
     /// The outline.
     pub meaning: Meaning,

@@ -111,18 +111,28 @@ fn check_processes<'a>(scope: &mut Scope<'a>, processes: &'a [Process]) -> Resul
     Ok(())
 }
 
+// Takes the declarations of a template.
+fn declare<'a>(scope: &mut Scope<'a>, template: &'a Template) -> Result<(), NameError> {
+    declare_constants(scope, &template.constants)?;
+    declare_variables(scope, &template.variables)?;
+    declare_auxiliaries(scope, &template.auxiliaries)?;
+    declare_named(scope, &template.named)
+}
+
+// Asks the names behind the declarations.
+fn check_program<'a>(scope: &mut Scope<'a>, template: &'a Template) -> Result<(), NameError> {
+    check_assertion(scope, &template.pre.assertion)?;
+    check_main(scope, &template.prologue)?;
+    check_processes(scope, &template.processes)?;
+    check_main(scope, &template.epilogue)?;
+    check_assertion(scope, &template.post.assertion)
+}
+
 // Asks the names of a template.
 fn check_template(alloc: Global, template: &Template) -> Result<(), NameError> {
     let mut scope = Scope::new(alloc);
-    declare_constants(&mut scope, &template.constants)?;
-    declare_variables(&mut scope, &template.variables)?;
-    declare_auxiliaries(&mut scope, &template.auxiliaries)?;
-    declare_named(&mut scope, &template.named)?;
-    check_assertion(&mut scope, &template.pre.assertion)?;
-    check_main(&mut scope, &template.prologue)?;
-    check_processes(&mut scope, &template.processes)?;
-    check_main(&mut scope, &template.epilogue)?;
-    check_assertion(&mut scope, &template.post.assertion)
+    declare(&mut scope, template)?;
+    check_program(&mut scope, template)
 }
 
 /// Asks that each name of a template is declared once before it is used, and used as what it is.

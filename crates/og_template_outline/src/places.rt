@@ -4,7 +4,7 @@ use og_parse::{Raw, RawAssert, RawItem, RawNote, RawProcesses, RawSeq, RawStmt};
 use std::alloc::{AllocError, Global};
 
 /// A note, a statement or `cobegin` of a tree.
-#[derive(Debug, Drop)]
+#[derive(Drop)]
 pub(crate) struct Part {
     /// Its byte offset.
     pub(crate) at: u32,

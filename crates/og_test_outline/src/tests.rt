@@ -3,10 +3,14 @@
 mod actions;
 mod conditions;
 mod erasing;
+mod facts;
 mod forms;
 mod laws;
 mod lexing;
+mod lines;
 mod parsing;
 mod places;
+mod reading;
 mod steps;
+mod texts;
 mod truth;

@@ -18,7 +18,7 @@ use std::process::Abort;
 use std::sync::Wait;
 use std::thread::Threads;
 
-#[derive(Clone, Copy, Debug)]
+#[derive(Clone, Copy)]
 enum Call {
     Judge,
     SumUp,

@@ -9,7 +9,7 @@ use std::marker::Model;
 
 /// A text with the offsets at which its lines start, by which many offsets of it are placed fast.
 /// Contracts see it as the text.
-#[derive(Debug, Drop)]
+#[derive(Drop)]
 pub struct LineIndex<'a> {
     text: &'a [u8],
     // The offset right after each LF, in order.

@@ -88,7 +88,7 @@ pub enum TokenKind {
 }
 
 /// A lexeme and where it stands.
-#[derive(Debug, Drop)]
+#[derive(Drop)]
 pub struct Token {
     /// What the lexeme is.
     pub kind: TokenKind,

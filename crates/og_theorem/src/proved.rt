@@ -11,7 +11,7 @@ use std::marker::Model;
 
 /// An outline every condition of which but the last is true in every state; and the last one too,
 /// where `unblocked` answers so.
-#[derive(Debug, Drop)]
+#[derive(Drop)]
 pub struct Proved<'a> {
     outline: &'a Outline,
     unblocked: bool,

@@ -10,7 +10,7 @@ use crate::{Item, Note, Outline, Seq, Stmt};
 use std::alloc::{AllocError, Global};
 
 /// Assertions and statements, each in text order.
-#[derive(Debug, Drop)]
+#[derive(Drop)]
 pub(crate) struct Sites<'a> {
     pub(crate) notes: Vec<NoteSite<'a>>,
     pub(crate) statements: Vec<StatementSite<'a>>,

@@ -11,7 +11,7 @@ use std::alloc::{AllocError, Global};
 use std::marker::Model;
 
 /// The assertions and statements of an outline, by their places. Contracts see it as the outline.
-#[derive(Debug, Drop)]
+#[derive(Drop)]
 pub struct Index<'a> {
     outline: &'a Outline,
     sites: Sites<'a>,

@@ -23,7 +23,7 @@ pub struct Outline {
 }
 
 /// The parts of an outline, by name.
-#[derive(Debug, Drop)]
+#[derive(Drop)]
 pub struct Parts {
     /// The names of the variables, the auxiliaries last.
     pub names: Vec<Name>,

@@ -14,7 +14,7 @@ use std::marker::Model;
 
 /// A point before a statement, and those that come after it, by number: where the statement is
 /// left, where it leads with a true test, and where with a false one. Point 0 is the end.
-#[derive(Clone, Copy, Debug, Drop)]
+#[derive(Clone, Copy, Drop)]
 pub(crate) struct Point<'a> {
     item: &'a Item,
     after: u32,
@@ -26,7 +26,7 @@ pub(crate) struct Point<'a> {
 const END: u32 = 0;
 
 /// The points of an outline, by number; 0 is the end. Contracts see the rest at each.
-#[derive(Debug, Drop)]
+#[derive(Drop)]
 pub struct Points<'a> {
     points: Vec<Point<'a>>,
 }
@@ -64,7 +64,7 @@ impl<'a> Point<'a> {
 }
 
 /// The points of an outline, and where each of its parts begins.
-#[derive(Debug, Drop)]
+#[derive(Drop)]
 pub struct Beginning<'a> {
     /// The points.
     pub points: Points<'a>,
@@ -82,7 +82,10 @@ fn push<'a>(points: &mut Vec<Point<'a>>, point: Point<'a>) -> Result<u32, AllocE
     ensures last { IfOk result (λ at. at ≡ length points.new.items) }
 {
     points.push(point)?;
-    u32::try_from(points.len()).map_err(|_| AllocError)
+    match u32::try_from(points.len()) {
+        Ok(at) => Ok(at),
+        Err(_) => Err(AllocError),
+    }
 }
 
 // The points of the statement, where it is left at `after`.

@@ -3,7 +3,7 @@
 use crate::{Item, Note};
 
 /// A part of a program.
-#[derive(Clone, Copy, Debug, PartialEq, Eq)]
+#[derive(Clone, Copy, PartialEq, Eq)]
 pub enum Part {
     /// What the main process does before the others.
     Prologue,
@@ -14,7 +14,7 @@ pub enum Part {
 }
 
 /// An assertion of a part of a program.
-#[derive(Clone, Copy, Debug)]
+#[derive(Clone, Copy)]
 pub struct NoteSite<'a> {
     pub note: &'a Note,
     pub part: Part,
@@ -23,7 +23,7 @@ pub struct NoteSite<'a> {
 }
 
 /// A statement of a part of a program.
-#[derive(Clone, Copy, Debug)]
+#[derive(Clone, Copy)]
 pub struct StatementSite<'a> {
     /// The statement, and the assertion before it.
     pub item: &'a Item,

@@ -9,6 +9,7 @@ ghost use Rattle.og_typed.specs.declared.fault.TypeError.TheVariants as errors;
 ghost use Rattle.og_typed.specs.Answer.{IsResolved};
 ghost use Rattle.og_typed.specs.Bounds.{IsWithin};
 ghost use Rattle.og_typed.specs.Plain.{formula};
+ghost use Rattle.og_typed.specs.Syntax.{Le};
 ghost use Rattle.og_typed.specs.Resolved.{Use as UseOf};
 ghost use Rattle.og_typed.specs.Resolved as meaning;
 ghost use Rattle.og_typed.specs.Scoped.{scope_of, use_of};
@@ -108,6 +109,26 @@ fn plus_one(alloc: Global, mut f: Form) -> Result<Form, TypeError>
     Ok(f)
 }
 
+// That f is at most g.
+fn at_most(f: Form, g: &Form) -> Result<Assert, TypeError>
+    requires left { IsWithin (2 ^ 124) f }
+    requires right { IsWithin (2 ^ 124) g.now }
+    ensures ok { IfOk result (λ a. formula a ≡ Le (meaning.minus f g.now)) }
+    ensures err { IfErr result (λ e. e ≡ errors.Memory) }
+{
+    Ok(Assert::Le(minus(f, g)?))
+}
+
+// That f is less than g.
+fn less(alloc: Global, f: Form, g: &Form) -> Result<Assert, TypeError>
+    requires left { IsWithin (2 ^ 124) f }
+    requires right { IsWithin (2 ^ 124) g.now }
+    ensures ok { IfOk result (λ a. formula a ≡ Le (meaning.plus_one (meaning.minus f g.now))) }
+    ensures err { IfErr result (λ e. e ≡ errors.Memory) }
+{
+    Ok(Assert::Le(plus_one(alloc, minus(f, g)?)?))
+}
+
 // Two forms compared, as one form that is compared with 0.
 fn compared(alloc: Global, relation: Relation, f: Form, g: Form) -> Result<Assert, TypeError>
     requires left { IsWithin (2 ^ 124) f }
@@ -116,10 +137,10 @@ fn compared(alloc: Global, relation: Relation, f: Form, g: Form) -> Result<Asser
     ensures err { IfErr result (λ e. e ≡ errors.Memory) }
 {
     match relation {
-        Relation::LessEqual => Ok(Assert::Le(minus(f, &g)?)),
-        Relation::Less => Ok(Assert::Le(plus_one(alloc, minus(f, &g)?)?)),
-        Relation::GreaterEqual => Ok(Assert::Le(minus(g, &f)?)),
-        Relation::Greater => Ok(Assert::Le(plus_one(alloc, minus(g, &f)?)?)),
+        Relation::LessEqual => at_most(f, &g),
+        Relation::Less => less(alloc, f, &g),
+        Relation::GreaterEqual => at_most(g, &f),
+        Relation::Greater => less(alloc, g, &f),
         Relation::Equal => Ok(Assert::Eq(minus(f, &g)?)),
         Relation::NotEqual => Ok(Assert::Ne(minus(f, &g)?)),
     }

@@ -4,7 +4,7 @@ use og_linear::State;
 
 /// The violation at a moment. Processes have their numbers from 0, in the order of the text; the
 /// main process has the number after the last.
-#[derive(Clone, Copy, Debug, Drop, PartialEq, Eq)]
+#[derive(Clone, Copy, Drop, PartialEq, Eq)]
 pub enum Wrong {
     /// The current assertion of this process, which is active, is false.
     Assertion(u32),
@@ -18,7 +18,7 @@ pub enum Wrong {
 
 /// A run, and the violation at its end. The values are those of the variables that are no
 /// auxiliaries, at the start.
-#[derive(Debug, Drop)]
+#[derive(Drop)]
 pub struct Violation {
     /// The values at the start.
     pub values: State,

@@ -14,22 +14,12 @@ diagnostics_of-requires-clause-few c =
     let few = c.requires.few in
     omega (arith, same, few)
 
-pub parts_of-requires-clause-each : goal.parts_of-requires-clause-each
-parts_of-requires-clause-each c =
+pub counts_of-requires-clause-each : goal.counts_of-requires-clause-each
+counts_of-requires-clause-each c =
     length_diagnosed c.args.subject.now.outline.now (map seen c.args.conditions.now) c.args.diagnoses.now c.requires.are ∙ length-map c.args.conditions.now seen
 
-pub parts_of-requires-clause-few : goal.parts_of-requires-clause-few
-parts_of-requires-clause-few c =
-    let same = length_diagnosed c.args.subject.now.outline.now (map seen c.args.conditions.now) c.args.diagnoses.now c.requires.are ∙ length-map c.args.conditions.now seen in
-    let few = c.requires.few in
-    omega (arith, same, few)
-
-pub statements_of-requires-clause-each : goal.statements_of-requires-clause-each
-statements_of-requires-clause-each c =
-    length_diagnosed c.args.subject.now.outline.now (map seen c.args.conditions.now) c.args.diagnoses.now c.requires.are ∙ length-map c.args.conditions.now seen
-
-pub statements_of-requires-clause-few : goal.statements_of-requires-clause-few
-statements_of-requires-clause-few c =
+pub counts_of-requires-clause-few : goal.counts_of-requires-clause-few
+counts_of-requires-clause-few c =
     let same = length_diagnosed c.args.subject.now.outline.now (map seen c.args.conditions.now) c.args.diagnoses.now c.requires.are ∙ length-map c.args.conditions.now seen in
     let few = c.requires.few in
     omega (arith, same, few)
@@ -39,6 +29,6 @@ returns-clause-within c = record {
   diagnostics = c.in_ok-diagnostics.ensures.within;
   summary = c.summary_of-summary.ensures.lies;
   remarks = c.in_ok-remarks.ensures.within;
-  parts = c.in_ok-parts.ensures.lies;
-  statements = c.in_ok-statements.ensures.lies;
+  parts = c.in_ok-counts.ensures.parts_lie;
+  statements = c.in_ok-counts.ensures.statements_lie;
 }

@@ -2,5 +2,5 @@ use Rattle.std.proofs.Common.{◌≡◌, ◌++◌, drop, filter}
 use Rattle.og_report_findings.specs.Order.{is_never}
 use Rattle.og_report_findings.proofs.order.never.Given as goal
 
-abbrev pub invariant-loop-entry : goal.invariant-loop-entry
-invariant-loop-entry l = l.chosen.items ++ filter (λ e. is_never e.run.now) (drop l.entry-index l.entries) ≡ filter (λ e. is_never e.run.now) l.entries
+abbrev pub invariant-loop-index : goal.invariant-loop-index
+invariant-loop-index l = l.chosen.items ++ filter (λ e. is_never e.run.now) (drop l.index l.entries) ≡ filter (λ e. is_never e.run.now) l.entries

@@ -1,31 +1,17 @@
 use Rattle.std.proofs.Common.{◌≡◌, ◌+◌, ◌++◌, codes, rules}
 use Rattle.std.specs.Prelude.{OnOk}
 use Rattle.std.specs.Fmt.{decimal}
-use Rattle.og_report_prove.proofs.Joins.{joined}
+use Rattle.og_report_text.proofs.Joins.{joined, joined_three}
 use Rattle.og_report_html.proofs.lanes.put_wide.Goals as goal
 
 pub returns : goal.returns
 returns c =
-    let r = c.extend_from_slice-6.result in
+    let r = c.put_between-2.result in
     let t0 = c.args.text.now.items in
-    let t1 = c.extend_from_slice.new.self.items in
-    let t2 = c.extend_from_slice-2.new.self.items in
-    let t3 = c.extend_from_slice-3.new.self.items in
-    let t4 = c.put_number.new.text.items in
-    let t5 = c.extend_from_slice-4.new.self.items in
-    let t6 = c.extend_from_slice-5.new.self.items in
-    let a1 = codes "<tr class=" in
-    let a2 = c.args.class.now in
-    let a3 = codes "><td><td colspan=" in
-    let a4 = decimal (c.args.lanes + 1) in
-    let a5 = codes ">" in
-    let a6 = c.args.line.now in
-    let a7 = codes "</tr>\n" in
-    let e1 : t1 ≡ t0 ++ a1 = c.in_ok-extend_from_slice.ensures.items in
-    let e2 : t2 ≡ t1 ++ a2 = c.in_ok-extend_from_slice-2.ensures.items in
-    let e3 : t3 ≡ t2 ++ a3 = c.in_ok-extend_from_slice-3.ensures.items in
-    let e4 : t4 ≡ t3 ++ a4 = search rules in
-    let e5 : t5 ≡ t4 ++ a5 = c.in_ok-extend_from_slice-4.ensures.items in
-    let e6 : t6 ≡ t5 ++ a6 = c.in_ok-extend_from_slice-5.ensures.items in
-    let e7 : OnOk r (c.extend_from_slice-6.new.self.items ≡ t6 ++ a7) = search rules in
-    joined r t0 t1 _ a1 _ e1 (joined r t1 t2 _ a2 _ e2 (joined r t2 t3 _ a3 _ e3 (joined r t3 t4 _ a4 _ e4 (joined r t4 t5 _ a5 _ e5 (joined r t5 t6 _ a6 a7 e6 e7)))))
+    let t1 = c.put_between.new.text.items in
+    let t2 = c.put_number.new.text.items in
+    let number = decimal (c.args.lanes + 1) in
+    let behind = codes ">" ++ (c.args.line.now ++ codes "</tr>\n") in
+    let e2 : t2 ≡ t1 ++ number = search rules in
+    let e3 : OnOk r (c.put_between-2.new.text.items ≡ t2 ++ behind) = search rules in
+    joined_three r t0 t1 _ (codes "<tr class=") c.args.class.now (codes "><td><td colspan=") _ c.in_ok-put_between.ensures (joined r t1 t2 _ number behind e2 e3)

@@ -1,25 +1,17 @@
 use Rattle.std.proofs.Common.{◌≡◌, ◌++◌, codes, rules}
 use Rattle.std.specs.Prelude.{OnOk}
 use Rattle.std.specs.Fmt.{decimal}
-use Rattle.og_report_prove.proofs.Joins.{joined}
+use Rattle.og_report_text.proofs.Joins.{joined, joined_three}
 use Rattle.og_report_html.proofs.totals.put_number_item.Goals as goal
 
 pub returns : goal.returns
 returns c =
-    let r = c.extend_from_slice-4.result in
+    let r = c.extend_from_slice.result in
     let t0 = c.args.text.now.items in
-    let t1 = c.extend_from_slice.new.self.items in
-    let t2 = c.extend_from_slice-2.new.self.items in
-    let t3 = c.extend_from_slice-3.new.self.items in
-    let t4 = c.put_number.new.text.items in
-    let a1 = codes "<li>" in
-    let a2 = c.args.word.now in
-    let a3 = codes " <b>" in
-    let a4 = decimal c.args.number in
-    let a5 = codes "</b></li>\n" in
-    let e1 : t1 ≡ t0 ++ a1 = c.in_ok-extend_from_slice.ensures.items in
-    let e2 : t2 ≡ t1 ++ a2 = c.in_ok-extend_from_slice-2.ensures.items in
-    let e3 : t3 ≡ t2 ++ a3 = c.in_ok-extend_from_slice-3.ensures.items in
-    let e4 : t4 ≡ t3 ++ a4 = search rules in
-    let e5 : OnOk r (c.extend_from_slice-4.new.self.items ≡ t4 ++ a5) = search rules in
-    joined r t0 t1 _ a1 _ e1 (joined r t1 t2 _ a2 _ e2 (joined r t2 t3 _ a3 _ e3 (joined r t3 t4 _ a4 a5 e4 e5)))
+    let t1 = c.put_between.new.text.items in
+    let t2 = c.put_number.new.text.items in
+    let number = decimal c.args.number in
+    let behind = codes "</b></li>\n" in
+    let e2 : t2 ≡ t1 ++ number = search rules in
+    let e3 : OnOk r (c.extend_from_slice.new.self.items ≡ t2 ++ behind) = search rules in
+    joined_three r t0 t1 _ (codes "<li>") c.args.word.now (codes " <b>") _ c.in_ok-put_between.ensures (joined r t1 t2 _ number behind e2 e3)

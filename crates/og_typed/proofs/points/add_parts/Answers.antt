@@ -1,6 +1,6 @@
 use Rattle.std.proofs.Common.{◌≡◌, ◌≤◌, ◌+◌, ◌++◌, ◌∷◌, [], map, take, length, append-nil, sym, ap, ap₂, ◌∙◌, subst}
 use Rattle.std.specs.List.{AllByRecursion}
-use Rattle.std.proofs.lemmas.List.{map_push, take_more}
+use Rattle.std.proofs.lemmas.List.{map_push, take_all, take_more}
 use Rattle.og_typed.specs.Plain.{sequence}
 use Rattle.og_typed.specs.Syntax.{items}
 use Rattle.og_typed.proofs.Each.{each_append}
@@ -46,3 +46,13 @@ loop-seq-preserved c =
           ∙ ap parts_rests (map_push sequence (take i parts) seq)
           ∙ parts_more (map sequence (take i parts)) (sequence seq)));
     }
+
+pub returns-clause-rests : goal.returns-clause-rests
+returns-clause-rests c =
+    c.loop-seq.invariant.rests
+    ∙ ap (λ l. map items (map sequence l)) (take_all c.loop-seq.seq-index c.args.parts.now c.loop-seq-test.false)
+
+pub returns-clause-table : goal.returns-clause-table
+returns-clause-table c =
+    c.loop-seq.invariant.table
+    ∙ ap (λ l. rests_of c.args.points.now.items ++ parts_rests (map sequence l)) (take_all c.loop-seq.seq-index c.args.parts.now c.loop-seq-test.false)

@@ -1,6 +1,6 @@
 //! Texts of certificates that are read, refused and written again.
 
-use crate::lines::with_lines;
+use super::lines::with_lines;
 use og_cert_read::{read_certs, write_certs_2};
 use og_cert_text::{CertFile, CertTextError, write_certs};
 use std::alloc::{AllocError, Global};
