@@ -1,14 +1,12 @@
 -- What assertions lack to prove a condition.
-use Rattle.std.specs.Prelude.{◌≡◌, ℕ, List, [], ◌∷◌, ◌++◌, map, Bool, true, false, nat_eq, ◌&&◌, ◌||◌, Vec, ⊤}
+use Rattle.std.specs.Prelude.{◌≡◌, ◌<◌, ◌≤◌, ℕ, List, [], ◌∷◌, ◌++◌, length, map, slice_index_or, Bool, true, false, nat_eq, ◌&&◌, ◌||◌, Vec, ⊤}
 use Rattle.std.specs.Global.{Global}
 use Rattle.og_typed.specs.Plain.{formula, noted}
 use Rattle.og_cond.specs.Condition.{Condition, Is, Yes}
-use Rattle.og_cond.specs.Seen.{seen}
 use Rattle.og_cond.specs.Valid.{IsValid}
 use Rattle.og_report_findings.specs.declared.suggestion.Suggestion.{Suggestion}
 use Rattle.og_report_prove.specs.declared.diagnosis.Diagnosis.{Diagnosis}
 use Rattle.og_report_prove.specs.declared.diagnosis.Diagnosis.TheVariants as diagnosis
-use Rattle.og_command_prove.specs.declared.finding.Finding.{Finding}
 use Rattle.og_command_prove.specs.declared.form.ReportForm.{ReportForm}
 use Rattle.og_command_prove.specs.declared.form.ReportForm.TheVariants as forms
 
@@ -43,11 +41,12 @@ abbrev pub IsAdvice : Condition → List ℕ → List Suggestion → Type 0
 IsAdvice c places [] = ⊤
 IsAdvice c places (s ∷ ss) = IsEnough c places (s ∷ ss)
 
--- each is advice for one of the rows, from the first on
-abbrev pub AreAdvised : List Finding → List (Vec Suggestion Global) → Type 0
-AreAdvised fs [] = ⊤
-AreAdvised [] (a ∷ more) = ⊥
-AreAdvised (f ∷ fs) (a ∷ more) = IsAdvice (seen f.condition) (places_of f.diagnosis) a.items × AreAdvised fs more
+-- each is advice for one of the conditions, from the first on
+pub record AreAdvised (cs : List Condition) (ts : List Diagnosis)
+    (advice : List (Vec Suggestion Global)) : Type 0 where
+  pub few : length advice ≤ length cs
+  pub each : (i : ℕ) (c : Condition) (t : Diagnosis) (a : Vec Suggestion Global) → i < length advice
+      → IsAdvice (slice_index_or cs i c) (places_of (slice_index_or ts i t)) (slice_index_or advice i a).items
 
 -- there is some in one form alone
 abbrev pub HasAdvice : ReportForm → List (Vec Suggestion Global) → Type 0

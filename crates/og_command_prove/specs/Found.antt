@@ -1,9 +1,8 @@
--- What is found of the conditions of an outline, one row for each, and how far runs were followed.
-use Rattle.std.specs.Prelude.{◌≡◌, ℕ, ◌+◌, ◌*◌, ◌^◌, ◌≤◌, ℤ, Bool, true, List, length, map, slice_get, All, Option, Some, None, is_some, ⊤}
+-- What is found of the conditions of an outline, and how far runs were followed.
+use Rattle.std.specs.Prelude.{◌≡◌, ℕ, ◌+◌, ◌*◌, ◌^◌, ◌≤◌, ◌<◌, ℤ, Bool, true, List, length, slice_get, slice_index_or, Option, Some, None, is_some, ⊤}
 use Rattle.og_typed.specs.Syntax.{Program}
 use Rattle.og_typed.specs.Machine.{Moment}
 use Rattle.og_cond.specs.Condition.{Condition}
-use Rattle.og_cond.specs.Seen.{seen}
 use Rattle.og_explore.specs.Seen.{IsKnown}
 use Rattle.og_explore.specs.From.{IsFrom, IsReachedFrom}
 use Rattle.og_explore.specs.Safety.{IsSafeFrom}
@@ -19,25 +18,13 @@ use Rattle.og_report_findings.specs.Verdicts.{has_false}
 use Rattle.og_violation.specs.Violations.{IsViolation}
 use Rattle.og_violation.specs.declared.violation.Violation.{Violation}
 use Rattle.og_violation.specs.declared.violation.Wrong.{Wrong}
-use Rattle.og_command_prove.specs.declared.finding.Finding.{Finding}
 
--- ---- the columns of rows
-
-abbrev pub conditions_in : List Finding → List Condition
-conditions_in = map (λ f. seen f.condition)
-
-abbrev pub diagnoses_in : List Finding → List Diagnosis
-diagnoses_in = map (λ f. f.diagnosis)
-
-abbrev pub runs_in : List Finding → List Run
-runs_in = map (λ f. f.run)
-
--- ---- one row
+-- ---- one condition
 
 -- where a run gets to a state, the diagnosis is of that state, and of where the run has the
 -- processes; else, where it says where they stand, the assertion at each place is true
 abbrev pub IsOfRun : Program → Run → Diagnosis → Type 0
-IsOfRun o (run.Reached w) diagnosis = IsDiagnosisBy o w diagnosis
+IsOfRun o (run.Reached w) diagnosis = IsDiagnosisBy o w.value diagnosis
 IsOfRun o run.Never diagnosis = IsAllowed o diagnosis
 IsOfRun o run.Open diagnosis = IsAllowed o diagnosis
 
@@ -47,11 +34,9 @@ Starts = List (List (ℤ × ℤ))
 
 -- the diagnosis of the condition is true of it, and so is what is said of the runs from the starts
 -- within the lists; without these nothing is said of runs
-abbrev pub IsFound : Program → Option Starts → Finding → Type 0
-IsFound o None f = IsDiagnosis o (seen f.condition) f.diagnosis × IsAllowed o f.diagnosis × (f.run ≡ run.Open)
-IsFound o (Some lists) f =
-    IsDiagnosis o (seen f.condition) f.diagnosis × IsRun o lists (seen f.condition) f.run
-    × IsOfRun o f.run f.diagnosis
+abbrev pub IsFound : Program → Option Starts → Condition → Diagnosis → Run → Type 0
+IsFound o None c t r = IsDiagnosis o c t × IsAllowed o t × (r ≡ run.Open)
+IsFound o (Some lists) c t r = IsDiagnosis o c t × IsRun o lists c r × IsOfRun o r t
 
 -- ---- how far runs were followed
 
@@ -96,10 +81,18 @@ pub record IsAsked (runs : Bool) (ts : List Diagnosis) (e : Option Explored) : T
 
 -- ---- all of it
 
--- there is a row for each of the conditions, in their order, and what the rows say is so
-pub record AreFound (o : Program) (cs : List Condition) (fs : List Finding)
+-- for each of the conditions there is a diagnosis and what is said of runs, in their order, and these
+-- are so
+pub record AreFoundOf (o : Program) (lists : Option Starts) (cs : List Condition) (ts : List Diagnosis)
+    (rs : List Run) : Type 0 where
+  pub diagnoses : length ts ≡ length cs
+  pub runs : length rs ≡ length cs
+  pub each : (i : ℕ) (c : Condition) (t : Diagnosis) (r : Run) → i < length cs
+      → IsFound o lists (slice_index_or cs i c) (slice_index_or ts i t) (slice_index_or rs i r)
+
+-- that, and how far runs were followed
+pub record AreFound (o : Program) (cs : List Condition) (ts : List Diagnosis) (rs : List Run)
     (e : Option Explored) : Type 0 where
-  pub conditions : conditions_in fs ≡ cs
   pub lists : Option Starts
-  pub each : All (IsFound o lists) fs
+  pub found : AreFoundOf o lists cs ts rs
   pub explored : IsExplored o cs lists e

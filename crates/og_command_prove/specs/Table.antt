@@ -7,8 +7,6 @@ use Rattle.og_report_prove.specs.declared.diagnosis.Diagnosis.{Diagnosis}
 use Rattle.og_report_runs.specs.declared.lines.Explored.{Explored}
 use Rattle.og_report_runs.specs.declared.witness.Run.{Run}
 use Rattle.og_report_findings.specs.declared.suggestion.Suggestion.{Suggestion}
-use Rattle.og_command_prove.specs.Found.{conditions_in, diagnoses_in, runs_in}
-use Rattle.og_command_prove.specs.declared.finding.Finding.{Finding}
 use Rattle.og_command_prove.specs.declared.finding.Table.{Table}
 
 -- what reports are printed of
@@ -19,15 +17,6 @@ pub record Columns : Type 0 where
   pub explored : Option Explored
   -- what a text suggests below each false one
   pub advice : List (Vec Suggestion Global)
-
-abbrev pub columns_in : List Finding → Option Explored → List (Vec Suggestion Global) → Columns
-columns_in fs e advice = record {
-  conditions = conditions_in fs;
-  diagnoses = diagnoses_in fs;
-  runs = runs_in fs;
-  explored = e;
-  advice = advice;
-}
 
 abbrev pub columns_of : Table → Columns
 columns_of t = record {

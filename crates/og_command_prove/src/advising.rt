@@ -1,6 +1,6 @@
 //! What assertions lack to prove a false condition.
 
-ghost use Rattle.std.specs.Prelude.{◌≡◌, ◌++◌, true, map, IfOk};
+ghost use Rattle.std.specs.Prelude.{◌≡◌, ◌++◌, true, length, map, IfOk};
 ghost use Rattle.og_typed.specs.Plain.{noted};
 ghost use Rattle.og_cond.specs.Seen.{seen, parts_of, hypothesis_of};
 ghost use Rattle.og_cond.specs.Valid.{IsValid};
@@ -8,7 +8,6 @@ ghost use Rattle.og_command_prove.specs.Advice.{with_given, places_of, has_place
 ghost use Rattle.og_command_prove.specs.Moments.{IsDiagnoser};
 
 use crate::diagnoser::Diagnoser;
-use crate::finding::Finding;
 use og_cond::{Condition, Hypothesis, Part};
 use og_find::{Verdict, examine};
 use og_report_findings::Suggestion;
@@ -209,20 +208,21 @@ impl<'s, 'a> Advisor<'s, 'a> {
         }
         Ok(Vec::new(alloc))
     }
-    // What assertions lack to prove the condition of a row, if it is false.
+    // What assertions lack to prove the condition, if it is false.
     fn advice_of(
         &self,
-        row: &Finding<'a>,
+        condition: &Condition<'a>,
+        diagnosis: &Diagnosis<'a>,
         candidates: &[Suggestion<'a>],
     ) -> Result<Vec<Suggestion<'a>>, AllocError>
         requires { IsDiagnoser self.now.diagnoser }
-        ensures { IfOk result (λ ss. IsAdvice (seen row.now.condition)
-            (places_of row.now.diagnosis) ss.items) }
+        ensures { IfOk result (λ ss. IsAdvice (seen condition.now)
+            (places_of diagnosis.now) ss.items) }
     {
-        match &row.diagnosis {
+        match diagnosis {
             Diagnosis::False(block) => {
                 let known = block.details.explanation.known.as_slice();
-                self.advice_at(&row.condition, known, candidates)
+                self.advice_at(condition, known, candidates)
             }
             Diagnosis::Proved | Diagnosis::Open => Ok(Vec::new(self.diagnoser.alloc)),
         }
@@ -230,30 +230,32 @@ impl<'s, 'a> Advisor<'s, 'a> {
 
     /// What assertions lack to prove each false condition, as far as these candidates say: of those
     /// for assertions from which the condition starts, the ones that prove it together, without those
-    /// that it does not need. Nothing for the others, and for those behind the first 200 false ones.
+    /// that it does not need. Nothing for the others; the list ends before the 201st false one.
     ///
     /// # Errors
     ///
     /// An allocation was refused.
     pub(crate) fn advice(
         &self,
-        rows: &[Finding<'a>],
+        conditions: &[Condition<'a>],
+        diagnoses: &[Diagnosis<'a>],
         candidates: &[Suggestion<'a>],
     ) -> Result<Vec<Vec<Suggestion<'a>>>, AllocError>
-        requires { IsDiagnoser self.now.diagnoser }
-        ensures { IfOk result (λ all. AreAdvised rows.now all.items) }
+        requires diagnoser { IsDiagnoser self.now.diagnoser }
+        requires each { length diagnoses.now ≡ length conditions.now }
+        ensures { IfOk result (λ all. AreAdvised (map seen conditions.now) diagnoses.now all.items) }
     {
         let mut all = Vec::new(self.diagnoser.alloc);
         let mut tried = 0usize;
-        for row in rows {
-            if row.diagnosis.is_false() {
+        for index in 0..conditions.len() {
+            let diagnosis = &diagnoses[index];
+            if diagnosis.is_false() {
                 tried = tried.saturating_add(1);
             }
-            all.push(if tried <= MOST_ADVISED {
-                self.advice_of(row, candidates)?
-            } else {
-                Vec::new(self.diagnoser.alloc)
-            })?;
+            if tried > MOST_ADVISED {
+                return Ok(all);
+            }
+            all.push(self.advice_of(&conditions[index], diagnosis, candidates)?)?;
         }
         Ok(all)
     }

@@ -20,7 +20,7 @@ ghost use Rattle.og_report_text.specs.Subject.{subject_of, IsShort};
 
 use crate::advising::Advisor;
 use crate::diagnoser::Diagnoser;
-use crate::finding::{Finding, Findings};
+use crate::finding::Findings;
 use crate::form::ReportForm;
 use crate::printing::printed;
 use crate::prover::Prover;
@@ -65,15 +65,17 @@ fn answer_of<'a>(
 ) -> Result<Answer, AllocError>
     requires short { IsShort (subject_of subject.now) }
     requires few { length (conditions_of subject.now.outline.now) ≤ condition_limit }
+    requires listed { map seen findings.conditions.items ≡ conditions_of subject.now.outline.now }
     requires found { AreFound subject.now.outline.now (conditions_of subject.now.outline.now)
-        findings.rows.items findings.explored }
-    requires advised { AreAdvised findings.rows.items advice.items }
+        findings.diagnoses.items findings.runs.items findings.explored }
+    requires advised { AreAdvised (conditions_of subject.now.outline.now)
+        findings.diagnoses.items advice.items }
     requires in_form { HasAdvice form advice.items }
     ensures { IfOk result (λ a. (runs : Bool)
-        → IsAsked runs (map (λ r. r.diagnosis) findings.entry.rows.items) findings.entry.explored
+        → IsAsked runs findings.entry.diagnoses.items findings.entry.explored
         → IsReported form.entry runs (subject_of subject.now) a) }
 {
-    let table = findings.into_table(alloc, advice)?;
+    let table = findings.with_advice(advice);
     let text = printed(alloc, subject, &table, form)?;
     let status = status_of(subject.outline, &table.diagnoses);
     Ok(Answer { text, status })
@@ -84,11 +86,13 @@ impl<'r, G: Gate, H: Threads + Wait + Sync> Prover<'r, G, H> {
     fn advice_in<'t>(
         &self,
         outline: &'t Outline,
-        rows: &[Finding<'t>],
+        findings: &Findings<'t>,
         candidates: &[Suggestion<'t>],
         form: ReportForm,
     ) -> Result<Vec<Vec<Suggestion<'t>>>, AllocError>
-        ensures advised { IfOk result (λ all. AreAdvised rows.now all.items) }
+        requires { length findings.now.diagnoses.items ≡ length findings.now.conditions.items }
+        ensures advised { IfOk result (λ all. AreAdvised (map seen findings.now.conditions.items)
+            findings.now.diagnoses.items all.items) }
         ensures in_form { IfOk result (λ all. HasAdvice form.entry all.items) }
     {
         let alloc = self.alloc;
@@ -101,7 +105,8 @@ impl<'r, G: Gate, H: Threads + Wait + Sync> Prover<'r, G, H> {
                     index: &index,
                 };
                 let budget = self.search.budget.facts();
-                Advisor { diagnoser, budget }.advice(rows, candidates)
+                let (conditions, diagnoses) = (&findings.conditions, &findings.diagnoses);
+                Advisor { diagnoser, budget }.advice(conditions, diagnoses, candidates)
             }
             ReportForm::Text | ReportForm::Json | ReportForm::Page(_) => Ok(Vec::new(alloc)),
         }
@@ -123,7 +128,7 @@ impl<'r, G: Gate, H: Threads + Wait + Sync> Prover<'r, G, H> {
         ensures spawn { IfErr result (λ e. e ≡ Spawn → 1 < self.now.search.workers) }
     {
         let findings = self.findings(subject.outline, conditions, asked)?;
-        let advice = self.advice_in(subject.outline, &findings.rows, candidates, form)?;
+        let advice = self.advice_in(subject.outline, &findings, candidates, form)?;
         let answer = answer_of(self.alloc, subject, findings, advice, form)?;
         Ok(answer)
     }

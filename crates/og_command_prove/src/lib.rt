@@ -1,7 +1,7 @@
 //! The commands `prove` and `show`: a question gives findings, and these are printed in a form.
 //!
 //! A `Prover` is asked of an outline in its texts (asking.rt). Its conditions are searched, and
-//! followed by runs where some are asked for (searching.rt, diagnoser.rt). There is one row for each condition (finding.rt), and the rows are
+//! followed by runs where some are asked for (searching.rt, diagnoser.rt). What is found (finding.rt) is
 //! printed (printing.rt, answering.rt). specs/Reply.antt says what is promised of a reply.
 #![tactic(auto)]
 
@@ -16,6 +16,5 @@ mod prover;
 mod searching;
 mod starting;
 
-pub use finding::Finding;
 pub use form::ReportForm;
 pub use prover::{Prover, Search};

@@ -1,17 +1,17 @@
 //! From the conditions of an outline to the findings on them: by searches, and by runs where these
 //! are asked for and a condition is false.
 
-ghost use Rattle.std.specs.Prelude.{◌≡◌, ◌<◌, ◌≤◌, true, None, Some, is_some, length, map, All, IfOk, IfErr};
+ghost use Rattle.std.specs.Prelude.{◌≡◌, ◌<◌, ◌≤◌, true, None, Some, is_some, length, map, IfOk, IfErr, OnOk};
 ghost use Rattle.og_cond.specs.Limits.{condition_limit};
 ghost use Rattle.og_cond.specs.Seen.{seen};
 ghost use Rattle.og_find_all.specs.Findings.{AreVerdicts};
 ghost use Rattle.og_pool.specs.declared.fault.PoolFault.TheVariants.{Spawn};
 ghost use Rattle.og_report_findings.specs.Verdicts.{has_false};
-ghost use Rattle.og_command_prove.specs.Found.{IsFound, IsReach, IsAsked, AreFound};
+ghost use Rattle.og_command_prove.specs.Found.{IsReach, IsAsked, AreFoundOf, AreFound};
 ghost use Rattle.og_command_prove.specs.Moments.{lists_of, AreMoments, IsDiagnoser};
 
 use crate::diagnoser::{Diagnoser, Moments};
-use crate::finding::{Finding, Findings};
+use crate::finding::Findings;
 use crate::prover::Prover;
 use crate::starting::starts;
 use og_cond::Condition;
@@ -19,7 +19,8 @@ use og_explore::{Range, Safety, gather};
 use og_find_all::{Findings as Verdicts, examine_all};
 use og_io::MomentLimit;
 use og_pool::{Gate, PoolFault};
-use og_report_runs::Explored;
+use og_report_prove::Diagnosis;
+use og_report_runs::{Explored, Run};
 use og_typed::{Index, Outline};
 use std::alloc::{AllocError, Global};
 use std::sync::Wait;
@@ -40,57 +41,65 @@ pub(crate) struct AskedRuns<'s> {
 }
 
 // Whether a condition is false.
-fn has_false(rows: &[Finding]) -> bool
-    ensures { result ≡ has_false (map (λ r. r.diagnosis) rows.now) }
+fn has_false(diagnoses: &[Diagnosis]) -> bool
+    ensures { result ≡ has_false diagnoses.now }
 {
-    for row in rows {
-        if row.diagnosis.is_false() {
+    for diagnosis in diagnoses {
+        if diagnosis.is_false() {
             return true;
         }
     }
     false
 }
 
-// The row of each condition, by the verdict on it.
-fn rows_of<'a>(
+// What is found of each condition by the verdict on it.
+fn found_by<'a>(
     diagnoser: Diagnoser<'_, 'a>,
     conditions: Vec<Condition<'a>>,
     verdicts: &Verdicts,
-) -> Result<Vec<Finding<'a>>, AllocError>
+) -> Result<Findings<'a>, AllocError>
     requires diagnoser { IsDiagnoser diagnoser }
     requires verdicts { AreVerdicts (map seen conditions.items) verdicts.now }
-    ensures conditions { IfOk result (λ r.
-        map (λ f. f.condition) r.items ≡ conditions.entry.items) }
-    ensures each { IfOk result (λ r. All (IsFound diagnoser.entry.outline.now None) r.items) }
+    ensures conditions { IfOk result (λ f. f.conditions ≡ conditions.entry) }
+    ensures found { IfOk result (λ f. AreFoundOf diagnoser.entry.outline.now None
+        (map seen conditions.entry.items) f.diagnoses.items f.runs.items) }
+    ensures explored { IfOk result (λ f. f.explored ≡ None) }
 {
-    let mut rows = Vec::with_capacity(diagnoser.alloc, conditions.len())?;
-    for condition in conditions {
-        let verdict = verdicts.verdict(rows.len());
-        let row = diagnoser.row(condition, verdict)?;
-        rows.push(row)?;
+    let mut diagnoses = Vec::with_capacity(diagnoser.alloc, conditions.len())?;
+    let mut runs = Vec::with_capacity(diagnoser.alloc, conditions.len())?;
+    for index in 0..conditions.len() {
+        let verdict = verdicts.verdict(index);
+        diagnoses.push(diagnoser.diagnosed_by(&conditions[index], verdict)?)?;
+        runs.push(Run::Open)?;
     }
-    Ok(rows)
+    Ok(Findings {
+        conditions,
+        diagnoses,
+        runs,
+        explored: None,
+    })
 }
 
-// The same rows with what is known of the runs.
-fn followed_rows<'a>(
+// Puts in what is known of the runs.
+fn follow_all<'a>(
     diagnoser: Diagnoser<'_, 'a>,
     moments: &Moments<'a>,
-    rows: Vec<Finding<'a>>,
-) -> Result<Vec<Finding<'a>>, AllocError>
+    conditions: &[Condition<'a>],
+    diagnoses: &mut [Diagnosis<'a>],
+    runs: &mut [Run],
+) -> Result<(), AllocError>
     requires diagnoser { IsDiagnoser diagnoser }
     requires moments { AreMoments diagnoser.outline.now moments.now }
-    requires each { All (IsFound diagnoser.outline.now None) rows.items }
-    ensures conditions { IfOk result (λ r.
-        map (λ f. f.condition) r.items ≡ map (λ f. f.condition) rows.entry.items) }
-    ensures each { IfOk result (λ r.
-        All (IsFound diagnoser.entry.outline.now (Some (lists_of moments.now))) r.items) }
+    requires found { AreFoundOf diagnoser.outline.now None (map seen conditions.now)
+        diagnoses.old runs.old }
+    ensures { OnOk result (AreFoundOf diagnoser.entry.outline.now (Some (lists_of moments.now))
+        (map seen conditions.now) diagnoses.new runs.new) }
 {
-    let mut followed = Vec::with_capacity(diagnoser.alloc, rows.len())?;
-    for row in rows {
-        followed.push(diagnoser.followed(moments, row)?)?;
+    for index in 0..conditions.len() {
+        let (diagnosis, run) = (&mut diagnoses[index], &mut runs[index]);
+        diagnoser.follow(moments, &conditions[index], diagnosis, run)?;
     }
-    Ok(followed)
+    Ok(())
 }
 
 // The moments of the runs that are asked for, of this many conditions.
@@ -130,29 +139,37 @@ fn explored_of(outline: &Outline, moments: &Moments) -> Explored
 // The findings by the runs that are asked for, where a condition is false.
 fn followed<'a>(
     diagnoser: Diagnoser<'_, 'a>,
-    rows: Vec<Finding<'a>>,
+    findings: Findings<'a>,
     verdicts: &Verdicts,
     asked: &AskedRuns<'_>,
 ) -> Result<Findings<'a>, AllocError>
     requires diagnoser { IsDiagnoser diagnoser }
-    requires each { All (IsFound diagnoser.outline.now None) rows.items }
+    requires found { AreFoundOf diagnoser.outline.now None (map seen findings.conditions.items)
+        findings.diagnoses.items findings.runs.items }
+    requires explored { findings.explored ≡ None }
+    ensures conditions { IfOk result (λ f. f.conditions ≡ findings.entry.conditions) }
     ensures found { IfOk result (λ f. AreFound diagnoser.entry.outline.now
-        (map (λ r. seen r.condition) rows.entry.items) f.rows.items f.explored) }
-    ensures looked { IfOk result (λ f. has_false (map (λ r. r.diagnosis) f.rows.items) ≡ true
+        (map seen findings.entry.conditions.items) f.diagnoses.items f.runs.items f.explored) }
+    ensures looked { IfOk result (λ f. has_false f.diagnoses.items ≡ true
         → is_some f.explored ≡ true) }
 {
-    if !has_false(&rows) {
-        return Ok(Findings {
-            rows,
-            explored: None,
-        });
+    if !has_false(&findings.diagnoses) {
+        return Ok(findings);
     }
     let (alloc, outline) = (diagnoser.alloc, diagnoser.outline);
-    let moments = moments_of(alloc, outline, rows.len(), verdicts, asked)?;
+    let Findings {
+        conditions,
+        mut diagnoses,
+        mut runs,
+        explored: _,
+    } = findings;
+    let moments = moments_of(alloc, outline, conditions.len(), verdicts, asked)?;
     let explored = explored_of(outline, &moments);
-    let rows = followed_rows(diagnoser, &moments, rows)?;
+    follow_all(diagnoser, &moments, &conditions, &mut diagnoses, &mut runs)?;
     Ok(Findings {
-        rows,
+        conditions,
+        diagnoses,
+        runs,
         explored: Some(explored),
     })
 }
@@ -166,10 +183,11 @@ fn findings_of<'a>(
     asked: Option<&AskedRuns<'_>>,
 ) -> Result<Findings<'a>, AllocError>
     requires { AreVerdicts (map seen conditions.items) verdicts.now }
-    ensures found { IfOk result (λ f.
-        AreFound outline.now (map seen conditions.entry.items) f.rows.items f.explored) }
-    ensures asked { IfOk result (λ f. IsAsked (is_some asked.entry)
-        (map (λ r. r.diagnosis) f.rows.items) f.explored) }
+    ensures conditions { IfOk result (λ f. f.conditions ≡ conditions.entry) }
+    ensures found { IfOk result (λ f. AreFound outline.now (map seen conditions.entry.items)
+        f.diagnoses.items f.runs.items f.explored) }
+    ensures asked { IfOk result (λ f.
+        IsAsked (is_some asked.entry) f.diagnoses.items f.explored) }
 {
     let index = Index::new(alloc, outline)?;
     let diagnoser = Diagnoser {
@@ -177,13 +195,10 @@ fn findings_of<'a>(
         outline,
         index: &index,
     };
-    let rows = rows_of(diagnoser, conditions, verdicts)?;
+    let findings = found_by(diagnoser, conditions, verdicts)?;
     match asked {
-        None => Ok(Findings {
-            rows,
-            explored: None,
-        }),
-        Some(asked) => followed(diagnoser, rows, verdicts, asked),
+        None => Ok(findings),
+        Some(asked) => followed(diagnoser, findings, verdicts, asked),
     }
 }
 
@@ -205,10 +220,11 @@ impl<'r, G: Gate, H: Threads + Wait + Sync> Prover<'r, G, H> {
         asked: Option<&AskedRuns<'_>>,
     ) -> Result<Findings<'a>, PoolFault>
         requires { length conditions.items ≤ condition_limit }
-        ensures found { IfOk result (λ f.
-            AreFound outline.now (map seen conditions.entry.items) f.rows.items f.explored) }
-        ensures asked { IfOk result (λ f. IsAsked (is_some asked.entry)
-            (map (λ r. r.diagnosis) f.rows.items) f.explored) }
+        ensures conditions { IfOk result (λ f. f.conditions ≡ conditions.entry) }
+        ensures found { IfOk result (λ f. AreFound outline.now (map seen conditions.entry.items)
+            f.diagnoses.items f.runs.items f.explored) }
+        ensures asked { IfOk result (λ f.
+            IsAsked (is_some asked.entry) f.diagnoses.items f.explored) }
         ensures spawn { IfErr result (λ e. e ≡ Spawn → 1 < self.now.search.workers) }
     {
         let (budget, workers) = (self.search.budget.facts(), self.search.workers.count());

@@ -97,7 +97,7 @@ IsChart o source condition w text =
 -- ---- the report of the runs to a false condition
 
 abbrev pub IsChartOf : Program → List ℕ → ℕ → Run → List ℕ → Type 0
-IsChartOf o source condition (run.Reached w) text = IsChart o source condition w text
+IsChartOf o source condition (run.Reached w) text = IsChart o source condition w.value text
 IsChartOf o source condition run.Never text = text ≡ []
 IsChartOf o source condition run.Open text = text ≡ []
 

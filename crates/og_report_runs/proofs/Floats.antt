@@ -27,8 +27,8 @@ no_float_history main (p ∷ ps) = no_float_history main ps
 
 no_float_run : (o : Program) (r : Run) → has_float (run_data o r) ≡ false
 no_float_run o (run.Reached w) =
-    neither _ _ (no_float_history (length o.processes) w.history.items)
-    (neither _ _ (no_float_values o.names true (w.values ++ o.aux_values) (numbers (length o.names)) no_members refl) refl)
+    neither _ _ (no_float_history (length o.processes) w.value.history.items)
+    (neither _ _ (no_float_values o.names true (w.value.values ++ o.aux_values) (numbers (length o.names)) no_members refl) refl)
 no_float_run o run.Never = refl
 no_float_run o run.Open = refl
 

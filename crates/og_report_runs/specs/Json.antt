@@ -11,6 +11,7 @@ use Rattle.og_report_prove.specs.declared.diagnosis.Diagnosis.TheVariants as dia
 use Rattle.og_report_prove.specs.Members.{with_values}
 use Rattle.og_report_runs.specs.declared.witness.Run.{Run}
 use Rattle.og_report_runs.specs.declared.witness.Run.TheVariants as run
+use Rattle.og_report_runs.specs.declared.witness.Witness.{Witness}
 use Rattle.og_report_runs.specs.Report.{count_reached}
 use Rattle.og_report_runs.specs.declared.lines.Explored.{Explored}
 
@@ -36,11 +37,15 @@ module _ (o : Program) where
   abbrev pub start_data : List ℤ → Data
   start_data values = object (with_values o.names true (values ++ o.aux_values) (numbers (length o.names)) no_members)
 
-  abbrev pub run_data : Run → Data
-  run_data (run.Reached w) = object
+  -- a run that gets there
+  abbrev pub witness_data : Witness → Data
+  witness_data w = object
       (member (codes "found") (string (codes "reached"))
       (member (codes "history") (array (items_of (history_items (length o.processes) w.history.items)))
       (member (codes "start") (start_data w.values) no_members)))
+
+  abbrev pub run_data : Run → Data
+  run_data (run.Reached w) = witness_data w.value
   run_data run.Never = object (member (codes "found") (string (codes "no")) no_members)
   run_data run.Open = object (member (codes "found") (string (codes "open")) no_members)
 

@@ -2,7 +2,7 @@
 
 ghost use Rattle.std.specs.Prelude.{◌≡◌, ◌++◌, map, IfOk};
 ghost use Rattle.serde_json.specs.View.{view};
-ghost use Rattle.og_report_runs.specs.Json.{with_member, history_items, start_data, run_data, with_run, explored_data};
+ghost use Rattle.og_report_runs.specs.Json.{with_member, history_items, start_data, witness_data, run_data, with_run, explored_data};
 
 use crate::lines::Explored;
 use crate::totals::count_reached;
@@ -73,7 +73,7 @@ fn start_value(alloc: Global, outline: &Outline, witness: &Witness) -> Result<Va
 
 // A run that gets there.
 fn witness_value(alloc: Global, outline: &Outline, witness: &Witness) -> Result<Value, AllocError>
-    ensures { IfOk result (λ v. view v ≡ run_data outline.now (Run.Reached witness.now)) }
+    ensures { IfOk result (λ v. view v ≡ witness_data outline.now witness.now) }
 {
     outline.follows_rule();
     let main = outline.processes().len() as u32;
