@@ -4,7 +4,7 @@
 usage: bench/explore.py PROGRAM [--rounds N] [--folder FOLDER] [--large]
 
 For each outline of examples/ and of several families that it makes in FOLDER (a temporary one by
-default), runs `PROGRAM explore OUTLINE --erased` and the verifier that `spin -a` makes of what
+default), runs `PROGRAM explore OUTLINE --erased` from one start near 0, and the verifier that `spin -a` makes of what
 `PROGRAM promela OUTLINE --erased` prints, without its tests of bounds, built by `cc -O2 -DSAFETY`, once
 with SPIN's reduction and once without it (-DNOREDUCE). Each runs once in each round, in turn. Prints a line for each outline:
 the moments of og and the states of SPIN without reduction, the rate of each by processor time and
@@ -108,6 +108,13 @@ def first(pattern, text):
     return found[1]
 
 
+def start_words(program, folder, path):
+    """The words for one start near 0, of those that og explores."""
+    told, _, _ = run([program, "explore", path, "--erased", "--limit", "1"], folder)
+    ranges = re.findall(r"(\w+) = (-?\d+)\.\.(-?\d+)", first(r"^(starts: .*)$", told))
+    return [f"{name}={min(max(int(low), 0), int(high))}" for name, low, high in ranges]
+
+
 def twin(program, path, told):
     """The twin of an outline from the one start that og names, without tests of bounds."""
     named = first(r"^starts: 1 with (.*)$", told)
@@ -148,7 +155,7 @@ def told_of(name, moments, states, og, plain, reduced, floor):
 
 
 def measure(program, folder, name, path, rounds, floor):
-    words = [program, "explore", path, "--erased", "--limit", str(LIMIT)]
+    words = [program, "explore", path, *start_words(program, folder, path), "--erased", "--limit", str(LIMIT)]
     told, _, _ = run(words, folder)
     text = twin(program, path, told)
     plain, reduced = built(folder, text, ["-DNOREDUCE"], "plain"), built(folder, text, [], "reduced")

@@ -105,8 +105,7 @@ fn of_program<R: Threads + Wait + Sync>(
 }
 
 /// Explores the program of an outline, breadth first, from all starts within the ranges that the
-/// words give, each NAME=INT or NAME=LO..HI. Any other variable has one value in all starts: that
-/// of a state which a search finds for the precondition, and 0 where it finds none.
+/// words give, each NAME=INT or NAME=LO..HI, and of other variables within those that `ranges` names.
 ///
 /// The answer is what was found, with runs that lead there, and the totals, with status 0 where all
 /// was explored and nothing found, and else 1: as a text with places of the text that was given, or

@@ -1,105 +1,16 @@
 //! The starts of an exploration. Nothing is promised of the values that are chosen: the answer
 //! prints them.
 
-ghost use Rattle.std.specs.Prelude.{◌≡◌, length, IfOk};
+ghost use Rattle.std.specs.Prelude.{◌≡◌, map, length, IfOk, IfSome};
 
-use og_cond::{Condition, Goal, Hypothesis, Kind, Part};
-use og_explore::Range;
-use og_find::{Verdict, examine};
-use og_linear::{Form, FormError, State};
+use crate::counting::{MOST_TRIED, Starts, count};
+use crate::seeking::{first_values, sought};
+use og_explore::{Range, narrowed};
 use og_typed::{Assert, Outline};
 use std::alloc::{AllocError, Global};
 
-/// How many facts the search for a start may add.
-const BUDGET: u64 = 100_000;
-
-// The assertion that k times the variable and c are at most 0 together; none where that is too
-// large.
-fn bound(alloc: Global, var: u32, k: i128, c: i128) -> Result<Option<Assert>, AllocError> {
-    let variable = Form::variable(alloc, var)?;
-    let mut form = Form::constant(alloc, c);
-    match form.add_scaled(k, &variable) {
-        Ok(()) => Ok(Some(Assert::Le(form))),
-        Err(FormError::Memory) => Err(AllocError),
-        Err(FormError::Fault(_)) => Ok(None),
-    }
-}
-
-// Adds that the variable is within the range.
-fn add_bounds(
-    alloc: Global,
-    bounds: &mut Vec<Assert>,
-    var: u32,
-    range: &Range,
-) -> Result<(), AllocError> {
-    if let Some(most) = bound(alloc, var, 1, -i128::from(range.high()))? {
-        bounds.push(most)?;
-    }
-    if let Some(least) = bound(alloc, var, -1, i128::from(range.low()))? {
-        bounds.push(least)?;
-    }
-    Ok(())
-}
-
-// That each given variable is within its range.
-fn bounds(
-    alloc: Global,
-    outline: &Outline,
-    given: &[Option<Range>],
-) -> Result<Vec<Assert>, AllocError> {
-    let mut bounds = Vec::new(alloc);
-    for var in 0..outline.vars() {
-        if let Some(Some(range)) = given.get(var as usize) {
-            add_bounds(alloc, &mut bounds, var, range)?;
-        }
-    }
-    Ok(bounds)
-}
-
-// What a start is to meet: the precondition, the bounds, and the initial values of the auxiliaries.
-fn hypotheses<'a>(
-    alloc: Global,
-    outline: &'a Outline,
-    bounds: &'a [Assert],
-) -> Result<Vec<Hypothesis<'a>>, AllocError> {
-    outline.follows_rule();
-    let mut hypotheses = Vec::new(alloc);
-    hypotheses.push(Hypothesis::Is(Part::Yes(&outline.pre().assertion)))?;
-    for bound in bounds {
-        hypotheses.push(Hypothesis::Is(Part::Yes(bound)))?;
-    }
-    let initial = outline.aux_values();
-    for index in 0..initial.len() {
-        let var = outline.vars() + index as u32;
-        hypotheses.push(Hypothesis::Starts(var, initial[index]))?;
-    }
-    Ok(hypotheses)
-}
-
-// A state that meets these, where a search finds one.
-fn searched(
-    alloc: Global,
-    outline: &Outline,
-    bounds: &[Assert],
-) -> Result<Option<State>, AllocError> {
-    outline.follows_rule();
-    let condition = Condition {
-        kind: Kind::Start,
-        at: 0,
-        action_at: None,
-        variables: outline.names().len() as u32,
-        hypotheses: hypotheses(alloc, outline, bounds)?,
-        goal: Goal::Never,
-        action: None,
-    };
-    match examine(alloc, &condition, BUDGET)? {
-        Verdict::False(state) => Ok(Some(state)),
-        Verdict::True(_) | Verdict::Open => Ok(None),
-    }
-}
-
-/// The range of one value. Takes no memory.
-pub fn only(value: i64) -> Range
+// The range of one value.
+fn only(value: i64) -> Range
     ensures { result ≡ (value, value) }
 {
     match Range::new(value, value) {
@@ -108,17 +19,145 @@ pub fn only(value: i64) -> Range
     }
 }
 
-// The value of the variable in the state, 0 without one.
-fn value_of(state: &Option<State>, var: u32) -> i64 {
-    match state {
-        Some(state) => state.as_slice().get(var as usize).copied().unwrap_or(0),
-        None => 0,
+/// A range of one value for each of these.
+///
+/// # Errors
+///
+/// An allocation was refused.
+pub fn points(alloc: Global, values: &[i64]) -> Result<Vec<Range>, AllocError>
+    ensures { IfOk result (λ v. v.items ≡ map (λ x. (x, x)) values.now) }
+{
+    let mut ranges = Vec::new(alloc);
+    for value in values {
+        ranges.push(only(*value))?;
+    }
+    Ok(ranges)
+}
+
+// Values near 0 for the variables without a word.
+#[derive(Clone, Copy)]
+struct Spread {
+    low: i64,
+    high: i64,
+    // Whether those that do not occur in the precondition have them too; else these are 0.
+    everywhere: bool,
+}
+
+// They are taken in this order, until there are few starts.
+const SPREADS: [Spread; 3] = [
+    Spread {
+        low: -1,
+        high: 3,
+        everywhere: true,
+    },
+    Spread {
+        low: -1,
+        high: 3,
+        everywhere: false,
+    },
+    Spread {
+        low: 0,
+        high: 2,
+        everywhere: false,
+    },
+];
+
+impl Spread {
+    // The values of a variable.
+    fn range(&self, pre: &Assert, var: u32) -> Range {
+        if !self.everywhere && !pre.mentions(var) {
+            return only(0);
+        }
+        match Range::new(self.low, self.high) {
+            Some(range) => range,
+            None => only(0),
+        }
+    }
+
+    // Those of each variable that is no auxiliary.
+    fn ranges(&self, alloc: Global, outline: &Outline) -> Result<Vec<Range>, AllocError> {
+        let mut ranges = Vec::new(alloc);
+        for var in 0..outline.vars() {
+            ranges.push(self.range(&outline.pre().assertion, var))?;
+        }
+        Ok(ranges)
     }
 }
 
-/// For each variable that is no auxiliary the given range; where none is given, the value that it
-/// has in a state that a search finds for the precondition and the given ranges, and 0 where it
-/// finds none.
+// The range of a variable: the given one, else the other one, and 0 without it.
+fn range_of(given: &[Option<Range>], others: &[Range], var: u32) -> Range {
+    if let Some(Some(range)) = given.get(var as usize) {
+        return range.copy();
+    }
+    match others.get(var as usize) {
+        Some(range) => range.copy(),
+        None => only(0),
+    }
+}
+
+// For each variable that is no auxiliary the given range, else the other one.
+fn given_or(
+    alloc: Global,
+    outline: &Outline,
+    given: &[Option<Range>],
+    others: &[Range],
+) -> Result<Vec<Range>, AllocError>
+    ensures { IfOk result (λ v. length v.items ≡ outline.now.vars) }
+{
+    let mut ranges = Vec::new(alloc);
+    for var in 0..outline.vars() {
+        ranges.push(range_of(given, others, var))?;
+    }
+    Ok(ranges)
+}
+
+// The first ranges of values near 0 within which few starts lie, if they do, cut to what the
+// precondition says of one variable alone; a given one is not cut.
+fn near(
+    alloc: Global,
+    outline: &Outline,
+    given: &[Option<Range>],
+) -> Result<Option<Vec<Range>>, AllocError>
+    ensures { IfOk result (λ found. IfSome found (λ v. length v.items ≡ outline.now.vars)) }
+{
+    let mut left = MOST_TRIED;
+    for spread in &SPREADS {
+        let wide = given_or(alloc, outline, given, &spread.ranges(alloc, outline)?)?;
+        let Some(cut) = narrowed(alloc, outline, &wide)? else {
+            return Ok(None);
+        };
+        match count(alloc, outline, &cut, &mut left)? {
+            // The later ranges lie within these.
+            Starts::None => return Ok(None),
+            Starts::Few => return Ok(Some(given_or(alloc, outline, given, &cut)?)),
+            Starts::Many => (),
+        }
+    }
+    Ok(None)
+}
+
+// Whether each variable that is no auxiliary has a given range.
+fn are_all_given(outline: &Outline, given: &[Option<Range>]) -> bool {
+    given.len() == outline.vars() as usize && given.iter().all(|range| range.is_some())
+}
+
+// One value for each variable that is no auxiliary: that of a state which a search finds for the
+// precondition and the given ranges, and 0 where it finds none.
+fn found(
+    alloc: Global,
+    outline: &Outline,
+    given: &[Option<Range>],
+) -> Result<Vec<Range>, AllocError> {
+    let state = sought(alloc, outline, given)?;
+    points(alloc, &first_values(alloc, outline, &state)?)
+}
+
+/// For each variable that is no auxiliary the given range. Those without one have -1..3 if 1 to 1,000
+/// starts lie within these ranges; else those that do not occur in the precondition have 0, and the
+/// others -1..3, or 0..2, if this is so then; all of them cut to what the precondition says of one
+/// variable alone. No more than 1,000,000 combinations of values are tried for that, and ranges that
+/// need more are passed over. Else each has the value that it has in a state which a search finds for
+/// the precondition and the given ranges, and 0 where it finds none.
 ///
 /// # Errors
 ///
@@ -130,15 +169,11 @@ pub fn ranges(
 ) -> Result<Vec<Range>, AllocError>
     ensures { IfOk result (λ v. length v.items ≡ outline.now.vars) }
 {
-    let bounds = bounds(alloc, outline, given)?;
-    let state = searched(alloc, outline, &bounds)?;
-    let mut ranges = Vec::new(alloc);
-    for var in 0..outline.vars() {
-        let range = match given.get(var as usize) {
-            Some(Some(range)) => range.copy(),
-            _ => only(value_of(&state, var)),
-        };
-        ranges.push(range)?;
+    if are_all_given(outline, given) {
+        return given_or(alloc, outline, given, &[]);
     }
-    Ok(ranges)
+    match near(alloc, outline, given)? {
+        Some(ranges) => Ok(ranges),
+        None => given_or(alloc, outline, given, &found(alloc, outline, given)?),
+    }
 }

@@ -76,10 +76,9 @@ impl<'r, G: Gate, H: Threads + Wait + Sync> Prover<'r, G, H> {
     /// Where runs are asked for and a condition is false, it is also found of each false one whether
     /// a run gets to a state in which it is false, and whether something is wrong in the runs. The
     /// words in `starts` say where the runs start, each NAME=INT or
-    /// NAME=LO..HI, as in an exploration. Without them the starts are one that a search finds for
-    /// the precondition, and for each false condition two more, up to 64. What is known of the runs
-    /// to conditions that are reported together is the first one's. Where no runs are asked for,
-    /// the words are not read.
+    /// NAME=LO..HI, as in an exploration. Without them the starts are those of an exploration, and for
+    /// each false condition two more, up to 63. What is known of the runs to conditions that are
+    /// reported together is the first one's. Where no runs are asked for, the words are not read.
     ///
     /// The status is 0 where every condition but the last is proved, and 1 where one is not. Status
     /// 0 says that every run of the outline is as promised, with its auxiliaries and without them;

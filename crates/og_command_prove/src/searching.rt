@@ -33,8 +33,7 @@ const MOST_STEPS: u64 = 2_000_000;
 #[derive(Clone, Copy)]
 pub(crate) struct AskedRuns<'s> {
     /// The ranges within which they start, for each variable that is no auxiliary. Where none is
-    /// given, the starts are one that a search finds for the precondition, and for each false
-    /// condition two more, up to 64.
+    /// given, the starts are those of an exploration, and for each false condition two more, up to 63.
     pub(crate) given: &'s [Option<Range>],
     /// At most how many moments are looked at.
     pub(crate) limit: MomentLimit,

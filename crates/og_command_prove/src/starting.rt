@@ -3,8 +3,8 @@
 ghost use Rattle.std.specs.Prelude.{map, IfOk, OnOk};
 ghost use Rattle.og_explore.specs.From.{HaveLength};
 
-use og_command_explore::{only, ranges};
-use og_explore::Range;
+use og_command_explore::{points, ranges};
+use og_explore::{Range, is_from};
 use og_find::Verdict;
 use og_find_all::Findings;
 use og_linear::State;
@@ -12,8 +12,8 @@ use og_subst::Values;
 use og_typed::{Basic, Outline, Seq, Stmt};
 use std::alloc::{AllocError, Global};
 
-// How many starts are taken where no word gives a range.
-const MOST_STARTS: usize = 64;
+// How many starts are added where no word gives a range.
+const MOST_ADDED: usize = 63;
 
 #[cycle(assigning)]
 fn assigns(seq: &Seq, var: u32) -> bool {
@@ -77,70 +77,70 @@ fn is_start(alloc: Global, outline: &Outline, values: &[i64]) -> Result<bool, Al
     Ok(values.truth(&outline.pre().assertion) == Some(true))
 }
 
-// Adds a start, unless it stands there or is none.
+// Adds a start, unless it stands there, lies within one of the lists of ranges, or is none.
 fn add_start(
     alloc: Global,
     outline: &Outline,
+    lists: &[Vec<Range>],
     starts: &mut Vec<Vec<i64>>,
     values: Vec<i64>,
 ) -> Result<(), AllocError> {
-    if starts.iter().any(|start| *start == values) {
+    if is_from(lists, &values) || starts.iter().any(|start| *start == values) {
         return Ok(());
     }
-    if starts.len() < MOST_STARTS && is_start(alloc, outline, &values)? {
+    if starts.len() < MOST_ADDED && is_start(alloc, outline, &values)? {
         starts.push(values)?;
     }
     Ok(())
 }
 
-// Adds two starts: the first one with the state's values of the variables that nothing assigns, and
-// with those of all.
+// The number of a range that is nearest to 0.
+fn nearest(range: &Range) -> i64 {
+    range.low().max(0).min(range.high())
+}
+
+// Adds two starts: with the state's values of the variables that nothing assigns and the values of
+// the first list that are nearest to 0, and with the state's values of all.
 fn add_two(
     alloc: Global,
     outline: &Outline,
+    lists: &[Vec<Range>],
     starts: &mut Vec<Vec<i64>>,
-    first: &[i64],
     state: &State,
 ) -> Result<(), AllocError> {
+    let Some(ranges) = lists.first() else {
+        return Ok(());
+    };
     let state = state.as_slice();
     let mut near = Vec::new(alloc);
     let mut far = Vec::new(alloc);
-    for (var, value) in first.iter().enumerate() {
-        let other = state.get(var).copied().unwrap_or(*value);
+    for (var, range) in ranges.iter().enumerate() {
+        let value = nearest(range);
+        let other = state.get(var).copied().unwrap_or(value);
         let changed = is_changed(outline, u32::try_from(var).unwrap_or(u32::MAX));
-        near.push(if changed { *value } else { other })?;
+        near.push(if changed { value } else { other })?;
         far.push(other)?;
     }
-    add_start(alloc, outline, starts, near)?;
-    add_start(alloc, outline, starts, far)
+    add_start(alloc, outline, lists, starts, near)?;
+    add_start(alloc, outline, lists, starts, far)
 }
 
-// The starts where no word gives a range: the first one, and two for each condition that is false
-// in a state, while there are few.
-fn starts_of(
+// The starts that are added to those within the ranges: two for each condition that is false in a
+// state, while there are few.
+fn added(
     alloc: Global,
     outline: &Outline,
     conditions: usize,
-    first: &[i64],
+    lists: &[Vec<Range>],
     findings: &Findings,
 ) -> Result<Vec<Vec<i64>>, AllocError> {
     let mut starts = Vec::new(alloc);
-    starts.push(Vec::from_slice(alloc, first)?)?;
     for i in 0..conditions {
         if let Some(Verdict::False(state)) = findings.verdict(i) {
-            add_two(alloc, outline, &mut starts, first, state)?;
+            add_two(alloc, outline, lists, &mut starts, state)?;
         }
     }
     Ok(starts)
-}
-
-// A range of one value for each of these.
-fn points(alloc: Global, values: &[i64]) -> Result<Vec<Range>, AllocError> {
-    let mut ranges = Vec::new(alloc);
-    for value in values {
-        ranges.push(only(*value))?;
-    }
-    Ok(ranges)
 }
 
 // Adds a list of ranges, where there is one for each variable that is no auxiliary.
@@ -160,20 +160,20 @@ fn add_list(
     Ok(())
 }
 
-// The lists of ranges of these starts.
-#[tactic(auto, using(crate::proofs::Lists::have_none))]
-fn lists_of(
+// Adds the lists of ranges of these starts.
+fn add_points(
     alloc: Global,
+    lists: &mut Vec<Vec<Range>>,
     outline: &Outline,
     starts: &[Vec<i64>],
-) -> Result<Vec<Vec<Range>>, AllocError>
-    ensures { IfOk result (λ lists. HaveLength outline.now.vars (map (λ l. l.items) lists.items)) }
+) -> Result<(), AllocError>
+    requires { HaveLength outline.now.vars (map (λ l. l.items) lists.old.items) }
+    ensures { OnOk result (HaveLength outline.now.vars (map (λ l. l.items) lists.new.items)) }
 {
-    let mut lists = Vec::new(alloc);
     for start in starts {
-        add_list(&mut lists, outline, points(alloc, start)?)?;
+        add_list(lists, outline, points(alloc, start)?)?;
     }
-    Ok(lists)
+    Ok(())
 }
 
 // The one list of ranges.
@@ -190,18 +190,9 @@ fn one_list(
     Ok(lists)
 }
 
-// The least value of each range.
-fn least(alloc: Global, ranges: &[Range]) -> Result<Vec<i64>, AllocError> {
-    let mut values = Vec::new(alloc);
-    for range in ranges {
-        values.push(range.low())?;
-    }
-    Ok(values)
-}
-
-/// The lists of ranges within which runs start: that of the words where some are given, as for an
-/// exploration; else one start that a search finds for the precondition, and for each of this many
-/// conditions that is false in a state two more, up to 64.
+/// The lists of ranges within which runs start: first that of the words, and of variables without one
+/// as for an exploration; where no word is given, then a list of one start for each of up to 63 others,
+/// two for each of this many conditions that is false in a state.
 ///
 /// # Errors
 ///
@@ -216,10 +207,11 @@ pub(crate) fn starts(
     ensures { IfOk result (λ lists. HaveLength outline.now.vars (map (λ l. l.items) lists.items)) }
 {
     let ranges = ranges(alloc, outline, given)?;
+    let mut lists = one_list(alloc, outline, ranges)?;
     if given.iter().any(|range| range.is_some()) {
-        return one_list(alloc, outline, ranges);
+        return Ok(lists);
     }
-    let first = least(alloc, &ranges)?;
-    let starts = starts_of(alloc, outline, conditions, &first, findings)?;
-    lists_of(alloc, outline, &starts)
+    let added = added(alloc, outline, conditions, &lists, findings)?;
+    add_points(alloc, &mut lists, outline, &added)?;
+    Ok(lists)
 }

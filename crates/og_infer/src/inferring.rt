@@ -11,7 +11,8 @@ use og_explore::Range;
 use og_infer_candidates::Universe;
 use og_infer_places::{Places, Samples, obligations, sample};
 use og_infer_rounds::{
-    Duty, Frozen, Pool, Proof, Proving, Questions, Rounds, Scene, Settled, claims, count_of, gather,
+    Attempt, Duty, Frozen, Pool, Proof, Proving, Questions, Rounds, Scene, Settled, claims,
+    count_of, gather,
 };
 use og_pool::PoolFault;
 use og_typed::Outline;
@@ -127,6 +128,23 @@ fn is_proved<R: Threads + Wait + Sync>(
     Ok(true)
 }
 
+// Each of these claims, to be settled with this share.
+fn attempts_of<'a>(
+    alloc: Global,
+    duties: &[Duty],
+    share: u64,
+) -> Result<Vec<Attempt<'a>>, AllocError> {
+    let mut attempts = Vec::with_capacity(alloc, duties.len())?;
+    for duty in duties {
+        attempts.push(Attempt {
+            duty: *duty,
+            without: &[],
+            share,
+        })?;
+    }
+    Ok(attempts)
+}
+
 impl<'a, 'o> Search<'a, 'o> {
     // Adds each of these claims to those that the candidates prove, or to those that they do not.
     // Whether the questions suffice.
@@ -140,17 +158,19 @@ impl<'a, 'o> Search<'a, 'o> {
         let Some(share) = self.questions.share(duties.len()) else {
             return Ok(false);
         };
-        let count = count_of(duties.len());
+        let attempts = attempts_of(pool.alloc, duties, share)?;
+        let count = count_of(attempts.len());
         let tasks = Proving {
             frozen,
-            duties,
-            share,
+            attempts: &attempts,
             count,
         };
-        let proofs = pool.answers(&tasks, count)?;
+        let proofs = pool.answers_ahead(&tasks, count, count)?;
         for (duty, proof) in duties.iter().zip(&proofs) {
-            self.questions.spend(proof.asked);
-            verdicts.add(*duty, proof)?;
+            if let Some(proof) = proof {
+                self.questions.spend(proof.asked);
+                verdicts.add(*duty, proof)?;
+            }
         }
         Ok(true)
     }
@@ -191,6 +211,7 @@ impl<'a, 'o> Search<'a, 'o> {
             scene,
             universe: &universe,
             lists: rounds.lists(),
+            without: &[],
         };
         let Some(verdicts) = self.verdicts(pool, frozen)? else {
             return Ok(None);

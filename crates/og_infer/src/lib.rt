@@ -14,6 +14,7 @@ mod printing;
 mod refuting;
 mod shrinking;
 mod support;
+mod trials;
 mod unaided;
 
 pub use inferring::infer;

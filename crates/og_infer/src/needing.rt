@@ -1,10 +1,11 @@
 //! What is needed, from the author's claims backwards.
 
 use crate::exchanges::{Exchange, Image, images};
-use crate::support::{Owed, Supporting};
+use crate::support::{Core, Owed, Supporting};
 use og_infer_candidates::Universe;
 use og_infer_rounds::{
-    Duty, Frozen, Held, Listed, Lists, Pool, Questions, Role, Scene, Spot, count_of,
+    Duty, Foreseen, Frozen, Held, Listed, Lists, Pool, Questions, Role, Scene, Spot, count_of,
+    is_same_with,
 };
 use og_pool::PoolFault;
 use std::alloc::AllocError;
@@ -13,6 +14,14 @@ use std::thread::Threads;
 
 /// How many proofs are looked for at a time: none of them knows what the others need.
 const MOST_AT_A_TIME: usize = 8;
+
+/// What proves a goal after so many changes of the lists, where it might ask so many questions.
+#[derive(Drop)]
+struct Given {
+    changes: u64,
+    share: u64,
+    core: Core,
+}
 
 /// What is needed so far, and what is still to be proved.
 #[derive(Drop)]
@@ -23,6 +32,8 @@ pub(crate) struct Needs<'a, 'o> {
     exchanges: &'a [Exchange],
     lists: Lists,
     owed: Vec<Owed>,
+    // What proves goals, by where they stand there, before their turn.
+    foreseen: Foreseen<usize, Given>,
 }
 
 impl<'a, 'o> Needs<'a, 'o> {
@@ -41,6 +52,7 @@ impl<'a, 'o> Needs<'a, 'o> {
             exchanges,
             lists,
             owed: Vec::new(scene.alloc),
+            foreseen: Foreseen::new(scene.alloc),
         }
     }
 
@@ -62,6 +74,7 @@ impl<'a, 'o> Needs<'a, 'o> {
             scene: self.scene,
             universe: self.universe,
             lists: &self.lists,
+            without: &[],
         };
         let Some(listed) = frozen.lists.get(spot) else {
             return Ok(());
@@ -120,13 +133,104 @@ impl<'a, 'o> Needs<'a, 'o> {
         Ok(())
     }
 
-    // What comes after so many that were looked at.
-    fn batch(&self, done: usize) -> Result<Vec<Owed>, AllocError> {
-        let mut batch = Vec::new(self.scene.alloc);
-        for owed in self.owed.iter().skip(done).take(MOST_AT_A_TIME) {
-            batch.push(*owed)?;
+    // Whether it is known what proves the goal that stands there.
+    fn is_foreseen(&self, at: usize, share: u64) -> bool {
+        let (Some(owed), Some(given)) = (self.owed.get(at), self.foreseen.get(at)) else {
+            return false;
+        };
+        let is_changed = match self.scene.obligations.get(owed.obligation) {
+            Some(obligation) => self.lists.are_changed(obligation, given.changes),
+            None => false,
+        };
+        !is_changed && is_same_with(given.core.asked, given.share, share)
+    }
+
+    // Where those of these goals stand of which it is not known what proves them.
+    fn unknown(&self, from: usize, to: usize, share: u64) -> Result<Vec<usize>, AllocError> {
+        let mut unknown = Vec::new(self.scene.alloc);
+        for at in from..to.min(self.owed.len()) {
+            if !self.is_foreseen(at, share) {
+                unknown.push(at)?;
+            }
         }
-        Ok(batch)
+        Ok(unknown)
+    }
+
+    // The goals that stand there.
+    fn owed_at(&self, places: &[usize]) -> Result<Vec<Owed>, AllocError> {
+        let mut all = Vec::with_capacity(self.scene.alloc, places.len())?;
+        for at in places {
+            if let Some(owed) = self.owed.get(*at) {
+                all.push(*owed)?;
+            }
+        }
+        Ok(all)
+    }
+
+    // Keeps what proves the goals that stand there, as far as it was looked for.
+    fn keep(
+        &mut self,
+        places: &[usize],
+        found: Vec<Option<Core>>,
+        share: u64,
+    ) -> Result<(), AllocError> {
+        let changes = self.lists.changes();
+        let mut places = places.iter();
+        for core in found {
+            if let (Some(at), Some(core)) = (places.next(), core) {
+                let given = Given {
+                    changes,
+                    share,
+                    core,
+                };
+                self.foreseen.add(*at, given)?;
+            }
+        }
+        Ok(())
+    }
+
+    // Looks for what proves the goals that stand there, of which the first ones are wanted.
+    fn foresee<R: Threads + Wait + Sync>(
+        &mut self,
+        pool: &Pool<'_, R>,
+        places: &[usize],
+        wanted: usize,
+        share: u64,
+    ) -> Result<(), PoolFault> {
+        let owed = self.owed_at(places)?;
+        let count = count_of(owed.len());
+        let frozen = Frozen {
+            scene: self.scene,
+            universe: self.universe,
+            lists: &self.lists,
+            without: &[],
+        };
+        let tasks = Supporting {
+            frozen,
+            owed: &owed,
+            share,
+            count,
+        };
+        let found = pool.answers_ahead(&tasks, count_of(wanted), count)?;
+        self.keep(places, found, share)?;
+        Ok(())
+    }
+
+    // Adds what the goals from one to another need that stand there. None of their proofs knows
+    // what the others need.
+    fn need_of(
+        &mut self,
+        from: usize,
+        to: usize,
+        questions: &mut Questions,
+    ) -> Result<(), AllocError> {
+        for at in from..to {
+            if let Some(Given { core, .. }) = self.foreseen.take(at) {
+                questions.spend(core.asked);
+                self.need_all(&core.spots)?;
+            }
+        }
+        Ok(())
     }
 
     /// Looks for proofs until nothing is left to be proved, or no question is left.
@@ -141,27 +245,17 @@ impl<'a, 'o> Needs<'a, 'o> {
     ) -> Result<(), PoolFault> {
         let mut done = 0usize;
         for _ in 0..u64::MAX {
-            let batch = self.batch(done)?;
-            let Some(share) = questions.share(batch.len()) else {
+            let next = done.saturating_add(MOST_AT_A_TIME).min(self.owed.len());
+            let Some(share) = questions.share(next.saturating_sub(done)) else {
                 break;
             };
-            done = done.saturating_add(batch.len());
-            let count = count_of(batch.len());
-            let frozen = Frozen {
-                scene: self.scene,
-                universe: self.universe,
-                lists: &self.lists,
-            };
-            let tasks = Supporting {
-                frozen,
-                owed: &batch,
-                share,
-                count,
-            };
-            for core in pool.answers(&tasks, count)? {
-                questions.spend(core.asked);
-                self.need_all(&core.spots)?;
+            let wanted = self.unknown(done, next, share)?.len();
+            if wanted > 0 {
+                let tasks = self.unknown(done, next.saturating_add(pool.ahead()), share)?;
+                self.foresee(pool, &tasks, wanted, share)?;
             }
+            self.need_of(done, next, questions)?;
+            done = next;
         }
         Ok(())
     }

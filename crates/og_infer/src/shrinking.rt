@@ -1,11 +1,12 @@
 //! Conjuncts that are left out where the rest still proves all that was proved.
 
 use crate::exchanges::{Exchange, Image, contains, images};
+use crate::trials::{Block, Coming, Given, Next, Plan, Planned, Task, Trial};
 use og_infer_candidates::Universe;
 use og_infer_places::{Claim, Obligation};
 use og_infer_rounds::{
-    Duty, Frozen, Held, Lists, Owing, Pool, Proof, Proving, Questions, Role, Scene, Settled, Spot,
-    count_of,
+    Attempt, Duty, Foreseen, Frozen, Held, Lists, Owing, Pool, Proof, Proving, Questions, Role,
+    Scene, Settled, Spot, count_of, is_same_with,
 };
 use og_pool::PoolFault;
 use std::alloc::AllocError;
@@ -14,6 +15,9 @@ use std::thread::Threads;
 
 /// How many duties are proved at a time.
 const MOST_AT_A_TIME: usize = 32;
+
+/// How many duties each of several threads may prove before their turn.
+const MOST_AHEAD: usize = 8;
 
 /// How a duty stands.
 #[derive(Drop)]
@@ -26,11 +30,12 @@ enum Standing {
     Lost,
 }
 
-/// A duty, and how it stands.
+/// A duty, how it stands, and how many questions its last proof took.
 #[derive(Drop)]
 struct Tracked {
     duty: Duty,
     standing: Standing,
+    asked: u64,
 }
 
 /// The conjuncts that are left, and what they prove.
@@ -42,6 +47,8 @@ pub(crate) struct Shrinking<'a, 'o> {
     exchanges: &'a [Exchange],
     lists: Lists,
     tracked: Vec<Tracked>,
+    // Proofs that were looked for before their turn.
+    foreseen: Foreseen<Task, Given>,
 }
 
 /// Which candidates are left out together.
@@ -64,12 +71,6 @@ fn append(all: &mut Vec<Proof>, proofs: Vec<Proof>) -> Result<bool, AllocError> 
     Ok(true)
 }
 
-// Adds a block: where it begins and ends.
-fn push(blocks: &mut Vec<(usize, usize)>, from: usize, to: usize) -> Result<(), AllocError> {
-    blocks.push((from, to))?;
-    Ok(())
-}
-
 impl<'a, 'o> Shrinking<'a, 'o> {
     /// All conjuncts of these lists are left, and nothing is proved yet.
     pub(crate) fn new(
@@ -86,6 +87,7 @@ impl<'a, 'o> Shrinking<'a, 'o> {
             exchanges,
             lists,
             tracked: Vec::new(scene.alloc),
+            foreseen: Foreseen::new(scene.alloc),
         }
     }
 
@@ -95,6 +97,7 @@ impl<'a, 'o> Shrinking<'a, 'o> {
             scene: self.scene,
             universe: self.universe,
             lists: &self.lists,
+            without: &[],
         }
     }
 
@@ -103,6 +106,7 @@ impl<'a, 'o> Shrinking<'a, 'o> {
         self.tracked.push(Tracked {
             duty,
             standing: Standing::Open,
+            asked: 0,
         })?;
         Ok(())
     }
@@ -127,23 +131,23 @@ impl<'a, 'o> Shrinking<'a, 'o> {
         Ok(())
     }
 
-    // Whether a candidate that was taken is left out.
-    fn lacks(&self, taken: &[Spot]) -> bool {
+    // Whether a candidate that was taken is left out, or is one of these.
+    fn lacks(&self, taken: &[Spot], without: &[Spot]) -> bool {
         for spot in taken {
-            if self.lists.has_role(*spot, Role::Out) {
+            if self.lists.has_role(*spot, Role::Out) || spot.is_among(without) {
                 return true;
             }
         }
         false
     }
 
-    // Those that are to be proved, since they were not or took what is left out.
-    fn stale(&self) -> Result<Vec<usize>, AllocError> {
+    // Those that are to be proved without these, since they were not or took what is left out.
+    fn stale(&self, without: &[Spot]) -> Result<Vec<usize>, AllocError> {
         let mut stale = Vec::new(self.scene.alloc);
         for (index, tracked) in self.tracked.iter().enumerate() {
             let is_stale = match &tracked.standing {
                 Standing::Open => true,
-                Standing::Proved(taken) => self.lacks(taken),
+                Standing::Proved(taken) => self.lacks(taken, without),
                 Standing::Lost => false,
             };
             if is_stale {
@@ -153,40 +157,255 @@ impl<'a, 'o> Shrinking<'a, 'o> {
         Ok(stale)
     }
 
-    // These duties.
-    fn duties(&self, indices: &[usize]) -> Result<Vec<Duty>, AllocError> {
-        let mut duties = Vec::new(self.scene.alloc);
-        for index in indices {
-            if let Some(tracked) = self.tracked.get(*index) {
-                duties.push(tracked.duty)?;
-            }
+    // Whether the proof of the task is known.
+    fn is_foreseen(&self, task: Task, share: u64) -> bool {
+        match self.foreseen.get(task) {
+            Some(given) => is_same_with(given.proof.asked, given.share, share),
+            None => false,
         }
-        Ok(duties)
     }
 
-    // The proofs of these; none where no question is left.
-    fn prove<R: Threads + Wait + Sync>(
+    // Those of these duties whose proofs in the trial of a block are not known, the longest first.
+    fn unknown(
         &self,
-        pool: &Pool<'_, R>,
+        block: Block,
         indices: &[usize],
-        questions: &mut Questions,
-    ) -> Result<Option<Vec<Proof>>, PoolFault> {
-        let duties = self.duties(indices)?;
-        let Some(share) = questions.share(duties.len()) else {
-            return Ok(None);
-        };
-        let count = count_of(duties.len());
+        share: u64,
+    ) -> Result<Vec<usize>, AllocError> {
+        let mut unknown = Vec::new(self.scene.alloc);
+        for index in indices {
+            let index = *index;
+            if !self.is_foreseen(Task { block, index }, share) {
+                unknown.push(index)?;
+            }
+        }
+        unknown.sort_by_key(|index| u64::MAX.saturating_sub(self.asked(*index)))?;
+        Ok(unknown)
+    }
+
+    // How many questions the last proof of a duty took.
+    fn asked(&self, index: usize) -> u64 {
+        match self.tracked.get(index) {
+            Some(tracked) => tracked.asked,
+            None => 0,
+        }
+    }
+
+    // Adds those of these duties to a plan whose proofs in the trial are not known.
+    fn plan(
+        &self,
+        trial: Trial,
+        indices: &[usize],
+        share: u64,
+        plan: &mut Plan,
+    ) -> Result<(), AllocError> {
+        let number = plan.trials.len();
+        for index in self.unknown(trial.block, indices, share)? {
+            plan.tasks.push(Planned {
+                trial: number,
+                index,
+                share,
+            })?;
+        }
+        plan.trials.push(trial)?;
+        Ok(())
+    }
+
+    // Adds the first duties that are to be proved in the trial of a block.
+    fn plan_block(
+        &self,
+        units: &[Vec<Spot>],
+        block: Block,
+        questions: &Questions,
+        plan: &mut Plan,
+    ) -> Result<(), AllocError> {
+        let trial = Trial::of(self.scene.alloc, units, block)?;
+        if trial.spots.is_empty() {
+            return Ok(());
+        }
+        let mut stale = self.stale(&trial.spots)?;
+        stale.truncate(MOST_AT_A_TIME);
+        match questions.share(stale.len()) {
+            Some(share) => self.plan(trial, &stale, share, plan),
+            None => Ok(()),
+        }
+    }
+
+    // Whether the longest duty of a plan takes more than the share of one of these threads.
+    fn is_uneven(&self, plan: &Plan, threads: usize) -> bool {
+        let mut all = 0u64;
+        let mut longest = 0u64;
+        for planned in &plan.tasks {
+            let asked = self.asked(planned.index).saturating_add(1);
+            all = all.saturating_add(asked);
+            longest = longest.max(asked);
+        }
+        longest.saturating_mul(threads as u64) > all
+    }
+
+    // Adds those of the blocks that are tried next if nothing can be left out. Gives how many duties
+    // are wanted: as many as it takes for no thread to be without one.
+    fn plan_blocks(
+        &self,
+        mut next: Next,
+        threads: usize,
+        questions: &Questions,
+        plan: &mut Plan,
+    ) -> Result<usize, AllocError> {
+        let mut wanted = plan.tasks.len();
+        let most = wanted.saturating_add(threads.saturating_mul(MOST_AHEAD));
+        for _ in 0..most {
+            let Some(block) = next.blocks.pop() else {
+                break;
+            };
+            let is_wanted = plan.tasks.len() == wanted && self.is_uneven(plan, threads);
+            self.plan_block(next.units, block, questions, plan)?;
+            block.add_halves(&mut next.blocks)?;
+            if is_wanted {
+                wanted = plan.tasks.len();
+            }
+            if plan.tasks.len() >= most {
+                break;
+            }
+        }
+        Ok(wanted)
+    }
+
+    // Adds what is proved next after this trial if nothing can be left out. Gives how many duties
+    // are wanted.
+    fn plan_ahead(
+        &self,
+        trial: &Trial,
+        coming: Coming,
+        threads: usize,
+        questions: &Questions,
+        plan: &mut Plan,
+    ) -> Result<usize, AllocError> {
+        let alloc = self.scene.alloc;
+        let wanted = plan.tasks.len();
+        match coming {
+            Coming::Duties(rest) => {
+                let more = threads.saturating_mul(MOST_AHEAD).min(rest.len());
+                let rest = rest.get(..more).unwrap_or(&[]);
+                if let Some(share) = questions.share(rest.len().min(MOST_AT_A_TIME)) {
+                    self.plan(trial.copy(alloc)?, rest, share, plan)?;
+                }
+                Ok(wanted)
+            }
+            Coming::Blocks(units, blocks) => {
+                let mut blocks = Vec::from_slice(alloc, blocks)?;
+                trial.block.add_halves(&mut blocks)?;
+                let next = Next { units, blocks };
+                self.plan_blocks(next, threads, questions, plan)
+            }
+        }
+    }
+
+    // The attempts of a plan.
+    fn attempts<'p>(&self, plan: &'p Plan) -> Result<Vec<Attempt<'p>>, AllocError> {
+        let mut attempts = Vec::with_capacity(self.scene.alloc, plan.tasks.len())?;
+        for planned in &plan.tasks {
+            if let (Some(tracked), Some(trial)) = (
+                self.tracked.get(planned.index),
+                plan.trials.get(planned.trial),
+            ) {
+                attempts.push(Attempt {
+                    duty: tracked.duty,
+                    without: &trial.spots,
+                    share: planned.share,
+                })?;
+            }
+        }
+        Ok(attempts)
+    }
+
+    // Keeps the proofs of a plan that were looked for.
+    fn keep(&mut self, plan: &Plan, found: Vec<Option<Proof>>) -> Result<(), AllocError> {
+        let mut tasks = plan.tasks.iter();
+        for proof in found {
+            let (Some(planned), Some(proof)) = (tasks.next(), proof) else {
+                continue;
+            };
+            if let Some(task) = plan.task(*planned) {
+                let share = planned.share;
+                self.foreseen.add(task, Given { share, proof })?;
+            }
+        }
+        Ok(())
+    }
+
+    // Looks for the proofs of a plan, of which the first ones are wanted.
+    fn foresee<R: Threads + Wait + Sync>(
+        &mut self,
+        pool: &Pool<'_, R>,
+        plan: &Plan,
+        wanted: usize,
+    ) -> Result<(), PoolFault> {
+        let attempts = self.attempts(plan)?;
+        let count = count_of(attempts.len());
         let tasks = Proving {
             frozen: self.frozen(),
-            duties: &duties,
-            share,
+            attempts: &attempts,
             count,
         };
-        let proofs = pool.answers(&tasks, count)?;
-        for proof in &proofs {
-            questions.spend(proof.asked);
+        let found = pool.answers_ahead(&tasks, count_of(wanted), count)?;
+        self.keep(plan, found)?;
+        Ok(())
+    }
+
+    // Notes how many questions the last proof of a duty took.
+    fn set_asked(&mut self, index: usize, asked: u64) {
+        if let Some(tracked) = self.tracked.get_mut(index) {
+            tracked.asked = asked;
         }
-        Ok(Some(proofs))
+    }
+
+    // The proofs of these in the trial of a block, which are known.
+    fn given(
+        &mut self,
+        block: Block,
+        indices: &[usize],
+        questions: &mut Questions,
+    ) -> Result<Vec<Proof>, AllocError> {
+        let mut proofs = Vec::with_capacity(self.scene.alloc, indices.len())?;
+        for index in indices {
+            let task = Task {
+                block,
+                index: *index,
+            };
+            if let Some(Given { proof, .. }) = self.foreseen.take(task) {
+                questions.spend(proof.asked);
+                self.set_asked(*index, proof.asked);
+                proofs.push(proof)?;
+            }
+        }
+        Ok(proofs)
+    }
+
+    // The proofs of these in a trial; none where no question is left.
+    fn prove<R: Threads + Wait + Sync>(
+        &mut self,
+        pool: &Pool<'_, R>,
+        trial: &Trial,
+        indices: &[usize],
+        coming: Coming,
+        questions: &mut Questions,
+    ) -> Result<Option<Vec<Proof>>, PoolFault> {
+        let alloc = self.scene.alloc;
+        let Some(share) = questions.share(indices.len()) else {
+            return Ok(None);
+        };
+        let mut plan = Plan::new(alloc);
+        self.plan(trial.copy(alloc)?, indices, share, &mut plan)?;
+        let threads = pool.threads();
+        let mut wanted = plan.tasks.len();
+        if wanted > 0 && threads > 1 {
+            wanted = self.plan_ahead(trial, coming, threads, questions, &mut plan)?;
+        }
+        if wanted > 0 {
+            self.foresee(pool, &plan, wanted)?;
+        }
+        Ok(Some(self.given(trial.block, indices, questions)?))
     }
 
     // Leaves out those of the conjuncts that an obligation has to show which are not shown.
@@ -253,6 +472,16 @@ impl<'a, 'o> Shrinking<'a, 'o> {
         Ok(())
     }
 
+    // Notes these proofs. Where that leaves something out, none is known any more.
+    fn note_part(&mut self, indices: &[usize], proofs: Vec<Proof>) -> Result<(), AllocError> {
+        let before = self.lists.changes();
+        self.note_all(indices, proofs)?;
+        if self.lists.changes() != before {
+            self.foreseen = Foreseen::new(self.scene.alloc);
+        }
+        Ok(())
+    }
+
     // Proves these as far as they can be proved. Whether the questions suffice.
     fn settle_all<R: Threads + Wait + Sync>(
         &mut self,
@@ -260,11 +489,19 @@ impl<'a, 'o> Shrinking<'a, 'o> {
         indices: &[usize],
         questions: &mut Questions,
     ) -> Result<bool, PoolFault> {
-        for part in indices.chunks(MOST_AT_A_TIME) {
-            let Some(proofs) = self.prove(pool, part, questions)? else {
+        let trial = Trial::of_nothing(self.scene.alloc);
+        let mut left = indices;
+        for _ in 0..indices.len() {
+            let (part, rest) = left.split_at(left.len().min(MOST_AT_A_TIME));
+            if part.is_empty() {
+                break;
+            }
+            let Some(proofs) = self.prove(pool, &trial, part, Coming::Duties(rest), questions)?
+            else {
                 return Ok(false);
             };
-            self.note_all(part, proofs)?;
+            self.note_part(part, proofs)?;
+            left = rest;
         }
         Ok(true)
     }
@@ -277,7 +514,7 @@ impl<'a, 'o> Shrinking<'a, 'o> {
         questions: &mut Questions,
     ) -> Result<(), PoolFault> {
         for _ in 0..u64::MAX {
-            let stale = self.stale()?;
+            let stale = self.stale(&[])?;
             if stale.is_empty() {
                 break;
             }
@@ -361,16 +598,18 @@ impl<'a, 'o> Shrinking<'a, 'o> {
         Ok(units)
     }
 
-    // The proofs of these in the order of their indices, where all of them are found.
+    // The proofs of these in a trial in the order of their indices, where all of them are found.
     fn prove_all<R: Threads + Wait + Sync>(
-        &self,
+        &mut self,
         pool: &Pool<'_, R>,
+        trial: &Trial,
         indices: &[usize],
+        coming: Coming,
         questions: &mut Questions,
     ) -> Result<Option<Vec<Proof>>, PoolFault> {
         let mut all = Vec::new(self.scene.alloc);
         for part in indices.chunks(MOST_AT_A_TIME) {
-            let Some(proofs) = self.prove(pool, part, questions)? else {
+            let Some(proofs) = self.prove(pool, trial, part, coming, questions)? else {
                 return Ok(None);
             };
             if !append(&mut all, proofs)? {
@@ -380,31 +619,82 @@ impl<'a, 'o> Shrinking<'a, 'o> {
         Ok(Some(all))
     }
 
-    // Gives these a role.
-    fn assign(&mut self, spots: &[Spot], role: Role) {
-        for spot in spots {
-            self.lists.assign(*spot, role);
+    // Whether the duty is to show candidates of the place of one of these.
+    fn shows_one(&self, index: usize, spots: &[Spot]) -> bool {
+        let Some(tracked) = self.tracked.get(index) else {
+            return false;
+        };
+        let Some(obligation) = self.scene.obligations.get(tracked.duty.obligation) else {
+            return false;
+        };
+        match (tracked.duty.owing, obligation.claim) {
+            (Owing::Candidates, Claim::Holds(place)) => {
+                spots.iter().any(|spot| spot.place == place)
+            }
+            _ => false,
         }
     }
 
-    // Leaves these out where what was proved still is. Whether they are.
+    // Whether what is known of a task stays as it is without the candidates of a trial: none of
+    // them was taken or is to be shown. Those that are not looked at do not matter.
+    fn stays(&self, task: Task, given: &Given, trial: &Trial) -> bool {
+        let is_over = task.block.is_within(trial.block);
+        !is_over
+            && !self.shows_one(task.index, &trial.spots)
+            && !given
+                .proof
+                .taken
+                .iter()
+                .any(|spot| spot.is_among(&trial.spots))
+    }
+
+    // Forgets what does not stay as it is without the candidates of a trial.
+    fn forget(&mut self, trial: &Trial) -> Result<(), AllocError> {
+        let mut kept = Foreseen::new(self.scene.alloc);
+        for _ in 0..self.foreseen.len() {
+            let Some((task, given)) = self.foreseen.pop() else {
+                break;
+            };
+            if self.stays(task, &given, trial) {
+                kept.add(task, given)?;
+            }
+        }
+        self.foreseen = kept;
+        Ok(())
+    }
+
+    // Leaves out the candidates of a trial for good.
+    fn end_trial(
+        &mut self,
+        trial: &Trial,
+        indices: &[usize],
+        proofs: Vec<Proof>,
+    ) -> Result<(), AllocError> {
+        for spot in &trial.spots {
+            self.lists.assign(*spot, Role::Out);
+        }
+        self.note_all(indices, proofs)?;
+        self.forget(trial)
+    }
+
+    // Leaves out the candidates of a trial where what was proved still is. Whether they are.
     fn leave_out<R: Threads + Wait + Sync>(
         &mut self,
         pool: &Pool<'_, R>,
-        spots: &[Spot],
+        trial: &Trial,
+        coming: Coming,
         questions: &mut Questions,
     ) -> Result<bool, PoolFault> {
-        self.assign(spots, Role::Out);
-        let stale = self.stale()?;
-        match self.prove_all(pool, &stale, questions)? {
+        if trial.spots.is_empty() {
+            return Ok(true);
+        }
+        let stale = self.stale(&trial.spots)?;
+        match self.prove_all(pool, trial, &stale, coming, questions)? {
             Some(proofs) => {
-                self.note_all(&stale, proofs)?;
+                self.end_trial(trial, &stale, proofs)?;
                 Ok(true)
             }
-            None => {
-                self.assign(spots, Role::Offered);
-                Ok(false)
-            }
+            None => Ok(false),
         }
     }
 
@@ -415,37 +705,20 @@ impl<'a, 'o> Shrinking<'a, 'o> {
         units: Vec<Vec<Spot>>,
         questions: &mut Questions,
     ) -> Result<(), PoolFault> {
-        let mut blocks = Vec::new(self.scene.alloc);
-        push(&mut blocks, 0, units.len())?;
+        let alloc = self.scene.alloc;
+        self.foreseen = Foreseen::new(alloc);
+        let mut blocks = Block::of_all(alloc, units.len())?;
         for _ in 0..u64::MAX {
-            let Some((from, to)) = blocks.pop() else {
+            let Some(block) = blocks.pop() else {
                 break;
             };
-            let block = self.spots_of(&units, from, to)?;
-            let is_gone = block.is_empty() || self.leave_out(pool, &block, questions)?;
-            let middle = from.midpoint(to);
-            if !is_gone && from < middle {
-                push(&mut blocks, middle, to)?;
-                push(&mut blocks, from, middle)?;
+            let trial = Trial::of(alloc, &units, block)?;
+            let coming = Coming::Blocks(&units, &blocks);
+            if !self.leave_out(pool, &trial, coming, questions)? {
+                block.add_halves(&mut blocks)?;
             }
         }
         Ok(())
-    }
-
-    // The candidates of these units.
-    fn spots_of(
-        &self,
-        units: &[Vec<Spot>],
-        from: usize,
-        to: usize,
-    ) -> Result<Vec<Spot>, AllocError> {
-        let mut spots = Vec::new(self.scene.alloc);
-        for index in from..to {
-            if let Some(unit) = units.get(index) {
-                spots.extend_from_slice(unit)?;
-            }
-        }
-        Ok(spots)
     }
 
     /// Leaves out the conjuncts that are not shown, and then those without which all that was

@@ -1,8 +1,7 @@
 //! The few candidates that prove one goal.
 
 use og_infer_places::{Goal, Obligation};
-use og_infer_rounds::{Frozen, Inquiry, Role, Seen, Settled, Spot};
-use og_pool::Numbered;
+use og_infer_rounds::{Allowance, Early, Frozen, Inquiry, Role, Seen, Settled, Spot, Watch};
 use std::alloc::{AllocError, Global};
 
 /// How many single candidates are tried in place of several.
@@ -31,7 +30,9 @@ struct Aim<'a, 'o> {
     frozen: Frozen<'a, 'o>,
     obligation: &'a Obligation<'o>,
     goal: Goal<'a>,
-    left: u64,
+    allowance: Allowance<'a>,
+    // Whether it was given up.
+    is_cut: bool,
 }
 
 impl<'a, 'o> Aim<'a, 'o> {
@@ -54,10 +55,12 @@ impl<'a, 'o> Aim<'a, 'o> {
 
     // Whether these prove the goal, with what is needed anyway.
     fn is_enough(&mut self, taken: Vec<Spot>) -> Result<bool, AllocError> {
-        let mut inquiry = Inquiry::new(self.frozen, self.obligation, self.goal, taken, self.left);
+        let allowance = self.allowance;
+        let mut inquiry = Inquiry::new(self.frozen, self.obligation, self.goal, taken, allowance);
         inquiry.is_strict = true;
         let settled = inquiry.settle()?;
-        self.left = inquiry.left;
+        self.allowance.left = inquiry.left;
+        self.is_cut = self.is_cut || matches!(settled, Settled::Cut);
         Ok(matches!(settled, Settled::True))
     }
 
@@ -167,7 +170,7 @@ impl<'a, 'o> Aim<'a, 'o> {
             self.obligation,
             self.goal,
             Vec::new(alloc),
-            self.left,
+            self.allowance,
         );
         let settled = inquiry.settle()?;
         let Inquiry {
@@ -176,7 +179,8 @@ impl<'a, 'o> Aim<'a, 'o> {
             states,
             ..
         } = inquiry;
-        self.left = left;
+        self.allowance.left = left;
+        self.is_cut = matches!(settled, Settled::Cut);
         if !matches!(settled, Settled::True) {
             return Ok(Vec::new(alloc));
         }
@@ -198,45 +202,62 @@ pub(crate) struct Supporting<'a, 'o> {
 }
 
 impl<'a, 'o> Supporting<'a, 'o> {
-    // The goal of what is owed.
-    fn aim(&self, owed: &Owed) -> Option<Aim<'a, 'o>> {
-        let obligation = self.frozen.scene.obligations.get(owed.obligation)?;
-        let goal = match owed.goal {
-            Some(spot) => Goal::Holds(&self.frozen.lists.get(spot)?.assertion),
-            None => Goal::Claimed,
-        };
-        Some(Aim {
+    // What proves a goal of an obligation; none where it was given up.
+    fn core_of(
+        &self,
+        obligation: &'a Obligation<'o>,
+        goal: Goal<'a>,
+        watch: Watch<'_>,
+    ) -> Result<Option<Core>, AllocError> {
+        let left = self.share;
+        let mut aim = Aim {
             frozen: self.frozen,
             obligation,
             goal,
-            left: self.share,
-        })
+            allowance: Allowance { left, watch },
+            is_cut: false,
+        };
+        let spots = aim.core()?;
+        if aim.is_cut {
+            return Ok(None);
+        }
+        let asked = self.share.saturating_sub(aim.allowance.left);
+        Ok(Some(Core { spots, asked }))
+    }
+
+    // The obligation and the goal of what is owed.
+    fn goal_of(&self, owed: &Owed) -> Option<(&'a Obligation<'o>, Goal<'a>)> {
+        let Frozen { scene, lists, .. } = self.frozen;
+        let obligation = scene.obligations.get(owed.obligation)?;
+        let goal = match owed.goal {
+            Some(spot) => Goal::Holds(&lists.get(spot)?.assertion),
+            None => Goal::Claimed,
+        };
+        Some((obligation, goal))
     }
 }
 
-impl<'a, 'o> Numbered for Supporting<'a, 'o> {
-    ghost use Rattle.std.specs.Prelude.{⊤};
-
+impl<'a, 'o> Early for Supporting<'a, 'o> {
     type Answer = Core;
-
-    type Kept = ();
 
     ghost count = { λ t. t.count };
 
-    ghost may_answer = { λ _ _ _. ⊤ };
-
-    ghost keeps = { λ _ _. ⊤ };
-
-    fn kept(&self) {}
-
-    fn answer(&self, alloc: Global, number: u32, _kept: &mut ()) -> Result<Core, AllocError> {
-        let owed = self.owed.get(number as usize - 1);
-        let Some(mut aim) = owed.and_then(|owed| self.aim(owed)) else {
-            let spots = Vec::new(alloc);
-            return Ok(Core { spots, asked: 0 });
+    fn answer(
+        &self,
+        alloc: Global,
+        number: u32,
+        watch: Watch<'_>,
+    ) -> Result<Option<Core>, AllocError> {
+        let found = match self.owed.get(number as usize - 1) {
+            Some(owed) => self.goal_of(owed),
+            None => None,
         };
-        let spots = aim.core()?;
-        let asked = self.share.saturating_sub(aim.left);
-        Ok(Core { spots, asked })
+        match found {
+            Some((obligation, goal)) => self.core_of(obligation, goal, watch),
+            None => Ok(Some(Core {
+                spots: Vec::new(alloc),
+                asked: 0,
+            })),
+        }
     }
 }

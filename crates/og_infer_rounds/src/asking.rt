@@ -2,6 +2,7 @@
 
 use crate::counting::price;
 use crate::listing::{Lists, Pick, Role, Seen, Spot, lighter};
+use crate::pooling::Watch;
 use crate::scene::Scene;
 use og_infer_candidates::Universe;
 use og_infer_places::{Answer, Goal, Obligation, Question, Taken, ask, is_true};
@@ -13,12 +14,14 @@ const STEPS_OF_VARIABLES: u64 = 30;
 
 const STEPS_A_CANDIDATE: u64 = 4;
 
-/// What does not change while tasks are done.
+/// What does not change while a task is done.
 #[derive(Clone, Copy)]
 pub struct Frozen<'a, 'o> {
     pub scene: &'a Scene<'o>,
     pub universe: &'a Universe,
     pub lists: &'a Lists,
+    /// Candidates that are left out too, by places and by where they stand there.
+    pub without: &'a [Spot],
 }
 
 /// How an inquiry ends.
@@ -30,6 +33,15 @@ pub enum Settled {
     False(Vec<i64>),
     /// Neither was found.
     Open,
+    /// It was given up, since nobody waits for it.
+    Cut,
+}
+
+/// How many questions may be asked, and as long as what.
+#[derive(Clone, Copy)]
+pub struct Allowance<'w> {
+    pub left: u64,
+    pub watch: Watch<'w>,
 }
 
 /// A goal of an obligation, and what is taken for it: at first nothing, and then, while a state is
@@ -45,6 +57,7 @@ pub struct Inquiry<'g, 'a, 'o> {
     pub taken: Vec<Spot>,
     /// How many questions may still be asked.
     pub left: u64,
+    watch: Watch<'a>,
     // How many of these each one costs.
     price: u64,
     /// The states for which something was taken that nothing else needs.
@@ -52,6 +65,41 @@ pub struct Inquiry<'g, 'a, 'o> {
 }
 
 impl Frozen<'_, '_> {
+    /// Whether the candidate there is left out.
+    pub fn is_out(&self, spot: Spot) -> bool {
+        self.lists.has_role(spot, Role::Out) || spot.is_among(self.without)
+    }
+
+    // Whether the candidate there may be taken: one that is needed anyway, if this is strict.
+    fn may_take(&self, spot: Spot, role: Role, is_strict: bool) -> bool {
+        let is_taken = match role {
+            Role::Offered => !is_strict,
+            Role::Needed => true,
+            Role::Out => false,
+        };
+        is_taken && !spot.is_among(self.without)
+    }
+
+    // The lightest candidate of a place that is false in the state, of those that may be taken.
+    fn pick(&self, place: u32, state: &Seen, is_strict: bool) -> Option<Pick> {
+        let mut best: Option<Pick> = None;
+        for (index, listed) in self.lists.at(place).iter().enumerate() {
+            let spot = Spot { place, index };
+            let weight = listed.weight();
+            let is_less = match best {
+                Some(pick) => weight < pick.weight,
+                None => true,
+            };
+            if is_less
+                && self.may_take(spot, listed.role, is_strict)
+                && listed.excludes(self.universe, state)
+            {
+                best = Some(Pick { spot, weight });
+            }
+        }
+        best
+    }
+
     // How many candidates the obligation may take.
     fn offers(&self, obligation: &Obligation) -> u64 {
         let mut offers = 0u64;
@@ -86,13 +134,13 @@ struct Picks {
 }
 
 impl<'g, 'a, 'o> Inquiry<'g, 'a, 'o> {
-    /// With these taken, and this many questions left.
+    /// With these taken, and so many questions.
     pub fn new(
         frozen: Frozen<'a, 'o>,
         obligation: &'a Obligation<'o>,
         goal: Goal<'g>,
         taken: Vec<Spot>,
-        left: u64,
+        allowance: Allowance<'a>,
     ) -> Inquiry<'g, 'a, 'o> {
         Inquiry {
             frozen,
@@ -100,7 +148,8 @@ impl<'g, 'a, 'o> Inquiry<'g, 'a, 'o> {
             goal,
             is_strict: false,
             taken,
-            left,
+            left: allowance.left,
+            watch: allowance.watch,
             price: frozen.price(obligation),
             states: Vec::new(frozen.scene.alloc),
         }
@@ -138,21 +187,11 @@ impl<'g, 'a, 'o> Inquiry<'g, 'a, 'o> {
         ask(scene.alloc, &scene.frame, &question, scene.budget)
     }
 
-    // The lightest candidate of a place that is false in the state.
-    fn pick(&self, place: u32, state: &Seen) -> Option<Pick> {
-        let Frozen {
-            universe,
-            lists,
-            ..
-        } = self.frozen;
-        lists.pick(universe, place, state, self.is_strict)
-    }
-
     // The lightest candidate of the places of the obligation that is false in the state.
     fn lightest(&self, state: &Seen) -> Result<Vec<Spot>, AllocError> {
         let mut best = None;
         for place in &self.obligation.places {
-            best = lighter(best, self.pick(*place, state));
+            best = lighter(best, self.frozen.pick(*place, state, self.is_strict));
         }
         let mut spots = Vec::new(self.frozen.scene.alloc);
         if let Some(pick) = best {
@@ -204,7 +243,7 @@ impl<'g, 'a, 'o> Inquiry<'g, 'a, 'o> {
         let mut weight = 0u32;
         for (place, guard) in alternatives {
             if self.is_possible(*place, *guard, state) {
-                let Some(pick) = self.pick(*place, state) else {
+                let Some(pick) = self.frozen.pick(*place, state, self.is_strict) else {
                     return Ok(None);
                 };
                 spots.push(pick.spot)?;
@@ -264,9 +303,12 @@ impl<'g, 'a, 'o> Inquiry<'g, 'a, 'o> {
     }
 
     /// Asks until the goal is shown, or a state is found in which all that may be taken is true, or
-    /// no question is left.
+    /// no question is left, or nobody waits for it.
     pub fn settle(&mut self) -> Result<Settled, AllocError> {
         for _ in 0..u64::MAX {
+            if self.watch.is_over() {
+                return Ok(Settled::Cut);
+            }
             match self.ask()? {
                 Answer::True => return Ok(Settled::True),
                 Answer::Open => return Ok(Settled::Open),

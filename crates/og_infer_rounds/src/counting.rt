@@ -62,3 +62,9 @@ impl Questions {
         self.given.saturating_sub(self.left)
     }
 }
+
+/// Whether a task that asked so many questions does the same with another share than it had: it was
+/// not cut off, and would not be.
+pub fn is_same_with(asked: u64, had: u64, share: u64) -> bool {
+    share == had || (asked < had && asked <= share)
+}

@@ -10,6 +10,7 @@
 mod admitting;
 mod asking;
 mod counting;
+mod foreseen;
 mod listing;
 mod pooling;
 mod proving;
@@ -18,10 +19,11 @@ mod scene;
 mod weakening;
 
 pub use admitting::Held;
-pub use asking::{Frozen, Inquiry, Settled};
-pub use counting::Questions;
-pub use listing::{Listed, Lists, Role, Seen, Spot};
-pub use pooling::{Pool, count_of};
-pub use proving::{Duty, Owing, Proof, Proving, claims};
+pub use asking::{Allowance, Frozen, Inquiry, Settled};
+pub use counting::{Questions, is_same_with};
+pub use foreseen::Foreseen;
+pub use listing::{Listed, Lists, Role, Seen, Spot, by_places};
+pub use pooling::{Early, Pool, Watch, count_of};
+pub use proving::{Attempt, Duty, Owing, Proof, Proving, claims};
 pub use rounds::{Rounds, gather};
 pub use scene::Scene;

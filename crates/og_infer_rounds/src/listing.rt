@@ -1,7 +1,8 @@
 //! The candidates of each place, as they are asked of it and taken.
 
-use crate::scene::{Scene, empty_lists};
+use crate::scene::Scene;
 use og_infer_candidates::{Bits, Candidate, Candidates, Universe};
+use og_infer_places::Obligation;
 use og_pool::Numbered;
 use og_typed::Assert;
 use std::alloc::{AllocError, Global};
@@ -19,6 +20,24 @@ pub struct Spot {
     pub place: u32,
     /// Where it stands in the list of the place.
     pub index: usize,
+}
+
+impl Spot {
+    // Its place, and where it stands there.
+    fn key(self) -> (u32, usize) {
+        (self.place, self.index)
+    }
+
+    /// Whether it is one of these, which are by places and by where they stand there.
+    pub fn is_among(self, spots: &[Spot]) -> bool {
+        let at = spots.partition_point(|other| other.key() < self.key());
+        matches!(spots.get(at), Some(other) if *other == self)
+    }
+}
+
+/// These by places, and by where they stand there.
+pub fn by_places(spots: &mut Vec<Spot>) -> Result<(), AllocError> {
+    spots.sort_by_key(|spot| spot.key())
 }
 
 /// What may be done with a candidate.
@@ -116,24 +135,110 @@ pub(crate) fn lighter(first: Option<Pick>, second: Option<Pick>) -> Option<Pick>
     }
 }
 
+/// The candidates of one place, and which change of all lists they saw last.
+#[derive(Drop)]
+struct PlaceList {
+    all: Vec<Listed>,
+    changed: u64,
+}
+
+impl PlaceList {
+    // Makes the candidate lighter, and notes the change where the place has it.
+    fn lighten(&mut self, candidate: &Candidate, changes: u64) {
+        for listed in self.all.iter_mut() {
+            if listed.candidate.is_same(candidate) {
+                listed.lighten();
+                self.changed = changes;
+            }
+        }
+    }
+
+    // The needed ones alone, which are offered then.
+    fn into_needed(self, alloc: Global) -> Result<PlaceList, AllocError> {
+        let mut all = Vec::new(alloc);
+        for mut listed in self.all {
+            if listed.role == Role::Needed {
+                listed.role = Role::Offered;
+                all.push(listed)?;
+            }
+        }
+        Ok(PlaceList { all, changed: 0 })
+    }
+}
+
 /// The candidates of each place.
 #[derive(Drop)]
 pub struct Lists {
-    of: Vec<Vec<Listed>>,
+    of: Vec<PlaceList>,
+    changes: u64,
 }
 
 impl Lists {
     /// Of this many places, without candidates.
     pub(crate) fn none(alloc: Global, places: usize) -> Result<Lists, AllocError> {
-        Ok(Lists {
-            of: empty_lists(alloc, places)?,
-        })
+        let mut of = Vec::new(alloc);
+        for _ in 0..places {
+            let all = Vec::new(alloc);
+            of.push(PlaceList { all, changed: 0 })?;
+        }
+        Ok(Lists { of, changes: 0 })
+    }
+
+    /// How many changes there were.
+    pub fn changes(&self) -> u64 {
+        self.changes
+    }
+
+    // Whether the candidates of a place changed after so many changes.
+    fn is_changed(&self, place: u32, changes: u64) -> bool {
+        match self.of.get(place as usize) {
+            Some(list) => list.changed > changes,
+            None => false,
+        }
+    }
+
+    // Whether those of one of these places did.
+    fn is_any_changed(&self, places: &[u32], changes: u64) -> bool {
+        for place in places {
+            if self.is_changed(*place, changes) {
+                return true;
+            }
+        }
+        false
+    }
+
+    // Whether those of the place of one of these alternatives did.
+    fn is_one_changed(&self, alternatives: &[(u32, Option<&Assert>)], changes: u64) -> bool {
+        for (place, _) in alternatives {
+            if self.is_changed(*place, changes) {
+                return true;
+            }
+        }
+        false
+    }
+
+    /// Whether candidates that the obligation may take changed after so many changes.
+    pub fn are_changed(&self, obligation: &Obligation, changes: u64) -> bool {
+        for alternatives in &obligation.stuck {
+            if self.is_one_changed(alternatives, changes) {
+                return true;
+            }
+        }
+        self.is_any_changed(&obligation.places, changes)
+    }
+
+    // The list of a place, which changes.
+    fn changing(&mut self, place: u32) -> Option<&mut Vec<Listed>> {
+        let list = self.of.get_mut(place as usize)?;
+        self.changes = self.changes.saturating_add(1);
+        list.changed = self.changes;
+        Some(&mut list.all)
     }
 
     /// The candidates of a place.
     pub fn at(&self, place: u32) -> &[Listed] {
         match self.of.get(place as usize) {
-            Some(list) => list,
+            Some(list) => &list.all,
             None => &[],
         }
     }
@@ -145,14 +250,14 @@ impl Lists {
 
     /// Gives a place these candidates.
     pub(crate) fn put(&mut self, place: u32, list: Vec<Listed>) {
-        if let Some(own) = self.of.get_mut(place as usize) {
+        if let Some(own) = self.changing(place) {
             *own = list;
         }
     }
 
     /// Gives the candidate there a role.
     pub fn assign(&mut self, spot: Spot, role: Role) {
-        if let Some(list) = self.of.get_mut(spot.place as usize) {
+        if let Some(list) = self.changing(spot.place) {
             if let Some(listed) = list.get_mut(spot.index) {
                 listed.role = role;
             }
@@ -184,7 +289,7 @@ impl Lists {
 
     /// Adds a candidate to those of a place, and gives where it stands.
     pub fn add(&mut self, place: u32, listed: Listed) -> Result<Option<Spot>, AllocError> {
-        let Some(list) = self.of.get_mut(place as usize) else {
+        let Some(list) = self.changing(place) else {
             return Ok(None);
         };
         let index = list.len();
@@ -192,54 +297,16 @@ impl Lists {
         Ok(Some(Spot { place, index }))
     }
 
-    /// The lightest candidate of a place that is false in the state, of those that may be taken, or
-    /// of those that are needed anyway.
-    pub(crate) fn pick(
-        &self,
-        universe: &Universe,
-        place: u32,
-        state: &Seen,
-        is_needed: bool,
-    ) -> Option<Pick> {
-        let mut best: Option<Pick> = None;
-        for (index, listed) in self.at(place).iter().enumerate() {
-            let is_taken = match listed.role {
-                Role::Offered => !is_needed,
-                Role::Needed => true,
-                Role::Out => false,
-            };
-            let weight = listed.weight();
-            let is_less = match best {
-                Some(pick) => weight < pick.weight,
-                None => true,
-            };
-            if is_taken && is_less && listed.excludes(universe, state) {
-                let spot = Spot { place, index };
-                best = Some(Pick { spot, weight });
-            }
-        }
-        best
-    }
-
     // Whether some place needs the candidate.
     fn needs(&self, candidate: &Candidate) -> bool {
         for list in &self.of {
-            for listed in list {
+            for listed in &list.all {
                 if listed.role == Role::Needed && listed.candidate.is_same(candidate) {
                     return true;
                 }
             }
         }
         false
-    }
-
-    // Makes the candidate lighter at all places of the list.
-    fn lighten(list: &mut [Listed], candidate: &Candidate) {
-        for listed in list {
-            if listed.candidate.is_same(candidate) {
-                listed.lighten();
-            }
-        }
     }
 
     /// Notes that the candidate there is needed. The first time it is lighter at other places from
@@ -250,8 +317,10 @@ impl Lists {
         if is_known {
             return;
         }
+        self.changes = self.changes.saturating_add(1);
+        let changes = self.changes;
         for list in self.of.iter_mut() {
-            Lists::lighten(list, candidate);
+            list.lighten(candidate, changes);
         }
     }
 
@@ -259,22 +328,10 @@ impl Lists {
     pub fn into_needed(self, alloc: Global) -> Result<Lists, AllocError> {
         let mut of = Vec::new(alloc);
         for list in self.of {
-            of.push(needed_of(alloc, list)?)?;
+            of.push(list.into_needed(alloc)?)?;
         }
-        Ok(Lists { of })
+        Ok(Lists { of, changes: 0 })
     }
-}
-
-// The needed ones of a list, which are offered then.
-fn needed_of(alloc: Global, list: Vec<Listed>) -> Result<Vec<Listed>, AllocError> {
-    let mut needed = Vec::new(alloc);
-    for mut listed in list {
-        if listed.role == Role::Needed {
-            listed.role = Role::Offered;
-            needed.push(listed)?;
-        }
-    }
-    Ok(needed)
 }
 
 /// The lists of these places are made.

@@ -1,11 +1,11 @@
 //! States after an action in which candidates of a place are false.
 
-use crate::asking::{Frozen, Inquiry, Settled};
+use crate::asking::{Allowance, Frozen, Inquiry, Settled};
 use crate::counting::price;
-use crate::listing::{Listed, Role, Seen, Spot};
+use crate::listing::{Listed, Seen, Spot};
+use crate::pooling::{Early, Watch};
 use og_infer_candidates::Candidate;
 use og_infer_places::{Claim, Goal, Obligation, apply};
-use og_pool::Numbered;
 use og_typed::Assert;
 use std::alloc::{AllocError, Global};
 
@@ -109,7 +109,8 @@ impl<'a, 'o> Frozen<'a, 'o> {
         }
         let changed = self.scene.changed(obligation)?;
         for (index, listed) in self.lists.at(place).iter().enumerate() {
-            if listed.role != Role::Out && self.is_doubtful(obligation, place, listed, &changed) {
+            let is_out = self.is_out(Spot { place, index });
+            if !is_out && self.is_doubtful(obligation, place, listed, &changed) {
                 goals.push(index)?;
             }
         }
@@ -190,21 +191,24 @@ struct Weakener<'a, 'o> {
     states: Vec<Seen>,
     // What is taken at first.
     useful: Vec<Spot>,
-    left: u64,
+    allowance: Allowance<'a>,
+    // Whether it was given up.
+    is_cut: bool,
 }
 
 impl<'a, 'o> Weakener<'a, 'o> {
-    // Of an obligation that claims the assertion of the place, with this many questions.
+    // Of an obligation that claims the assertion of the place, with so many questions.
     fn new(
         frozen: Frozen<'a, 'o>,
         obligation: &'a Obligation<'o>,
         place: u32,
         useful: &[Useful],
-        left: u64,
+        mut allowance: Allowance<'a>,
     ) -> Result<Weakener<'a, 'o>, AllocError> {
         let alloc = frozen.scene.alloc;
         let goals = frozen.doubtful(obligation, place)?;
         let listed = frozen.lists.at(place).len() as u64;
+        allowance.left = allowance.left.saturating_sub(price(listed));
         Ok(Weakener {
             frozen,
             obligation,
@@ -212,7 +216,8 @@ impl<'a, 'o> Weakener<'a, 'o> {
             chunks: chunks_of(alloc, &goals)?,
             states: Vec::new(alloc),
             useful: frozen.spots_of(useful)?,
-            left: left.saturating_sub(price(listed)),
+            allowance,
+            is_cut: false,
         })
     }
 
@@ -284,21 +289,31 @@ impl<'a, 'o> Weakener<'a, 'o> {
         }
         let conjunction = self.frozen.conjunction(self.place, &goals)?;
         let goal = Goal::Holds(&conjunction);
-        let mut inquiry = Inquiry::new(self.frozen, self.obligation, goal, taken, self.left);
+        let mut inquiry = Inquiry::new(self.frozen, self.obligation, goal, taken, self.allowance);
         let settled = inquiry.settle()?;
         let Inquiry { taken, left, .. } = inquiry;
-        self.left = left;
+        self.allowance.left = left;
         match settled {
             Settled::True => self.keep(taken),
+            Settled::Cut => {
+                self.is_cut = true;
+                Ok(())
+            }
             Settled::Open => self.halve(&goals),
             Settled::False(values) => self.refute(Chunk { goals, taken }, values),
         }
     }
 
-    // Asks until all is asked, or enough states are found, or no question is left.
+    // Whether nothing more is to be asked: enough states are found, or no question is left, or it
+    // was given up.
+    fn is_done(&self) -> bool {
+        self.is_cut || self.allowance.left == 0 || self.states.len() >= MOST_STATES
+    }
+
+    // Asks until all is asked.
     fn run(&mut self) -> Result<(), AllocError> {
         for _ in 0..u64::MAX {
-            if self.left == 0 || self.states.len() >= MOST_STATES {
+            if self.is_done() {
                 break;
             }
             let Some(Chunk { goals, taken }) = self.chunks.pop() else {
@@ -328,51 +343,48 @@ pub(crate) struct Weakening<'a, 'o> {
 }
 
 impl<'a, 'o> Weakening<'a, 'o> {
-    // The states that one obligation gives.
+    // The states that one obligation gives; none where it was given up.
     fn weakened(
         &self,
         obligation: &'a Obligation<'o>,
         useful: &[Useful],
+        watch: Watch<'_>,
     ) -> Result<Option<Weakened>, AllocError> {
         let Claim::Holds(place) = obligation.claim else {
             return Ok(None);
         };
-        let mut weakener = Weakener::new(self.frozen, obligation, place, useful, self.share)?;
+        let left = self.share;
+        let allowance = Allowance { left, watch };
+        let mut weakener = Weakener::new(self.frozen, obligation, place, useful, allowance)?;
         weakener.run()?;
         let Weakener {
             states,
             useful,
-            left,
+            allowance,
+            is_cut,
             ..
         } = weakener;
+        if is_cut {
+            return Ok(None);
+        }
         Ok(Some(Weakened {
             states,
             taken: useful,
-            asked: self.share.saturating_sub(left),
+            asked: self.share.saturating_sub(allowance.left),
         }))
     }
 }
 
-impl<'a, 'o> Numbered for Weakening<'a, 'o> {
-    ghost use Rattle.std.specs.Prelude.{⊤};
-
-    type Answer = Option<Weakened>;
-
-    type Kept = ();
+impl<'a, 'o> Early for Weakening<'a, 'o> {
+    type Answer = Weakened;
 
     ghost count = { λ t. t.count };
-
-    ghost may_answer = { λ _ _ _. ⊤ };
-
-    ghost keeps = { λ _ _. ⊤ };
-
-    fn kept(&self) {}
 
     fn answer(
         &self,
         _alloc: Global,
         number: u32,
-        _kept: &mut (),
+        watch: Watch<'_>,
     ) -> Result<Option<Weakened>, AllocError> {
         let Some(task) = self.tasks.get(number as usize - 1) else {
             return Ok(None);
@@ -381,7 +393,7 @@ impl<'a, 'o> Numbered for Weakening<'a, 'o> {
             self.frozen.scene.obligations.get(*task),
             self.useful.get(*task),
         ) {
-            (Some(obligation), Some(useful)) => self.weakened(obligation, useful),
+            (Some(obligation), Some(useful)) => self.weakened(obligation, useful, watch),
             _ => Ok(None),
         }
     }

@@ -1,7 +1,7 @@
 -- Groups of conditions, and the diagnostics of them.
-use Rattle.std.proofs.Common.{◌≡◌, ◌≤◌, ◌+◌, ℕ, List, [], ◌∷◌, ◌++◌, length, drop, Vec, Bool, true, false, cond, Option, Some, None, refl, sym, ap, subst, append-nil, append_assoc, ◌∙◌, arith}
+use Rattle.std.proofs.Common.{◌≡◌, ◌≤◌, ◌+◌, ℕ, List, [], ◌∷◌, ◌++◌, length, drop, Vec, Bool, true, false, cond, Option, Some, None, sym, ap, subst, append-nil, append_assoc, ◌∙◌, arith}
 use Rattle.std.specs.Global.{Global}
-use Rattle.std.specs.List.{AllZip, AllByRecursion}
+use Rattle.std.specs.List.{AllByRecursion}
 use Rattle.std.proofs.lemmas.List.{drop_all}
 use Rattle.og_report_text.specs.Origins.{Rows}
 use Rattle.og_cond.specs.Condition.{Condition}

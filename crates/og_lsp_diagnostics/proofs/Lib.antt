@@ -1,2 +1,3 @@
 mod Groups
 pub mod Standing
+pub mod Zips

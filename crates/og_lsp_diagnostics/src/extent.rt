@@ -30,7 +30,7 @@ fn word_len(bytes: &[u8]) -> usize
 }
 
 /// The word at a byte offset, or the one byte there, as far as the text goes.
-pub(crate) fn word_at(text: &[u8], at: u32) -> Span
+pub fn word_at(text: &[u8], at: u32) -> Span
     requires { length text.now ≤ 2 ^ 20 }
     ensures word { result ≡ word_span text.now at }
     ensures lies { LiesIn text.now result }

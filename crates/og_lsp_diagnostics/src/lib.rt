@@ -16,7 +16,8 @@ mod teller;
 mod told;
 
 pub use diagnostic::{Diagnostic, Related, Severity};
-pub use extent::part_at;
+pub use extent::{part_at, word_at};
 pub use refused::{of_source, of_template};
+pub use remarked::information;
 pub use teller::Teller;
 pub use told::diagnostics_of;

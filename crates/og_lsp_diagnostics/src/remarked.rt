@@ -1,18 +1,36 @@
-//! What is said of what an outline claims of no run.
+//! What is said of what an outline claims of no run, and of whatever else a reviewer is told.
 
 ghost use Rattle.std.specs.Prelude.{IfOk};
 ghost use Rattle.std.specs.List.{AllZip};
 ghost use Rattle.og_lsp_diagnostics.specs.Extents.{AreSaidIn, IsSaidIn};
-ghost use Rattle.og_lsp_diagnostics.specs.Remarked.{IsOfRemark};
+ghost use Rattle.og_lsp_diagnostics.specs.Remarked.{IsInformation, IsOfRemark};
 ghost use Rattle.og_lsp_diagnostics.specs.Said.{text_of, rows_of, IsSheet};
 
 use crate::diagnostic::{Diagnostic, Severity};
 use crate::teller::Teller;
 use og_command_notes::Remark;
-use std::alloc::AllocError;
+use og_text::Span;
+use std::alloc::{AllocError, Global};
 
 // What the diagnostics have for a code.
 const CODE: &[u8] = b"notes";
+
+/// What a reviewer is told of some bytes, in these words.
+///
+/// # Errors
+///
+/// An allocation was refused.
+pub fn information(alloc: Global, span: Span, message: Vec<u8>) -> Result<Diagnostic, AllocError>
+    ensures { IfOk result (IsInformation span message.items) }
+{
+    Ok(Diagnostic {
+        span,
+        severity: Severity::Information,
+        code: Vec::from_slice(alloc, CODE)?,
+        message,
+        related: Vec::new(alloc),
+    })
+}
 
 impl<'t> Teller<'t> {
     // What is said of a remark.
@@ -22,13 +40,7 @@ impl<'t> Teller<'t> {
         ensures within { IfOk result (IsSaidIn (text_of self.now.page)) }
     {
         let Remark { at, text } = remark;
-        Ok(Diagnostic {
-            span: self.span(at),
-            severity: Severity::Information,
-            code: Vec::from_slice(self.alloc, CODE)?,
-            message: text,
-            related: Vec::new(self.alloc),
-        })
+        information(self.alloc, self.span(at), text)
     }
 
     /// What is said of remarks, in their order.

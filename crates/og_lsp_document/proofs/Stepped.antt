@@ -1,5 +1,5 @@
 -- Conditions about steps, and statements, one after another.
-use Rattle.std.proofs.Common.{◌≡◌, ◌∙◌, ◌≤◌, ◌<◌, ℕ, zero, suc, ◌+◌, ◌==◌, List, [], ◌∷◌, ◌++◌, length, drop, map, Bool, true, false, cond, Option, Some, None, refl, sym, ap, ap₂, subst, append-nil, append_assoc, arith}
+use Rattle.std.proofs.Common.{◌≡◌, ◌∙◌, ◌≤◌, ◌<◌, ℕ, zero, suc, ◌+◌, ◌==◌, List, [], ◌∷◌, ◌++◌, length, drop, map, Bool, true, false, cond, Option, Some, None, refl, sym, ap, subst, append-nil, append_assoc, arith}
 use Rattle.std.specs.Prelude.{slice_get, flat_map, IfSome, not, ◌&&◌}
 use Rattle.std.specs.List.{AllZip}
 use Rattle.std.specs.BTreeMap.{BTreeMap}
@@ -15,11 +15,11 @@ use Rattle.og_report_text.specs.Origins.{Rows}
 use Rattle.og_review_text.specs.Seen.{point_of}
 use Rattle.og_review_text.specs.declared.walk.Point.{Point}
 use Rattle.og_lsp_diagnostics.specs.Extents.{place_in}
-use Rattle.og_lsp_document.specs.Parts.{counted, found, with_all, is_at, is_unproved_at, asked_at, unproved_at}
+use Rattle.og_lsp_document.specs.Parts.{found, with_all, is_at, is_unproved_at, asked_at, unproved_at}
 use Rattle.og_lsp_document.specs.Stepping.{kept_at, kept_by, all_kept, conditions_in, unproved_in, placed, IsCounted, IsStatement, IsStatementIn, AreStatementsIn, AddsStatements, AreLeft}
 use Rattle.og_lsp_document.specs.declared.judged.StatementCount.{StatementCount}
 use Rattle.og_lsp_document.specs.declared.parts.Counts.{Counts}
-use Rattle.og_lsp_document.proofs.Counting.{counted_few, plus, all_counted, counts_of}
+use Rattle.og_lsp_document.proofs.Counting.{counted_few, plus, all_counted}
 
 -- ---- conditions
 

@@ -1,5 +1,5 @@
 -- The findings on conditions by their verdicts, one after another.
-use Rattle.std.proofs.Common.{◌≡◌, ◌<◌, ◌≤◌, ℕ, zero, suc, ◌+◌, List, [], ◌∷◌, ◌++◌, length, Bool, true, false, cond, Option, Some, None, Bor, refl, sym, subst, arith}
+use Rattle.std.proofs.Common.{◌≡◌, ◌<◌, ℕ, zero, suc, List, [], ◌∷◌, ◌++◌, length, Option, Some, None, Bor, refl, sym, subst, arith}
 use Rattle.std.specs.Prelude.{slice_get, option_map, IfSome, IsSomeAnd}
 use Rattle.og_typed.specs.Syntax.{Program}
 use Rattle.og_cond.specs.Condition.{Condition}
@@ -8,7 +8,6 @@ use Rattle.og_find.specs.declared.verdict.Verdict.{Verdict}
 use Rattle.og_find_all.specs.Findings.{AreVerdicts, verdict_of}
 use Rattle.og_find_all.specs.declared.findings.Findings.{Findings}
 use Rattle.og_report_prove.specs.Diagnosis.{IsDiagnosis, AreDiagnoses}
-use Rattle.og_report_prove.specs.Report.{is_proved}
 use Rattle.og_report_prove.specs.declared.diagnosis.Diagnosis.{Diagnosis}
 
 pub verdict_at : (cs : List Condition) (c : Condition) (f : Findings) (i : ℕ) (r : Option (Bor Verdict)) → AreVerdicts cs f → slice_get cs i ≡ Some c

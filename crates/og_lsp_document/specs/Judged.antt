@@ -18,8 +18,8 @@ use Rattle.og_template_outline.specs.Meaning.{Means}
 use Rattle.og_template_outline.specs.declared.fault.ExpandFault.{ExpandFault}
 use Rattle.og_lsp_diagnostics.specs.Extents.{LiesIn, AreSaidIn, part_span, place_in}
 use Rattle.og_lsp_document.specs.Parts.{asked, AreIn, AreParts}
+use Rattle.og_lsp_document.specs.Reviewed.{AreReviewed}
 use Rattle.og_lsp_diagnostics.specs.Refusals.{IsOfSource, IsOfTemplate}
-use Rattle.og_lsp_diagnostics.specs.Remarked.{AreOfRemarks}
 use Rattle.og_lsp_document.specs.Stepping.{AreStatements, AreStatementsIn}
 use Rattle.og_lsp_diagnostics.specs.Said.{no_runs, AreOfGroups}
 use Rattle.og_lsp_diagnostics.specs.declared.diagnostic.Diagnostic.{Diagnostic}
@@ -64,7 +64,7 @@ pub record IsFound (s : Subject) (j : Judgement) : Type 0 where
   pub are : AreDiagnoses s.outline (conditions s.outline) diagnoses
   pub summary : j.summary ≡ Some (summary_of s diagnoses)
   pub parts : AreParts s.given (asked s.rows (conditions s.outline) diagnoses) j.parts.items
-  pub remarks : AreOfRemarks s.given s.rows s.outline j.remarks.items
+  pub remarks : AreReviewed s.given s.rows s.outline j.remarks.items
   pub statements : AreStatements s.given s.rows s.outline (conditions s.outline) diagnoses j.statements.items
   pub said : AreOfGroups s.given s.rows (groups s.outline.names s.given s.rows (shown s.rows (unproved_from 1 (conditions s.outline) diagnoses (no_runs diagnoses)))) j.diagnostics.items
 

@@ -10,8 +10,7 @@ ghost use Rattle.og_report_text.specs.declared.fault.InputFault.TheVariants as i
 ghost use Rattle.og_template_outline.specs.Faults.{place_of_fault};
 ghost use Rattle.og_template_outline.specs.Meaning.{IsMeaning};
 ghost use Rattle.og_typed.specs.Refused.{IsSourceFault};
-ghost use Rattle.og_lsp_diagnostics.specs.Extents.{LiesIn, AreSaidIn};
-ghost use Rattle.og_lsp_diagnostics.specs.Remarked.{AreOfRemarks};
+ghost use Rattle.og_lsp_diagnostics.specs.Extents.{LiesIn};
 ghost use Rattle.og_lsp_document.specs.Parts.{AreParts, AreIn, asked};
 ghost use Rattle.og_lsp_document.specs.Stepping.{AreStatements, AreStatementsIn};
 ghost use Rattle.og_lsp_document.specs.Judged.{IsAlone, IsOnly, IsFound, IsAsked, IsJudgement, IsWithin, summary_at};
@@ -23,8 +22,8 @@ use crate::diagnosing::diagnoses_of;
 use crate::fault::JudgeError;
 use crate::judged::{Judgement, PartCount, StatementCount, Summary};
 use crate::parts::parts_of;
+use crate::reviewing::reviewed;
 use crate::stepping::statements_of;
-use og_command_notes::remarks;
 use og_cond::{Condition, ConditionsError, TooMany, conditions};
 use og_find_all::examine_all;
 use og_io::{Budget, Workers};
@@ -85,22 +84,6 @@ fn summary_of(teller: &Teller, cobegin_at: u32, diagnoses: &[Diagnosis]) -> Summ
     }
 }
 
-// What is said of what an outline claims of no run.
-fn remarks_of(
-    teller: &Teller,
-    outline: &Outline,
-    budget: Budget,
-) -> Result<Vec<Diagnostic>, AllocError>
-    requires { IsSheet teller.now.page }
-    ensures are { IfOk result (λ v.
-        AreOfRemarks (text_of teller.now.page) (rows_of teller.now.page) outline.now v.items) }
-    ensures within { IfOk result (λ v. AreSaidIn (text_of teller.now.page) v.items) }
-{
-    let claims = remarks(teller.alloc, outline, budget)?;
-    let said = teller.of_remarks(claims)?;
-    Ok(said)
-}
-
 // The counts of its parts, and those of its statements.
 fn counts_of(
     teller: &Teller,
@@ -152,7 +135,7 @@ fn told(
     };
     let teller = Teller { alloc, page };
     let diagnostics = diagnostics_of(&teller, conditions, diagnoses)?;
-    let remarks = remarks_of(&teller, subject.outline, budget)?;
+    let remarks = reviewed(&teller, subject.outline, budget)?;
     let counts = counts_of(&teller, subject.outline, conditions, diagnoses)?;
     let (parts, statements) = counts;
     let summary = summary_of(&teller, subject.outline.cobegin_at(), diagnoses);

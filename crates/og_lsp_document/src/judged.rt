@@ -48,7 +48,8 @@ pub struct Judgement {
     pub diagnostics: Vec<Diagnostic>,
     /// Of an outline.
     pub summary: Option<Summary>,
-    /// What `og notes` tells that it claims of no run.
+    /// What `og notes` tells a reviewer: what it claims of no run, unused variables, and characters
+    /// that may hide text.
     pub remarks: Vec<Diagnostic>,
     /// Of its parts, in the order of the text.
     pub parts: Vec<PartCount>,

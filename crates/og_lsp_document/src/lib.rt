@@ -10,6 +10,7 @@ mod hovering;
 mod judge;
 mod judged;
 mod parts;
+mod reviewing;
 mod stepping;
 
 pub use fault::JudgeError;

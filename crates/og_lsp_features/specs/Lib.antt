@@ -1,3 +1,4 @@
+pub mod Diagnosed
 pub mod Refusals
 pub mod Renames
 pub mod Texts

@@ -111,7 +111,10 @@ impl Document {
         &mut self,
         judge: &Judge<'_, G, H>,
     ) -> Result<(), JudgeError>
-        ensures { text_of self.new ≡ text_of self.old }
+        ensures text { text_of self.new ≡ text_of self.old }
+        ensures version { self.new.version ≡ self.old.version }
+        ensures due { self.new.is_due ≡ self.old.is_due }
+        ensures judgement { self.new.judgement ≡ self.old.judgement }
     {
         if self.missing.is_none() && self.has_unproved() {
             self.missing = Some(missing_conjuncts(judge, self.text.as_bytes())?);

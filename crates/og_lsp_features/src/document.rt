@@ -1,6 +1,8 @@
 //! An open document.
 
-ghost use Rattle.std.specs.Prelude.{◌≡◌, string_bytes, IfOk};
+ghost use Rattle.std.specs.Prelude.{◌≡◌, string_bytes, None, true, IfOk, OnOk};
+ghost use Rattle.serde_json.specs.View.{view};
+ghost use Rattle.og_lsp_features.specs.Diagnosed.{found_data, IsJudged};
 ghost use Rattle.og_lsp_features.specs.Texts.{text_of};
 
 use crate::refusal::{NO_DOCUMENT, Refusal};
@@ -32,8 +34,17 @@ pub struct Document {
 }
 
 impl Document {
-    /// The document gets a text.
-    pub fn set_text(&mut self, version: Option<i64>, text: String) {
+    /// The document gets a text, of which nothing is found yet, and what is found has to be published.
+    pub fn set_text(&mut self, version: Option<i64>, text: String)
+        ensures { self.new ≡ record {
+          uri = self.old.uri;
+          version = version;
+          text = text;
+          judgement = None;
+          missing = None;
+          is_due = true;
+        } }
+    {
         self.version = version;
         self.text = text;
         self.judgement = None;
@@ -50,7 +61,11 @@ impl Document {
         &mut self,
         judge: &Judge<'_, G, H>,
     ) -> Result<(), JudgeError>
-        ensures { text_of self.new ≡ text_of self.old }
+        ensures text { text_of self.new ≡ text_of self.old }
+        ensures version { self.new.version ≡ self.old.version }
+        ensures due { self.new.is_due ≡ self.old.is_due }
+        ensures judged { IsJudged self.old → IsJudged self.new }
+        ensures found { OnOk result (self.new.judgement ≡ None → ⊥) }
     {
         if self.judgement.is_none() {
             self.judgement = Some(judge.judge(self.text.as_bytes())?);
@@ -93,7 +108,10 @@ impl Document {
     /// # Errors
     ///
     /// An allocation was refused.
-    pub fn diagnostics(&self, alloc: Global, encoding: Encoding) -> Result<Value, AllocError> {
+    pub fn diagnostics(&self, alloc: Global, encoding: Encoding) -> Result<Value, AllocError>
+        ensures { IfOk result (λ v. view v ≡ found_data encoding (string_bytes self.now.uri)
+            (string_bytes self.now.text) self.now.judgement) }
+    {
         let text = self.text.as_bytes();
         let Some(judgement) = &self.judgement else {
             return Ok(Value::Array(Vec::new(alloc)));

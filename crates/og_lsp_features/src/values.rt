@@ -1,8 +1,9 @@
 //! Values of the protocol.
 
-ghost use Rattle.std.specs.Prelude.{◌≡◌, IfOk};
+ghost use Rattle.std.specs.Prelude.{◌≡◌, ◌++◌, map, IfOk, OnOk};
 ghost use Rattle.serde_json.specs.View.{view};
 ghost use Rattle.og_lsp_text.specs.Positions.{range_of};
+ghost use Rattle.og_lsp_features.specs.Diagnosed.{severity_number, related_data, diagnostic_data, diagnostics_data};
 ghost use Rattle.og_lsp_features.specs.Renames.{IsNamedBy};
 ghost use Rattle.og_lsp_features.specs.Values.{position_data, range_data, within, span_data, edit_data, changes_data};
 
@@ -46,7 +47,9 @@ pub(crate) fn range_value(alloc: Global, range: Range) -> Result<Value, AllocErr
 }
 
 // The number that the protocol has for a severity.
-fn severity_number(severity: Severity) -> u32 {
+fn severity_number(severity: Severity) -> u32
+    ensures { result ≡ severity_number severity }
+{
     match severity {
         Severity::Error => 1,
         Severity::Warning => 2,
@@ -118,7 +121,10 @@ impl<'p> Placing<'p> {
     }
 
     // The value of another place.
-    fn related_value(&self, related: &Related) -> Result<Value, AllocError> {
+    fn related_value(&self, related: &Related) -> Result<Value, AllocError>
+        ensures { IfOk result (λ v. view v
+            ≡ related_data self.now.encoding self.now.uri.now self.now.lines.now related.now) }
+    {
         let range = self.span_value(related.span)?;
         let (uri, message) = (self.uri, utf8_text(&related.message));
         json!(in self.alloc; {
@@ -127,21 +133,27 @@ impl<'p> Placing<'p> {
     }
 
     // The values of the other places.
-    fn related_values(&self, related: &[Related]) -> Result<Value, AllocError> {
+    fn related_values(&self, related: &[Related]) -> Result<Vec<Value>, AllocError>
+        ensures { IfOk result (λ values. map view values.items
+            ≡ map (related_data self.now.encoding self.now.uri.now self.now.lines.now) related.now) }
+    {
         let mut values = Vec::with_capacity(self.alloc, related.len())?;
         for each in related {
             values.push(self.related_value(each)?)?;
         }
-        Ok(Value::Array(values))
+        Ok(values)
     }
 
     // The value of a diagnostic.
-    fn diagnostic_value(&self, diagnostic: &Diagnostic) -> Result<Value, AllocError> {
+    fn diagnostic_value(&self, diagnostic: &Diagnostic) -> Result<Value, AllocError>
+        ensures { IfOk result (λ v. view v
+            ≡ diagnostic_data self.now.encoding self.now.uri.now self.now.lines.now diagnostic.now) }
+    {
         let range = self.span_value(diagnostic.span)?;
         let severity = severity_number(diagnostic.severity);
         let code = utf8_text(&diagnostic.code);
         let message = utf8_text(&diagnostic.message);
-        let related = self.related_values(diagnostic.related.as_slice())?;
+        let related = Value::Array(self.related_values(diagnostic.related.as_slice())?);
         json!(in self.alloc; {
             "range": range, "severity": severity, "code": code, "source": "og",
             "message": message, "relatedInformation": related
@@ -149,7 +161,10 @@ impl<'p> Placing<'p> {
     }
 
     // Adds the values of diagnostics.
-    fn add_values(&self, values: &mut Vec<Value>, all: &[Diagnostic]) -> Result<(), AllocError> {
+    fn add_values(&self, values: &mut Vec<Value>, all: &[Diagnostic]) -> Result<(), AllocError>
+        ensures { OnOk result (map view values.new.items ≡ map view values.old.items ++ map
+            (diagnostic_data self.now.encoding self.now.uri.now self.now.lines.now) all.now) }
+    {
         for each in all {
             values.push(self.diagnostic_value(each)?)?;
         }
@@ -161,7 +176,10 @@ impl<'p> Placing<'p> {
     /// # Errors
     ///
     /// An allocation was refused.
-    pub(crate) fn diagnostic_values(&self, judgement: &Judgement) -> Result<Value, AllocError> {
+    pub(crate) fn diagnostic_values(&self, judgement: &Judgement) -> Result<Value, AllocError>
+        ensures { IfOk result (λ v. view v
+            ≡ diagnostics_data self.now.encoding self.now.uri.now self.now.lines.now judgement.now) }
+    {
         let mut values = Vec::new(self.alloc);
         self.add_values(&mut values, &judgement.diagnostics)?;
         self.add_values(&mut values, &judgement.remarks)?;

@@ -4,3 +4,4 @@ pub mod Kept
 pub mod NoMethod
 pub mod Notices
 pub mod Replying
+mod Told

@@ -1,5 +1,7 @@
 //! The open documents.
 
+ghost use Rattle.og_lsp_server.specs.Published.{AreJudged};
+
 use og_lsp_features::Document;
 use std::alloc::{AllocError, Global};
 
@@ -14,7 +16,9 @@ pub(crate) struct Documents {
 
 impl Documents {
     /// No document is open.
-    pub(crate) fn new(alloc: Global) -> Documents {
+    pub(crate) fn new(alloc: Global) -> Documents
+        ensures { AreJudged result }
+    {
         Documents {
             all: Vec::new(alloc),
         }
@@ -30,10 +34,16 @@ impl Documents {
         self.all.get(self.place(uri)?)
     }
 
-    /// The same, to be changed.
-    pub(crate) fn get_mut(&mut self, uri: &str) -> Option<&mut Document> {
-        let place = self.place(uri)?;
-        self.all.get_mut(place)
+    /// The document of a name gets a text, where it is open.
+    pub(crate) fn set_text(&mut self, uri: &str, version: Option<i64>, text: String)
+        ensures { AreJudged self.old → AreJudged self.new }
+    {
+        let Some(place) = self.place(uri) else {
+            return;
+        };
+        if place < self.all.len() {
+            self.all[place].set_text(version, text);
+        }
     }
 
     /// Whether no other document can be opened.
@@ -52,9 +62,11 @@ impl Documents {
         uri: &str,
         version: Option<i64>,
         text: String,
-    ) -> Result<(), AllocError> {
-        if let Some(document) = self.get_mut(uri) {
-            document.set_text(version, text);
+    ) -> Result<(), AllocError>
+        ensures { AreJudged self.old → AreJudged self.new }
+    {
+        if self.place(uri).is_some() {
+            self.set_text(uri, version, text);
             return Ok(());
         }
         let document = Document {
@@ -70,7 +82,9 @@ impl Documents {
     }
 
     /// Closes a document. Whether it was open.
-    pub(crate) fn close(&mut self, uri: &str) -> bool {
+    pub(crate) fn close(&mut self, uri: &str) -> bool
+        ensures { AreJudged self.old → AreJudged self.new }
+    {
         match self.place(uri) {
             Some(place) => {
                 if place < self.all.len() {

@@ -1,6 +1,7 @@
 //! What requests ask of a document.
 
 ghost use Rattle.std.specs.Prelude.{◌≡◌};
+ghost use Rattle.og_lsp_server.specs.Published.{AreJudged};
 ghost use Rattle.og_lsp_server.specs.Texts.{texts_of};
 
 use crate::server::Server;
@@ -75,6 +76,7 @@ impl<'r, G: Gate, H: Threads + Wait + Sync> Server<'r, G, H> {
     fn judge_named(&mut self, message: &Message) -> Result<(), Refusal>
         ensures phase { self.new.phase ≡ self.old.phase }
         ensures texts { texts_of self.new.documents ≡ texts_of self.old.documents }
+        ensures judged { AreJudged self.old.documents → AreJudged self.new.documents }
     {
         let place = self.named_place(message)?;
         self.judge_at(place)?;
@@ -97,6 +99,7 @@ impl<'r, G: Gate, H: Threads + Wait + Sync> Server<'r, G, H> {
     pub(crate) fn lenses(&mut self, message: &Message) -> Result<Value, Refusal>
         ensures phase { self.new.phase ≡ self.old.phase }
         ensures texts { texts_of self.new.documents ≡ texts_of self.old.documents }
+        ensures judged { AreJudged self.old.documents → AreJudged self.new.documents }
     {
         self.judge_named(message)?;
         self.known_lenses(message)
@@ -130,6 +133,7 @@ impl<'r, G: Gate, H: Threads + Wait + Sync> Server<'r, G, H> {
     pub(crate) fn hover(&mut self, message: &Message) -> Result<Value, Refusal>
         ensures phase { self.new.phase ≡ self.old.phase }
         ensures texts { texts_of self.new.documents ≡ texts_of self.old.documents }
+        ensures judged { AreJudged self.old.documents → AreJudged self.new.documents }
     {
         self.judge_named(message)?;
         self.known_hover(message)
@@ -159,6 +163,7 @@ impl<'r, G: Gate, H: Threads + Wait + Sync> Server<'r, G, H> {
     pub(crate) fn actions(&mut self, message: &Message) -> Result<Value, Refusal>
         ensures phase { self.new.phase ≡ self.old.phase }
         ensures texts { texts_of self.new.documents ≡ texts_of self.old.documents }
+        ensures judged { AreJudged self.old.documents → AreJudged self.new.documents }
     {
         let place = self.named_place(message)?;
         self.complete_at(place)?;

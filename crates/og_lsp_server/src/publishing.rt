@@ -1,6 +1,8 @@
 //! What is found of documents is published.
 
-ghost use Rattle.std.specs.Prelude.{◌≡◌, OnOk};
+ghost use Rattle.std.specs.Prelude.{◌≡◌, [], ◌∷◌, ◌++◌, string_bytes, IfOk, OnOk};
+ghost use Rattle.serde_json.specs.View.{view};
+ghost use Rattle.og_lsp_server.specs.Published.{params_data, notice_data, IsPublished, ArePublished, AreJudged};
 ghost use Rattle.og_lsp_server.specs.Replies.{AddsNotifications};
 ghost use Rattle.og_lsp_server.specs.Said.{said};
 ghost use Rattle.og_lsp_server.specs.Texts.{texts_of};
@@ -19,11 +21,10 @@ use std::sync::Wait;
 use std::thread::Threads;
 
 // The parameters by which diagnostics of a document are published.
-fn params_value(
-    alloc: Global,
-    document: &Document,
-    diagnostics: Value,
-) -> Result<Value, AllocError> {
+fn params_value(alloc: Global, document: &Document, diagnostics: Value) -> Result<Value, AllocError>
+    ensures { IfOk result (λ v. view v ≡ params_data (string_bytes document.now.uri)
+        document.now.version (view diagnostics)) }
+{
     let uri = document.uri.as_str();
     match document.version {
         Some(version) => json!(in alloc; {
@@ -34,14 +35,13 @@ fn params_value(
 }
 
 // Adds what is found of a document, with the version of its text.
-#[tactic(auto, using(crate::proofs::Notices::adds_one))]
 fn publish_document(
     document: &Document,
     alloc: Global,
     encoding: Encoding,
     out: &mut Outbox,
 ) -> Result<(), AllocError>
-    ensures { OnOk result (AddsNotifications (said out.old) (said out.new)) }
+    ensures { OnOk result (said out.new ≡ said out.old ++ notice_data encoding document.now ∷ []) }
 {
     let diagnostics = document.diagnostics(alloc, encoding)?;
     let params = params_value(alloc, document, diagnostics)?;
@@ -55,7 +55,8 @@ fn judge_and_publish<G: Gate, H: Threads + Wait + Sync>(
     encoding: Encoding,
     out: &mut Outbox,
 ) -> Result<(), SessionEnd>
-    ensures { OnOk result (AddsNotifications (said out.old) (said out.new)) }
+    ensures published { OnOk result (IsPublished encoding document.old document.new
+        (said out.old) (said out.new)) }
 {
     if !document.is_due {
         return Ok(());
@@ -66,6 +67,23 @@ fn judge_and_publish<G: Gate, H: Threads + Wait + Sync>(
     Ok(())
 }
 
+// The same of documents, one after another.
+fn publish_each<G: Gate, H: Threads + Wait + Sync>(
+    documents: &mut [Document],
+    judge: &Judge<'_, G, H>,
+    encoding: Encoding,
+    out: &mut Outbox,
+) -> Result<(), SessionEnd>
+    ensures { OnOk result (ArePublished encoding documents.old documents.new
+        (said out.old) (said out.new)) }
+{
+    let Some((document, others)) = documents.split_first_mut() else {
+        return Ok(());
+    };
+    judge_and_publish(document, judge, encoding, out)?;
+    publish_each(others, judge, encoding, out)
+}
+
 impl Documents {
     // What is found of the document at this place of the list is known.
     fn judge_at<G: Gate, H: Threads + Wait + Sync>(
@@ -73,7 +91,8 @@ impl Documents {
         place: usize,
         judge: &Judge<'_, G, H>,
     ) -> Result<(), JudgeError>
-        ensures { texts_of self.new ≡ texts_of self.old }
+        ensures texts { texts_of self.new ≡ texts_of self.old }
+        ensures judged { AreJudged self.old → AreJudged self.new }
     {
         if place >= self.all.len() {
             return Ok(());
@@ -87,7 +106,8 @@ impl Documents {
         place: usize,
         judge: &Judge<'_, G, H>,
     ) -> Result<(), JudgeError>
-        ensures { texts_of self.new ≡ texts_of self.old }
+        ensures texts { texts_of self.new ≡ texts_of self.old }
+        ensures judged { AreJudged self.old → AreJudged self.new }
     {
         if place >= self.all.len() {
             return Ok(());
@@ -106,6 +126,7 @@ impl<'r, G: Gate, H: Threads + Wait + Sync> Server<'r, G, H> {
     pub(crate) fn complete_at(&mut self, place: usize) -> Result<(), JudgeError>
         ensures phase { self.new.phase ≡ self.old.phase }
         ensures texts { texts_of self.new.documents ≡ texts_of self.old.documents }
+        ensures judged { AreJudged self.old.documents → AreJudged self.new.documents }
     {
         self.judge_at(place)?;
         self.documents.complete_at(place, self.judge)
@@ -119,34 +140,24 @@ impl<'r, G: Gate, H: Threads + Wait + Sync> Server<'r, G, H> {
     pub(crate) fn judge_at(&mut self, place: usize) -> Result<(), JudgeError>
         ensures phase { self.new.phase ≡ self.old.phase }
         ensures texts { texts_of self.new.documents ≡ texts_of self.old.documents }
+        ensures judged { AreJudged self.old.documents → AreJudged self.new.documents }
     {
         self.documents.judge_at(place, self.judge)
     }
 
-    /// Judges the documents that have changed, and adds what is found of them.
+    /// Judges the documents that have changed, and adds what is found of each of them, once.
     ///
     /// # Errors
     ///
     /// `Memory` or `Spawn`.
+    #[tactic(auto, using(crate::proofs::Told::all_told))]
     pub fn publish(&mut self, out: &mut Outbox) -> Result<(), SessionEnd>
+        ensures published { OnOk result (ArePublished self.old.encoding self.old.documents.all.items
+            self.new.documents.all.items (said out.old) (said out.new)) }
         ensures notified { OnOk result (AddsNotifications (said out.old) (said out.new)) }
         ensures phase { self.new.phase ≡ self.old.phase }
+        ensures encoding { self.new.encoding ≡ self.old.encoding }
     {
-        for place in 0..self.documents.all.len() {
-            self.publish_at(place, out)?;
-        }
-        Ok(())
-    }
-
-    // The same of the document at a place of the list.
-    fn publish_at(&mut self, place: usize, out: &mut Outbox) -> Result<(), SessionEnd>
-        ensures notified { OnOk result (AddsNotifications (said out.old) (said out.new)) }
-        ensures phase { self.new.phase ≡ self.old.phase }
-    {
-        let (judge, encoding) = (self.judge, self.encoding);
-        match self.documents.all.get_mut(place) {
-            Some(document) => judge_and_publish(document, judge, encoding, out),
-            None => Ok(()),
-        }
+        publish_each(&mut self.documents.all, self.judge, self.encoding, out)
     }
 }

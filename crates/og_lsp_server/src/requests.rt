@@ -8,6 +8,7 @@ ghost use Rattle.og_lsp_server.specs.Methods.{method_named};
 ghost use Rattle.og_lsp_features.specs.Refusals.{code_of};
 ghost use Rattle.og_lsp_server.specs.Replies.{refused_with, refused_ready, phase_behind, AddsReply};
 ghost use Rattle.og_lsp_server.specs.Said.{said};
+ghost use Rattle.og_lsp_server.specs.Published.{AreJudged};
 ghost use Rattle.og_lsp_server.specs.Texts.{texts_of};
 ghost use Rattle.og_lsp_server.specs.declared.server.Phase.TheVariants.{Ready};
 
@@ -69,6 +70,7 @@ impl<'r, G: Gate, H: Threads + Wait + Sync> Server<'r, G, H> {
             → IsErrAnd result (λ e. code_of e ≡ Some code) }
         ensures phase { self.new.phase ≡ phase_behind Ready (Some method) }
         ensures texts { texts_of self.new.documents ≡ texts_of self.old.documents }
+        ensures judged { AreJudged self.old.documents → AreJudged self.new.documents }
     {
         match method {
             Method::Initialize => Err(INITIALIZED),
@@ -98,6 +100,7 @@ impl<'r, G: Gate, H: Threads + Wait + Sync> Server<'r, G, H> {
         ensures stays { IfErr result (λ e. (code : ErrorCode) → code_of e ≡ Some code
             → self.new.phase ≡ phase_behind self.old.phase method) }
         ensures texts { texts_of self.new.documents ≡ texts_of self.old.documents }
+        ensures judged { AreJudged self.old.documents → AreJudged self.new.documents }
     {
         match (self.phase, method) {
             (Phase::Ready, Some(method)) => self.served(message, method),
@@ -126,6 +129,7 @@ impl<'r, G: Gate, H: Threads + Wait + Sync> Server<'r, G, H> {
         ensures phase { OnOk result (self.new.phase
             ≡ phase_behind self.old.phase (method_named method.now)) }
         ensures texts { texts_of self.new.documents ≡ texts_of self.old.documents }
+        ensures judged { AreJudged self.old.documents → AreJudged self.new.documents }
     {
         match self.result(message, method_named(method)) {
             Ok(value) => Ok(out.answer(id, value)?),

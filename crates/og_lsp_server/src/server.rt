@@ -5,6 +5,7 @@ ghost use Rattle.serde_json.specs.View.{view};
 ghost use Rattle.og_lsp_message.specs.Calls.{kind_of};
 ghost use Rattle.og_lsp_message.specs.declared.message.Kind.TheVariants.{Request, Notification};
 ghost use Rattle.og_lsp_server.specs.Replies.{Says, Leads, Takes};
+ghost use Rattle.og_lsp_server.specs.Published.{AreJudged};
 ghost use Rattle.og_lsp_server.specs.Said.{said};
 ghost use Rattle.og_lsp_server.specs.Texts.{texts_of, KeepsTexts};
 ghost use Rattle.og_lsp_server.specs.declared.server.Phase.TheVariants.{Fresh};
@@ -51,7 +52,8 @@ pub struct Server<'r, G, H> {
 impl<'r, G: Gate, H: Threads + Wait + Sync> Server<'r, G, H> {
     /// A server that waits for `initialize`.
     pub fn new(judge: &'r Judge<'r, G, H>) -> Server<'r, G, H>
-        ensures { result.phase ≡ Fresh }
+        ensures phase { result.phase ≡ Fresh }
+        ensures judged { AreJudged result.documents }
     {
         let documents = Documents::new(judge.alloc);
         Server {
@@ -76,6 +78,7 @@ impl<'r, G: Gate, H: Threads + Wait + Sync> Server<'r, G, H> {
         ensures taken { IfOk result (λ flow.
             Takes message.now self.old.phase (said out.old) (said out.new) flow self.new.phase) }
         ensures texts { KeepsTexts message.now self.old.documents self.new.documents }
+        ensures judged { AreJudged self.old.documents → AreJudged self.new.documents }
     {
         match message {
             Ok(message) => self.take_message(message, out),
@@ -95,6 +98,7 @@ impl<'r, G: Gate, H: Threads + Wait + Sync> Server<'r, G, H> {
             self.old.phase (view message.now.value) flow self.new.phase) }
         ensures texts { kind_of (view message.now.value) ≡ Request
             → texts_of self.new.documents ≡ texts_of self.old.documents }
+        ensures judged { AreJudged self.old.documents → AreJudged self.new.documents }
     {
         match message.kind() {
             Kind::Request => self.take_call(message, out),
@@ -119,6 +123,7 @@ impl<'r, G: Gate, H: Threads + Wait + Sync> Server<'r, G, H> {
         ensures leads { IfOk result (λ flow. Leads Request
             self.old.phase (view message.now.value) flow self.new.phase) }
         ensures texts { texts_of self.new.documents ≡ texts_of self.old.documents }
+        ensures judged { AreJudged self.old.documents → AreJudged self.new.documents }
     {
         match (message.method(), message.id()) {
             (Some(method), Some(id)) => {
@@ -136,6 +141,7 @@ impl<'r, G: Gate, H: Threads + Wait + Sync> Server<'r, G, H> {
             (view message.now.value) (said out.old) (said out.new)) }
         ensures leads { IfOk result (λ flow. Leads Notification
             self.old.phase (view message.now.value) flow self.new.phase) }
+        ensures judged { AreJudged self.old.documents → AreJudged self.new.documents }
     {
         match message.method() {
             Some(method) => self.take_notification(message, method, out),

@@ -1,6 +1,7 @@
 //! Documents are opened, changed and closed.
 
 ghost use Rattle.std.specs.Prelude.{◌≡◌, IfOk, OnOk, OnErr};
+ghost use Rattle.og_lsp_server.specs.Published.{AreJudged};
 ghost use Rattle.og_lsp_server.specs.Replies.{flow_of, AddsNotifications};
 ghost use Rattle.og_lsp_server.specs.Said.{said};
 
@@ -49,6 +50,7 @@ impl<'r, G, H> Server<'r, G, H> {
     fn open(&mut self, message: &Message, out: &mut Outbox) -> Result<(), AllocError>
         ensures notified { OnOk result (AddsNotifications (said out.old) (said out.new)) }
         ensures phase { self.new.phase ≡ self.old.phase }
+        ensures judged { AreJudged self.old.documents → AreJudged self.new.documents }
     {
         let alloc = self.judge.alloc;
         let (Ok(uri), Some(text)) = (document_name(message), opened_text(message)) else {
@@ -64,15 +66,14 @@ impl<'r, G, H> Server<'r, G, H> {
 
     // A document is changed.
     fn change(&mut self, message: &Message) -> Result<(), AllocError>
-        ensures { self.new.phase ≡ self.old.phase }
+        ensures phase { self.new.phase ≡ self.old.phase }
+        ensures judged { AreJudged self.old.documents → AreJudged self.new.documents }
     {
         let (Ok(uri), Some(text)) = (document_name(message), changed_text(message)) else {
             return Ok(());
         };
         let text = String::from_str(self.judge.alloc, text)?;
-        if let Some(document) = self.documents.get_mut(uri) {
-            document.set_text(version_of(message), text);
-        }
+        self.documents.set_text(uri, version_of(message), text);
         Ok(())
     }
 
@@ -81,6 +82,7 @@ impl<'r, G, H> Server<'r, G, H> {
     fn close(&mut self, message: &Message, out: &mut Outbox) -> Result<(), AllocError>
         ensures notified { OnOk result (AddsNotifications (said out.old) (said out.new)) }
         ensures phase { self.new.phase ≡ self.old.phase }
+        ensures judged { AreJudged self.old.documents → AreJudged self.new.documents }
     {
         let alloc = self.judge.alloc;
         let Ok(uri) = document_name(message) else {
@@ -109,6 +111,7 @@ impl<'r, G, H> Server<'r, G, H> {
         ensures notified { OnOk result (AddsNotifications (said out.old) (said out.new)) }
         ensures flow { IfOk result (λ flow. flow ≡ flow_of self.old.phase method.now) }
         ensures phase { self.new.phase ≡ self.old.phase }
+        ensures judged { AreJudged self.old.documents → AreJudged self.new.documents }
     {
         if method == "exit" {
             let after_shutdown = self.phase == Phase::Closing;

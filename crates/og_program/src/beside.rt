@@ -10,12 +10,12 @@ ghost use Rattle.og_program.specs.Beside.{IsNote, Noted, OnBadValue};
 ghost use Rattle.og_program.specs.Failing.{IsWant};
 ghost use Rattle.og_command_infer.specs.Printed.{IsPrinted};
 ghost use Rattle.og_report_text.specs.Subject.{subject_of, IsShort};
-ghost use Rattle.og_program.specs.Commands.{NotesCheck, NotesCount, IsLongNote, IsInferNote, FollowsInferring, IsRunReport, IsWordRemark, FollowsFinding, FollowsRunning, FollowsReply, FollowsListing, FollowsTwin, FollowsDrawing};
+ghost use Rattle.og_program.specs.Commands.{NotesCheck, NotesCount, IsLongNote, IsInferNote, FollowsInferring, IsRunReport, IsStartNote, IsWordRemark, FollowsFinding, FollowsRunning, FollowsReply, FollowsListing, FollowsTwin, FollowsDrawing};
 
 use crate::fault::Fault;
 use crate::outcome::{BadValue, Certificates, Outcome, Report};
 use og_command_check::{CheckReply, FindReply, FoundCertificates, LongText};
-use og_command_explore::{Drawing, Reply as Started};
+use og_command_explore::{Drawing, Reply as Started, start_near};
 use og_command_infer::{Inferred, Reply as Inferring};
 use og_command_promela::Reply as Translated;
 use og_command_run::{Ran, Reply};
@@ -172,6 +172,20 @@ fn bad_word<'a>(
     bad_schedule(alloc, word)
 }
 
+// The message about a run of a source that does not begin, with a start where a search finds one.
+fn start_note(
+    alloc: Global,
+    name: &str,
+    source: &Source,
+    words: &[&str],
+) -> Result<Option<Vec<u8>>, AllocError>
+    ensures { IsNote (IsStartNote (named name.now source.now.bytes) source.now.outline
+        (word_bytes words.now)) result }
+{
+    let start = start_near(alloc, source.outline(), words)?;
+    start_remark(alloc, name, source, words, &start)
+}
+
 // The answer of a run, and beside it why its start is refused, or its line.
 fn beside_ran(alloc: Global, name: &str, source: &Source, words: &[&str], ran: Ran) -> Report
     ensures { IsRunReport (named name.now source.now.bytes) source.now.outline
@@ -179,7 +193,7 @@ fn beside_ran(alloc: Global, name: &str, source: &Source, words: &[&str], ran: R
 {
     let Ran { answer, note } = ran;
     let note = if answer.status == REFUSED {
-        start_remark(alloc, name, source, words)
+        start_note(alloc, name, source, words)
     } else {
         Ok(note)
     };

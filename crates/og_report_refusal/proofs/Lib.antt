@@ -1,3 +1,4 @@
 pub mod Places
 pub mod Joins
+mod Hints
 pub mod Templates

@@ -1,9 +1,13 @@
 -- The message about a run that does not begin.
-use Rattle.std.specs.Prelude.{◌≡◌, ℕ, zero, suc, ℤ, List, [], ◌∷◌, if◌then◌else◌, ◌==◌, None, Vec, codes}
+use Rattle.std.specs.Prelude.{◌≡◌, ℕ, zero, suc, ℤ, true, List, [], ◌∷◌, if◌then◌else◌, ◌==◌, Option, None, Some, IfSome, Vec, slice_get, codes}
+use Rattle.std.specs.Ordering.{int_eq}
 use Rattle.std.specs.Global.{Global}
+use Rattle.og_linear.specs.Linear.{value_at}
 use Rattle.og_typed.specs.Syntax.{Program}
+use Rattle.og_typed.specs.Machine.{IsStart}
 use Rattle.og_typed.specs.declared.assertion.Assert.{Assert}
 use Rattle.og_report_text.specs.Places.{◌&◌, position_of, position_text}
+use Rattle.og_report_text.specs.Listing.{name_text, constant_text}
 use Rattle.og_report_text.specs.Values.{values_text}
 use Rattle.og_report_refusal.specs.Names.{shown_name}
 use Rattle.og_report_explain.specs.Explanations.{IsFalseNote}
@@ -29,21 +33,39 @@ module _ (names : List (List ℕ)) (s : List ℤ) where
   abbrev pub start_line : ℕ → List ℕ
   start_line n = if n == 0 then [] else codes "  start: " & start_values n & codes "\n"
 
--- advice, where there are some
-abbrev pub help_line : ℕ → List ℕ
-help_line n = if n == 0 then [] else codes "help: words NAME=INT give variables their values at the start, which are else 0\n"
+  -- the word that gives a variable its value at a start, after a blank, where that is another one
+  abbrev pub start_word : List ℤ → ℕ → List ℕ
+  start_word start x =
+      if int_eq (value_at start x) (value_at s x) then [] else codes " " & name_text (slice_get names x) & codes "=" & constant_text true (value_at start x)
 
--- the place of the precondition, the values of the variables that are no auxiliaries, and the conjuncts that are false
-abbrev pub start_text : List ℕ → List ℕ → Program → List ℤ → List (Bor Assert) → List ℕ
-start_text name source o s found =
+  -- those of the first n variables
+  abbrev pub start_words : List ℤ → ℕ → List ℕ
+  start_words start zero = []
+  start_words start (suc n) = start_words start n & start_word start n
+
+  -- a start by its words, where one is known, and the end of the line
+  abbrev pub hint_text : Option (List ℤ) → ℕ → List ℕ
+  hint_text None n = codes "\n"
+  hint_text (Some start) n = codes "; a start:" & start_words start n & codes "\n"
+
+  -- advice, where there are some
+  abbrev pub help_line : Option (List ℤ) → ℕ → List ℕ
+  help_line start n =
+      if n == 0 then [] else codes "help: words NAME=INT give variables their values at the start, which are else 0" & hint_text start n
+
+-- the place of the precondition, the values of the variables that are no auxiliaries, the conjuncts that are false, and a start
+abbrev pub start_text : List ℕ → List ℕ → Program → List ℤ → List (Bor Assert) → Option (List ℤ) → List ℕ
+start_text name source o s found start =
     refused_text name source o.pre.at & start_line o.names s o.vars & false_lines o.names source None o.pre.at found
-    & help_line o.vars
+    & help_line o.names s start o.vars
 
--- these are all conjuncts of the precondition that are false in the state s
+-- these are all conjuncts of the precondition that are false in the state s, and the start is one
 pub record IsStartOf (name source : List ℕ) (o : Program) (s : List ℤ) (text : List ℕ) : Type 0 where
   pub found : Vec (Bor Assert) Global
   pub is_false : IsFalseNote s o.pre found
-  pub written : text ≡ start_text name source o s found.items
+  pub start : Option (List ℤ)
+  pub is_start : IfSome start (IsStart o)
+  pub written : text ≡ start_text name source o s found.items start
 
 -- the same of the state that the words give
 abbrev pub IsStartRemark : List ℕ → List ℕ → Program → List (List ℕ) → List ℕ → Type 0

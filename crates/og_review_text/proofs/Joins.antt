@@ -8,6 +8,11 @@ pub when_ok : {X E : Type 0} (r : Result X E) (old new tail : List ℕ) → new 
 when_ok (Ok x) old new tail h = h
 when_ok (Err error) old new tail h = tt
 
+-- elements that are added one after another
+pub added_then : {X Y E : Type 0} (r : Result X E) (old mid new a tail : List Y) → mid ≡ old ++ a → OnOk r (new ≡ mid ++ tail) → OnOk r (new ≡ old ++ (a ++ tail))
+added_then (Ok x) old mid new a tail e h = h ∙ ap (λ l. l ++ tail) e ∙ append_assoc old a tail
+added_then (Err error) old mid new a tail e h = h
+
 -- the lines of one more element
 pub element_more : {X Y : Type 0} (g : X → Y) (f : Y → List ℕ) (xs : List X) (i : ℕ) (x : X) (before after whole : List ℕ) → i < length xs → x ≡ get_or xs i x → after ≡ before ++ f (g x) → before ++ flat_map f (map g (drop i xs)) ≡ whole
     → after ++ flat_map f (map g (drop (i + 1) xs)) ≡ whole

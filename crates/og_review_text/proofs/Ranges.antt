@@ -36,16 +36,16 @@ left_next p before whole i n lt fails e =
     let later = filter p (range_with_len (i + 1) (n - (i + 1))) in
     ap (λ (l : List ℕ). before ++ l) (sym (filter_next p i n lt ∙ ap (λ (b : Bool). cond b (i ∷ later) later) fails)) ∙ e
 
--- the lines of numbers one after another
-pub lines_next : (f : ℕ → List ℕ) (i n : ℕ) → i < n → flat_map f (range_with_len i (n - i)) ≡ f i ++ flat_map f (range_with_len (i + 1) (n - (i + 1)))
+-- what is made of numbers one after another
+pub lines_next : {X : Type 0} (f : ℕ → List X) (i n : ℕ) → i < n → flat_map f (range_with_len i (n - i)) ≡ f i ++ flat_map f (range_with_len (i + 1) (n - (i + 1)))
 lines_next f i n lt = ap (flat_map f) (range_next i n lt)
 
-pub lines_done : (f : ℕ → List ℕ) (i n : ℕ) → n ≤ i → flat_map f (range_with_len i (n - i)) ≡ []
+pub lines_done : {X : Type 0} (f : ℕ → List X) (i n : ℕ) → n ≤ i → flat_map f (range_with_len i (n - i)) ≡ []
 lines_done f i n h = ap (flat_map f) (range_done i n h)
 
--- the lines of a number more are added
-pub told_next : (f : ℕ → List ℕ) (before after whole : List ℕ) (i n : ℕ) → i < n → after ≡ before ++ f i → before ++ flat_map f (range_with_len i (n - i)) ≡ whole
+-- what is made of a number more is added
+pub told_next : {X : Type 0} (f : ℕ → List X) (before after whole : List X) (i n : ℕ) → i < n → after ≡ before ++ f i → before ++ flat_map f (range_with_len i (n - i)) ≡ whole
     → after ++ flat_map f (range_with_len (i + 1) (n - (i + 1))) ≡ whole
-told_next f before after whole i n lt made e =
+told_next {X = X} f before after whole i n lt made e =
     let later = flat_map f (range_with_len (i + 1) (n - (i + 1))) in
-    ap (λ (l : List ℕ). l ++ later) made ∙ (append_assoc before (f i) later ∙ (ap (λ (l : List ℕ). before ++ l) (sym (lines_next f i n lt)) ∙ e))
+    ap (λ (l : List X). l ++ later) made ∙ (append_assoc before (f i) later ∙ (ap (λ (l : List X). before ++ l) (sym (lines_next f i n lt)) ∙ e))

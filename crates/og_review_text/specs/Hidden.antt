@@ -1,6 +1,7 @@
 -- Characters that may hide text from a reader.
-use Rattle.std.specs.Prelude.{ℕ, ◌+◌, ◌/◌, ◌%◌, List, [], ◌∷◌, Bool, not, ◌==◌, ◌&&◌, ◌||◌, nat_lt, nat_le, if◌then◌else◌, Option, Some, None, get_or, codes}
+use Rattle.std.specs.Prelude.{ℕ, ◌+◌, ◌/◌, ◌%◌, List, [], ◌∷◌, ◌++◌, flat_map, Bool, true, false, not, ◌==◌, ◌&&◌, ◌||◌, nat_lt, nat_le, if◌then◌else◌, Option, Some, None, get_or, codes}
 use Rattle.og_report_text.specs.Places.{◌&◌, position_of, position_text}
+use Rattle.og_review_text.specs.declared.hidden.Hidden.{Hidden}
 use Rattle.og_review_text.specs.declared.hidden.Inside.{Inside}
 use Rattle.og_review_text.specs.declared.hidden.Inside.TheVariants as inside
 
@@ -47,6 +48,24 @@ inside_after (inside.Comment start) at b None = if b == 10 then inside.Code else
 inside_after (inside.Comment start) at b (Some c) = inside.Told
 inside_after inside.Told at b hidden = if b == 10 then inside.Code else inside.Told
 
+-- ---- the characters that are told
+
+-- at a place: in a comment its first one alone, with the place of the comment
+abbrev pub told : Inside → ℕ → Option ℕ → List Hidden
+told reader at None = []
+told inside.Code at (Some c) = record { in_comment = false; at = at; number = c } ∷ []
+told (inside.Comment start) at (Some c) = record { in_comment = true; at = start; number = c } ∷ []
+told inside.Told at (Some c) = []
+
+-- in the bytes from a place on
+abbrev pub told_from : Inside → ℕ → List ℕ → List Hidden
+told_from reader at [] = []
+told_from reader at (b ∷ rest) =
+    told reader at (hidden_in (b ∷ rest)) ++ told_from (inside_after reader at b (hidden_in (b ∷ rest))) (at + 1) rest
+
+abbrev pub hidden_characters : List ℕ → List Hidden
+hidden_characters source = told_from inside.Code 0 source
+
 -- ---- the lines
 
 abbrev pub digit : ℕ → ℕ
@@ -56,23 +75,18 @@ digit d = if nat_lt d 10 then 48 + d else 55 + d
 abbrev pub character_text : ℕ → List ℕ
 character_text c = codes "U+" & (digit (c / 4096 % 16) ∷ digit (c / 256 % 16) ∷ digit (c / 16 % 16) ∷ digit (c % 16) ∷ [])
 
-module _ (source : List ℕ) where
-  abbrev pub hidden_line : List ℕ → ℕ → ℕ → List ℕ
-  hidden_line word at c =
-      word & codes " at " & position_text (position_of source at) & codes " holds " & character_text c & codes ", which may hide text\n"
+abbrev pub word_of : Bool → List ℕ
+word_of in_comment = if in_comment then codes "comment" else codes "text"
 
-  -- of a character at a place: in a comment its first one alone, with the place of the comment
-  abbrev pub told_line : Inside → ℕ → Option ℕ → List ℕ
-  told_line reader at None = []
-  told_line inside.Code at (Some c) = hidden_line (codes "text") at c
-  told_line (inside.Comment start) at (Some c) = hidden_line (codes "comment") start c
-  told_line inside.Told at (Some c) = []
+abbrev pub finding_text : ℕ → List ℕ
+finding_text c = codes " holds " & character_text c & codes ", which may hide text"
 
-  -- of the bytes from a place on
-  abbrev pub lines_from : Inside → ℕ → List ℕ → List ℕ
-  lines_from reader at [] = []
-  lines_from reader at (b ∷ rest) =
-      told_line reader at (hidden_in (b ∷ rest)) & lines_from (inside_after reader at b (hidden_in (b ∷ rest))) (at + 1) rest
+-- without its place
+abbrev pub message : Hidden → List ℕ
+message h = word_of h.in_comment & finding_text h.number
 
-  abbrev pub hidden_lines : List ℕ
-  hidden_lines = lines_from inside.Code 0 source
+abbrev pub hidden_line : List ℕ → Hidden → List ℕ
+hidden_line source h = word_of h.in_comment & codes " at " & position_text (position_of source h.at) & finding_text h.number & codes "\n"
+
+abbrev pub hidden_lines : List ℕ → List ℕ
+hidden_lines source = flat_map (hidden_line source) (hidden_characters source)

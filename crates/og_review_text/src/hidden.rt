@@ -1,10 +1,10 @@
 //! Characters that may hide text from a reader.
 
-ghost use Rattle.std.specs.Prelude.{◌≡◌, ◌++◌, ◌<◌, ◌≤◌, ◌^◌, length, OnOk};
+ghost use Rattle.std.specs.Prelude.{◌≡◌, ◌++◌, ◌<◌, ◌≤◌, ◌^◌, length, IfOk, OnOk};
 ghost use Rattle.og_review_text.specs.Hidden as plain;
 
 use og_report_text::{Places, put_position};
-use std::alloc::AllocError;
+use std::alloc::{AllocError, Global};
 
 /// Where a reader of a text is.
 #[derive(Clone, Copy, PartialEq, Eq)]
@@ -117,43 +117,103 @@ fn put_character(text: &mut Vec<u8>, number: u32) -> Result<(), AllocError>
     ])
 }
 
-// The line of a character.
-fn put_hidden(
-    text: &mut Vec<u8>,
-    places: &Places,
-    word: &str,
-    at: u32,
-    number: u32,
-) -> Result<(), AllocError>
-    ensures { OnOk result (text.new.items ≡ text.old.items
-        ++ plain.hidden_line places.now word.now at number) }
-{
-    text.extend_from_slice(word.as_bytes())?;
-    text.extend_from_slice(b" at ")?;
-    put_position(text, places.position(at))?;
-    text.extend_from_slice(b" holds ")?;
-    put_character(text, number)?;
-    text.extend_from_slice(b", which may hide text\n")
+/// A character that may hide text, and is told: of a comment the first one alone.
+#[derive(Clone, Copy)]
+pub struct Hidden {
+    /// Whether it stands in a comment.
+    pub in_comment: bool,
+    /// The byte offset of the comment; of a character outside comments that of the character.
+    pub at: u32,
+    /// Its number in Unicode.
+    pub number: u32,
 }
 
-// The line of a character at a place, where it is told.
-fn put_told(
-    text: &mut Vec<u8>,
-    places: &Places,
+impl Hidden {
+    // What it stands in.
+    fn word(self) -> &'static str
+        ensures { result.now ≡ plain.word_of self.in_comment }
+    {
+        if self.in_comment { "comment" } else { "text" }
+    }
+
+    // What is so of it.
+    fn put_finding(self, text: &mut Vec<u8>) -> Result<(), AllocError>
+        ensures { OnOk result (text.new.items ≡ text.old.items ++ plain.finding_text self.number) }
+    {
+        text.extend_from_slice(b" holds ")?;
+        put_character(text, self.number)?;
+        text.extend_from_slice(b", which may hide text")
+    }
+
+    /// Adds what is said of it, without its place.
+    ///
+    /// # Errors
+    ///
+    /// An allocation was refused; the text has what it had, and perhaps a part of this.
+    pub fn put_message(self, text: &mut Vec<u8>) -> Result<(), AllocError>
+        ensures { OnOk result (text.new.items ≡ text.old.items ++ plain.message self) }
+    {
+        text.extend_from_slice(self.word().as_bytes())?;
+        self.put_finding(text)
+    }
+
+    // Its line.
+    fn put_line(self, text: &mut Vec<u8>, places: &Places) -> Result<(), AllocError>
+        ensures { OnOk result (text.new.items ≡ text.old.items
+            ++ plain.hidden_line places.now self) }
+    {
+        text.extend_from_slice(self.word().as_bytes())?;
+        text.extend_from_slice(b" at ")?;
+        put_position(text, places.position(self.at))?;
+        self.put_finding(text)?;
+        text.extend_from_slice(b"\n")
+    }
+}
+
+// Adds the character at a place, where it is told.
+fn add_told(
+    all: &mut Vec<Hidden>,
     inside: Inside,
     at: u32,
     hidden: Option<u32>,
 ) -> Result<(), AllocError>
-    ensures { OnOk result (text.new.items ≡ text.old.items
-        ++ plain.told_line places.now inside at hidden) }
+    ensures { OnOk result (all.new.items ≡ all.old.items ++ plain.told inside at hidden) }
 {
     match (inside, hidden) {
-        (Inside::Code, Some(number)) => put_hidden(text, places, "text", at, number),
-        (Inside::Comment(start), Some(number)) => {
-            put_hidden(text, places, "comment", start, number)
-        }
-        _ => Ok(()),
+        (Inside::Code, Some(number)) => all.push(Hidden {
+            in_comment: false,
+            at,
+            number,
+        })?,
+        (Inside::Comment(start), Some(number)) => all.push(Hidden {
+            in_comment: true,
+            at: start,
+            number,
+        })?,
+        _ => {}
     }
+    Ok(())
+}
+
+/// The characters of the source that may hide text: in each comment the first one, and each one
+/// outside comments. The source has at most 1,048,576 bytes.
+///
+/// # Errors
+///
+/// An allocation was refused.
+#[tactic(auto, using(crate::proofs::Hiding::hidden_more, crate::proofs::Hiding::hidden_done))]
+pub fn hidden_characters(alloc: Global, source: &[u8]) -> Result<Vec<Hidden>, AllocError>
+    requires { length source.now ≤ 2 ^ 20 }
+    ensures { IfOk result (λ v. v.items ≡ plain.hidden_characters source.now) }
+{
+    let mut all = Vec::new(alloc);
+    let mut inside = Inside::Code;
+    for at in 0..source.len() {
+        let hidden = hidden_in(&source[at..]);
+        add_told(&mut all, inside, at as u32, hidden)?;
+        inside = inside.after(at as u32, source[at], hidden);
+    }
+    Ok(all)
 }
 
 /// Adds a line to the text for each comment of the source that has a character which may hide text,
@@ -163,7 +223,6 @@ fn put_told(
 /// # Errors
 ///
 /// An allocation was refused; the text has what it had, and perhaps some of these lines.
-#[tactic(auto, using(crate::proofs::Hiding::hidden_more, crate::proofs::Hiding::hidden_done))]
 pub fn put_hidden_lines(
     text: &mut Vec<u8>,
     places: &Places,
@@ -173,11 +232,9 @@ pub fn put_hidden_lines(
     requires places { places.now ≡ source.now }
     ensures { OnOk result (text.new.items ≡ text.old.items ++ plain.hidden_lines source.now) }
 {
-    let mut inside = Inside::Code;
-    for at in 0..source.len() {
-        let hidden = hidden_in(&source[at..]);
-        put_told(text, places, inside, at as u32, hidden)?;
-        inside = inside.after(at as u32, source[at], hidden);
+    let all = hidden_characters(*text.allocator(), source)?;
+    for hidden in &all {
+        hidden.put_line(text, places)?;
     }
     Ok(())
 }

@@ -4,7 +4,7 @@
 //!
 //! specs/Points.antt lists the places, specs/Steps.antt the steps and how each uses variables of
 //! other processes, specs/Idioms.antt the steps that machines have, specs/Accesses.antt the lines of
-//! steps, specs/Unused.antt and specs/Hidden.antt the other lines, and specs/Law.antt what all of
+//! steps, specs/Unused.antt and specs/Hidden.antt what else is told, and specs/Law.antt what all of
 //! them say.
 #![tactic(auto)]
 
@@ -17,7 +17,7 @@ mod unused;
 mod walk;
 
 pub use accesses::put_steps;
-pub use hidden::put_hidden_lines;
+pub use hidden::{Hidden, hidden_characters, put_hidden_lines};
 pub use laws::access_laws;
-pub use unused::put_unused;
+pub use unused::{Disuse, Unused, put_unused, unused_variables};
 pub use walk::{Point, Step, Walk, walk_of};

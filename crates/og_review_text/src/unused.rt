@@ -1,6 +1,6 @@
 //! Variables that nothing assigns, and those that nothing reads.
 
-ghost use Rattle.std.specs.Prelude.{◌≡◌, ◌++◌, OnOk};
+ghost use Rattle.std.specs.Prelude.{◌≡◌, ◌++◌, IfOk, OnOk};
 ghost use Rattle.og_review_text.specs.Seen.{points_of, steps_of, HasAll};
 ghost use Rattle.og_review_text.specs.Unused as plain;
 
@@ -9,7 +9,7 @@ use crate::walk::{Point, Step, Walk};
 use og_report_text::put_name;
 use og_text::Name;
 use og_typed::Outline;
-use std::alloc::AllocError;
+use std::alloc::{AllocError, Global};
 
 // Whether some step assigns the variable.
 fn is_assigned(steps: &[Step], var: u32) -> bool
@@ -75,75 +75,136 @@ fn is_unread(outline: &Outline, walk: &Walk, var: u32) -> bool
         && !outline.post().assertion.mentions(var)
 }
 
-// A line with the name of the variable between these words, where it is told.
-fn put_named(
-    text: &mut Vec<u8>,
-    names: &[Name],
-    is_told: bool,
-    before: &[u8],
-    var: u32,
-    after: &[u8],
-) -> Result<(), AllocError>
-    ensures { OnOk result (text.new.items ≡ text.old.items
-        ++ plain.named_line names.now is_told before.now var after.now) }
-{
-    if !is_told {
-        return Ok(());
-    }
-    text.extend_from_slice(before)?;
-    put_name(text, names, var)?;
-    text.extend_from_slice(after)
+/// How a variable is unused.
+#[derive(Clone, Copy)]
+pub enum Disuse {
+    /// The postcondition speaks of it, nothing assigns it, and it is no input.
+    Unreached,
+    /// It is an auxiliary, and nothing assigns it.
+    Unassigned,
+    /// Nothing reads it, and no assertion but the precondition speaks of it.
+    Unread,
 }
 
-// The lines of a variable.
-fn put_variable(
-    text: &mut Vec<u8>,
+impl Disuse {
+    // The words before the name.
+    fn before(self) -> &'static str
+        ensures { result.now ≡ plain.text_before self }
+    {
+        match self {
+            Disuse::Unassigned => "auxiliary ",
+            Disuse::Unreached | Disuse::Unread => "",
+        }
+    }
+
+    // The words behind it.
+    fn behind(self) -> &'static str
+        ensures { result.now ≡ plain.text_behind self }
+    {
+        match self {
+            Disuse::Unreached => " of the postcondition is never assigned",
+            Disuse::Unassigned => " is never assigned",
+            Disuse::Unread => " is never read",
+        }
+    }
+}
+
+/// A variable that is unused.
+#[derive(Clone, Copy)]
+pub struct Unused {
+    /// Its number.
+    pub var: u32,
+    /// How.
+    pub how: Disuse,
+}
+
+impl Unused {
+    /// Adds what is said of it.
+    ///
+    /// # Errors
+    ///
+    /// An allocation was refused; the text has what it had, and perhaps a part of this.
+    pub fn put_message(self, text: &mut Vec<u8>, names: &[Name]) -> Result<(), AllocError>
+        ensures { OnOk result (text.new.items ≡ text.old.items ++ plain.message names.now self) }
+    {
+        text.extend_from_slice(self.how.before().as_bytes())?;
+        put_name(text, names, self.var)?;
+        text.extend_from_slice(self.how.behind().as_bytes())
+    }
+
+    // Its line.
+    fn put_line(self, text: &mut Vec<u8>, names: &[Name]) -> Result<(), AllocError>
+        ensures { OnOk result (text.new.items ≡ text.old.items ++ plain.unused_line names.now self) }
+    {
+        self.put_message(text, names)?;
+        text.extend_from_slice(b"\n")
+    }
+}
+
+// Adds the variable, where that is so.
+fn add_where(all: &mut Vec<Unused>, is_so: bool, var: u32, how: Disuse) -> Result<(), AllocError>
+    ensures { OnOk result (all.new.items ≡ all.old.items ++ plain.unused_where is_so var how) }
+{
+    if is_so {
+        all.push(Unused { var, how })?;
+    }
+    Ok(())
+}
+
+// Adds the variable in each way in which it is unused.
+fn add_variable(
+    all: &mut Vec<Unused>,
     outline: &Outline,
     walk: &Walk,
     var: u32,
 ) -> Result<(), AllocError>
     requires { HasAll outline.now walk.now }
-    ensures { OnOk result (text.new.items ≡ text.old.items ++ plain.variable_lines outline.now var) }
+    ensures { OnOk result (all.new.items ≡ all.old.items ++ plain.unused_of outline.now var) }
 {
-    let names = outline.names();
     let is_unreached = is_unreached(outline, walk, var);
     let is_unset = is_unset_auxiliary(outline, walk, var);
     let is_unread = is_unread(outline, walk, var);
-    put_named(
-        text,
-        names,
-        is_unreached,
-        b"",
-        var,
-        b" of the postcondition is never assigned\n",
-    )?;
-    put_named(
-        text,
-        names,
-        is_unset,
-        b"auxiliary ",
-        var,
-        b" is never assigned\n",
-    )?;
-    put_named(text, names, is_unread, b"", var, b" is never read\n")
+    add_where(all, is_unreached, var, Disuse::Unreached)?;
+    add_where(all, is_unset, var, Disuse::Unassigned)?;
+    add_where(all, is_unread, var, Disuse::Unread)
 }
 
-/// Adds a line to the text for each variable of the postcondition that nothing assigns and that is no
-/// input, for each auxiliary that nothing assigns, and for each variable that nothing reads. The walk
-/// is that of the outline.
+/// The variables of the postcondition that nothing assigns and that are no input, the auxiliaries
+/// that nothing assigns, and the variables that nothing reads. The walk is that of the outline.
+///
+/// # Errors
+///
+/// An allocation was refused.
+#[tactic(auto, using(crate::proofs::Ranges::lines_next, crate::proofs::Ranges::lines_done))]
+pub fn unused_variables(
+    alloc: Global,
+    outline: &Outline,
+    walk: &Walk,
+) -> Result<Vec<Unused>, AllocError>
+    requires { HasAll outline.now walk.now }
+    ensures { IfOk result (λ v. v.items ≡ plain.unused_variables outline.now) }
+{
+    outline.follows_rule();
+    let count = outline.names().len() as u32;
+    let mut all = Vec::new(alloc);
+    for var in 0..count {
+        add_variable(&mut all, outline, walk, var)?;
+    }
+    Ok(all)
+}
+
+/// Adds a line to the text for each of these variables. The walk is that of the outline.
 ///
 /// # Errors
 ///
 /// An allocation was refused; the text has what it had, and perhaps some of these lines.
-#[tactic(auto, using(crate::proofs::Ranges::lines_next, crate::proofs::Ranges::lines_done))]
 pub fn put_unused(text: &mut Vec<u8>, outline: &Outline, walk: &Walk) -> Result<(), AllocError>
     requires { HasAll outline.now walk.now }
     ensures { OnOk result (text.new.items ≡ text.old.items ++ plain.unused_lines outline.now) }
 {
-    outline.follows_rule();
-    let count = outline.names().len() as u32;
-    for var in 0..count {
-        put_variable(text, outline, walk, var)?;
+    let all = unused_variables(*text.allocator(), outline, walk)?;
+    for unused in &all {
+        unused.put_line(text, outline.names())?;
     }
     Ok(())
 }

@@ -13,6 +13,10 @@ use std::alloc::{AllocError, Global};
 const START_WORDS: &str =
     "A constant's value, where SOURCE is a template; or a variable's value at the start, or its values";
 
+// The same, where several are taken without such a word.
+const RUN_WORDS: &str =
+    "A constant's value, where SOURCE is a template; or a variable's value at the start, or its values, else some near 0";
+
 // A command without arguments.
 fn command<'a>(alloc: Global, name: &'a str, about: &'a str) -> Command<'a>
     ensures { IsCommand (line.command name.entry.now []) result }
@@ -226,7 +230,7 @@ fn start_words_arg<'a>(alloc: Global) -> Arg<'a>
 {
     ranges_arg(
         alloc,
-        "A constant's value, where SOURCE is a template; with --runs a variable's value at the start, or its values",
+        "A constant's value, where SOURCE is a template; with --runs a variable's value at the start, or its values, else some near 0",
     )
 }
 
@@ -251,7 +255,7 @@ fn prove_command<'a>(alloc: Global) -> Result<Command<'a>, AllocError>
     let prove = with_arg(prove, no_runs_arg(alloc));
     let prove = with_arg(prove, suggest_arg(alloc));
     let prove = with_arg(prove, Ok(runs_limit_arg(alloc, help)));
-    with_arg(prove, Ok(ranges_arg(alloc, START_WORDS)))
+    with_arg(prove, Ok(ranges_arg(alloc, RUN_WORDS)))
 }
 
 // How many steps a search for an assertion may make.
@@ -431,7 +435,7 @@ fn explore_command<'a>(alloc: Global) -> Result<Command<'a>, AllocError>
     let explore = with_arg(explore, Ok(erased));
     let explore = with_arg(explore, Ok(json_arg(alloc)));
     let explore = with_arg(explore, dot_arg(alloc));
-    with_arg(explore, Ok(ranges_arg(alloc, START_WORDS)))
+    with_arg(explore, Ok(ranges_arg(alloc, RUN_WORDS)))
 }
 
 fn promela_command<'a>(alloc: Global) -> Result<Command<'a>, AllocError>
@@ -441,7 +445,7 @@ fn promela_command<'a>(alloc: Global) -> Result<Command<'a>, AllocError>
     let erased = flag_arg(alloc, "erased", "Print the erased program");
     let promela = with_arg(Ok(command(alloc, "promela", about)), Ok(source_arg(alloc)));
     let promela = with_arg(promela, Ok(erased));
-    with_arg(promela, Ok(ranges_arg(alloc, START_WORDS)))
+    with_arg(promela, Ok(ranges_arg(alloc, RUN_WORDS)))
 }
 
 fn expand_command<'a>(alloc: Global) -> Result<Command<'a>, AllocError>

@@ -2,7 +2,7 @@ use Rattle.std.proofs.Common.{drop}
 use Rattle.std.specs.List.{AllByRecursion}
 use Rattle.og_report_findings.specs.Causes.{groups_of}
 use Rattle.og_lsp_diagnostics.specs.Extents.{AreSaidIn}
-use Rattle.og_lsp_diagnostics.specs.Said.{text_of, rows_of, HasSome, AreOfGroups, AreLeft}
+use Rattle.og_lsp_diagnostics.specs.Said.{text_of, rows_of, HasSome, AreLeft}
 use Rattle.og_lsp_diagnostics.proofs.told.of_groups.Given as goal
 
 abbrev pub invariant-loop-group : goal.invariant-loop-group

@@ -1,16 +1,11 @@
-use Rattle.std.proofs.Common.{List, [], ◌∷◌, ◌++◌, sym, subst}
+use Rattle.std.proofs.Common.{[], ◌∷◌, ◌++◌, sym, subst}
 use Rattle.std.specs.List.{AllZip}
 use Rattle.std.proofs.lemmas.List.Elements.{All-push}
 use Rattle.og_lsp_diagnostics.specs.Extents.{IsSaidIn, AreSaidIn}
 use Rattle.og_lsp_diagnostics.specs.Remarked.{IsOfRemark}
 use Rattle.og_lsp_diagnostics.specs.Said.{text_of, rows_of}
+use Rattle.og_lsp_diagnostics.proofs.Zips.{zip_push}
 use Rattle.og_lsp_diagnostics.proofs.teller.Teller.of_remarks.Goals as goal
-
-zip_push : {A B : Type 0} (R : A → B → Type 0) (xs : List A) (ys : List B) (x : A) (y : B) → AllZip R xs ys → R x y → AllZip R (xs ++ x ∷ []) (ys ++ y ∷ [])
-zip_push R [] [] x y all r = (r, tt)
-zip_push R [] (b ∷ ys) x y all r = absurd all
-zip_push R (a ∷ xs) [] x y all r = absurd all
-zip_push R (a ∷ xs) (b ∷ ys) x y all r = (all.0, zip_push R xs ys x y all.1 r)
 
 pub loop-remark-preserved : goal.loop-remark-preserved
 loop-remark-preserved c =

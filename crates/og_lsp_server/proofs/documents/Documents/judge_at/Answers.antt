@@ -1,5 +1,9 @@
-use Rattle.og_lsp_server.proofs.Kept.{texts_set}
+use Rattle.og_lsp_server.proofs.Kept.{texts_set, judged_set}
 use Rattle.og_lsp_server.proofs.documents.Documents.judge_at.Goals as goal
 
-pub returns : goal.returns
-returns g c = texts_set c.args.self.now.all.items c.args.place c.index_mut.result.now c.judge.new.self c.index_mut.ensures.value c.judge.ensures
+pub returns-clause-texts : goal.returns-clause-texts
+returns-clause-texts g c = texts_set c.args.self.now.all.items c.args.place c.index_mut.result.now c.judge.new.self c.index_mut.ensures.value c.judge.ensures.text
+
+pub returns-clause-judged : goal.returns-clause-judged
+returns-clause-judged g c =
+    judged_set c.args.self.now.all.items c.args.place c.index_mut.result.now c.judge.new.self c.index_mut.ensures.value c.judge.ensures.judged

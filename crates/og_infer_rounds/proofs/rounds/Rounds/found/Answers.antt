@@ -1,0 +1,7 @@
+use denote.Param.Send.{sendable}
+use Rattle.std.proofs.Crossing
+use Rattle.og_infer_rounds.proofs.Shared.{scene_sync, universe_sync, lists_sync, useful_sync}
+use Rattle.og_infer_rounds.proofs.rounds.Rounds.found.Goals as goal
+
+pub answers_ahead-requires-sync-N : goal.answers_ahead-requires-sync-N
+answers_ahead-requires-sync-N g c κs within = search (scene_sync, universe_sync, lists_sync, useful_sync, Crossing.crosses, sendable) depth 60 fits 20000
